@@ -1,0 +1,6 @@
+pub mod Buffers
+pub mod Fill
+pub mod Sameness
+pub mod Table
+pub mod Below
+pub mod Upto
