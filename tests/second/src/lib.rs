@@ -1,0 +1,11 @@
+//! The independent second program of Lubdhvani, as a library: every public
+//! call of the product, written from the papers alone and the slow way they
+//! read. Plain slices in, plain structs out, lent buffers as document 01 says.
+
+pub mod bits;
+pub mod leaders;
+pub mod numbers;
+pub mod permutation;
+pub mod readings;
+pub mod shuffle;
+pub mod substitution;
