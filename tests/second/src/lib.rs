@@ -3,8 +3,10 @@
 //! read. Plain slices in, plain structs out, lent buffers as document 01 says.
 
 pub mod bits;
+pub mod digest;
 pub mod leaders;
 pub mod numbers;
+pub mod padding;
 pub mod permutation;
 pub mod readings;
 pub mod shuffle;
