@@ -3,6 +3,7 @@
 //! read. Plain slices in, plain structs out, lent buffers as document 01 says.
 
 pub mod bits;
+pub mod cipher;
 pub mod digest;
 pub mod leaders;
 pub mod numbers;
