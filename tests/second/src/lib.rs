@@ -10,5 +10,7 @@ pub mod numbers;
 pub mod padding;
 pub mod permutation;
 pub mod readings;
+pub mod rows;
 pub mod shuffle;
 pub mod substitution;
+pub mod text;
