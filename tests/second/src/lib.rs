@@ -5,12 +5,15 @@
 pub mod bits;
 pub mod cipher;
 pub mod digest;
+pub mod frame;
 pub mod leaders;
+pub mod line;
 pub mod numbers;
 pub mod padding;
 pub mod permutation;
 pub mod readings;
 pub mod rows;
 pub mod shuffle;
+pub mod stuffing;
 pub mod substitution;
 pub mod text;
