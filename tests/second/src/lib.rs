@@ -4,10 +4,13 @@
 
 pub mod bits;
 pub mod cipher;
+pub mod compose;
 pub mod digest;
 pub mod frame;
+pub mod kat;
 pub mod leaders;
 pub mod line;
+pub mod lines;
 pub mod numbers;
 pub mod padding;
 pub mod permutation;
