@@ -1,9 +1,17 @@
 //! The expected outputs of the product's test programs, one file of rows each.
 //! Where a test program reads cases, its standard input is made here too.
 
+mod chance;
+mod damage;
 pub mod digest;
+pub mod frame;
+pub mod limit;
 pub mod permute;
 pub mod seal;
+mod sound;
+pub mod stream;
+pub mod stretch;
+mod told;
 
 use std::fs;
 use std::io;
@@ -27,10 +35,19 @@ impl Rows {
 }
 
 pub fn all() -> Vec<Rows> {
+    let (cases, stream_rows) = stream::stdin_and_rows();
     vec![
         Rows::printed("digest_rows", digest::rows()),
         Rows::printed("permute_rows", permute::rows()),
         Rows::printed("seal_rows", seal::rows()),
+        Rows::printed("frame_rows", frame::rows()),
+        Rows {
+            name: "stream_rows",
+            stdin: Some(cases),
+            stdout: stream_rows,
+        },
+        Rows::printed("limit_rows", limit::rows()),
+        Rows::printed("stretch_rows", stretch::rows()),
     ]
 }
 
