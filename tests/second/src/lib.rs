@@ -2,9 +2,11 @@
 //! call of the product, written from the papers alone and the slow way they
 //! read. Plain slices in, plain structs out, lent buffers as document 01 says.
 
+pub mod answers;
 pub mod bits;
 pub mod cipher;
 pub mod compose;
+pub mod diffusion;
 pub mod digest;
 pub mod frame;
 pub mod kat;
