@@ -4,7 +4,7 @@
 use super::chance::Chance;
 use super::stream::Case;
 use super::told;
-use crate::frame::{field, framed, Fields};
+use crate::frame::{field, framed, Fields, TAG_DIGEST, TAG_LINE, TAG_NONCE, TAG_SEAL};
 use crate::numbers::{DIGEST, KEY, LINE_MOST, NONCE};
 use crate::stuffing::{stuff, ESCAPE, MARK};
 
@@ -206,10 +206,12 @@ fn not_listed(chance: &mut Chance) -> Vec<u8> {
     framed(&fields_not_listed(chance).body())
 }
 
-/// Places of the four tags in a body around a ciphertext of this length.
+/// Places of the four tags in the body of these fields.
 fn tag_places(fields: &Fields) -> [usize; 4] {
-    let line = 15 + 35;
-    [0, 15, line, line + 3 + fields.ciphertext.len()]
+    let after = |place: usize, value: &[u8]| place + field(0, value).len();
+    let digest = after(0, &fields.nonce);
+    let line = after(digest, &fields.digest);
+    [0, digest, line, after(line, &fields.ciphertext)]
 }
 
 fn tags_exchanged(chance: &mut Chance) -> Vec<u8> {
@@ -223,10 +225,10 @@ fn tags_exchanged(chance: &mut Chance) -> Vec<u8> {
 
 fn whole_fields(fields: &Fields) -> [Vec<u8>; 4] {
     [
-        field(1, &fields.nonce),
-        field(2, &fields.digest),
-        field(3, &fields.ciphertext),
-        field(4, &fields.seal),
+        field(TAG_NONCE, &fields.nonce),
+        field(TAG_DIGEST, &fields.digest),
+        field(TAG_LINE, &fields.ciphertext),
+        field(TAG_SEAL, &fields.seal),
     ]
 }
 

@@ -64,3 +64,22 @@ fn read_to_end(rows: &mut String, index: usize, case: &Case) {
         start = reading.closing;
     }
 }
+
+#[cfg(test)]
+mod tests {
+    use super::*;
+
+    #[test]
+    fn the_case_file_is_small_and_every_answer_of_a_reading_occurs_often() {
+        let (stdin, rows) = stdin_and_rows();
+        assert!(stdin.len() < 250_000);
+        let numbers: Vec<&str> = rows
+            .lines()
+            .map(|row| row.split(' ').nth(4).unwrap())
+            .collect();
+        for number in ["0", "5", "6", "7", "8", "9", "10", "4", "end"] {
+            let times = numbers.iter().filter(|&&one| one == number).count();
+            assert!(times >= 5, "{} occurs {} times", number, times);
+        }
+    }
+}
