@@ -1,0 +1,216 @@
+//! A frame: four fields make a body, the stuffed body between two marks makes
+//! the frame. Here are the fields taken apart, and the writer.
+
+use crate::cipher::{encrypt, INSTANCE_1};
+use crate::line::all_listed;
+use crate::numbers::{
+    DIGEST, DONE, FRAME_ROOM, KEY, LINE_LEAST, LINE_MOST, NONCE, NOT_ITS_SIZE, NOT_LISTED, NO_ROOM,
+    SEAL, TOO_LONG,
+};
+use crate::readings::PRODUCT;
+use crate::stuffing::{stuff, MARK};
+
+pub const TAG_NONCE: u8 = 0x01;
+pub const TAG_DIGEST: u8 = 0x02;
+pub const TAG_LINE: u8 = 0x03;
+pub const TAG_SEAL: u8 = 0x04;
+
+/// The values of a body's four fields.
+#[derive(Clone, Debug, PartialEq, Eq)]
+pub struct Fields {
+    pub nonce: Vec<u8>,
+    pub digest: Vec<u8>,
+    pub ciphertext: Vec<u8>,
+    pub seal: Vec<u8>,
+}
+
+/// A field: tag, length (high byte first), value.
+pub fn field(tag: u8, value: &[u8]) -> Vec<u8> {
+    let mut field = vec![tag, (value.len() / 256) as u8, (value.len() % 256) as u8];
+    field.extend(value);
+    field
+}
+
+/// The associated data is field 02 whole.
+pub fn associated(digest: &[u8]) -> Vec<u8> {
+    field(TAG_DIGEST, digest)
+}
+
+impl Fields {
+    /// Seals the line; also gives the calls counted. Any sizes go, so that
+    /// frames no writer makes can be made for tests.
+    pub fn sealing(key: &[u8], nonce: &[u8], digest: &[u8], line: &[u8]) -> (Fields, usize) {
+        let (ciphertext, seal, count) =
+            encrypt(&PRODUCT, &INSTANCE_1, key, nonce, &associated(digest), line);
+        let fields = Fields {
+            nonce: nonce.to_vec(),
+            digest: digest.to_vec(),
+            ciphertext,
+            seal,
+        };
+        (fields, count)
+    }
+
+    pub fn body(&self) -> Vec<u8> {
+        let mut body = field(TAG_NONCE, &self.nonce);
+        body.extend(field(TAG_DIGEST, &self.digest));
+        body.extend(field(TAG_LINE, &self.ciphertext));
+        body.extend(field(TAG_SEAL, &self.seal));
+        body
+    }
+
+    /// The four fields in their order and once each, with nothing after them;
+    /// else none.
+    pub fn taken_apart(body: &[u8]) -> Option<Fields> {
+        let mut rest = body;
+        let fields = Fields {
+            nonce: take(&mut rest, TAG_NONCE)?,
+            digest: take(&mut rest, TAG_DIGEST)?,
+            ciphertext: take(&mut rest, TAG_LINE)?,
+            seal: take(&mut rest, TAG_SEAL)?,
+        };
+        if rest.is_empty() {
+            Some(fields)
+        } else {
+            None
+        }
+    }
+}
+
+/// Takes one field with the expected tag off the front, if its length is one
+/// that the tag allows and its value is all there.
+fn take(rest: &mut &[u8], expected: u8) -> Option<Vec<u8>> {
+    if rest.len() < 3 || rest[0] != expected {
+        return None;
+    }
+    let length = 256 * rest[1] as usize + rest[2] as usize;
+    let allowed = match expected {
+        TAG_NONCE => length == NONCE,
+        TAG_DIGEST => length == DIGEST,
+        TAG_LINE => (LINE_LEAST..=LINE_MOST).contains(&length),
+        TAG_SEAL => length == SEAL,
+        _ => false,
+    };
+    if !allowed || rest.len() < 3 + length {
+        return None;
+    }
+    let value = rest[3..3 + length].to_vec();
+    *rest = &rest[3 + length..];
+    Some(value)
+}
+
+/// A mark, the body stuffed, a mark.
+pub fn framed(body: &[u8]) -> Vec<u8> {
+    let mut frame = vec![MARK];
+    frame.extend(stuff(body));
+    frame.push(MARK);
+    frame
+}
+
+/// What the writer answers: number, the frame's length, calls counted.
+#[derive(Clone, Copy, Debug, PartialEq, Eq)]
+pub struct Written {
+    pub number: u8,
+    pub length: usize,
+    pub count: usize,
+}
+
+impl Written {
+    fn refused(number: u8) -> Written {
+        Written {
+            number,
+            length: 0,
+            count: 0,
+        }
+    }
+}
+
+/// The public call. Writes the frame into the first bytes of `out`; on a
+/// refusal nothing.
+pub fn write(key: &[u8], nonce: &[u8], digest: &[u8], line: &[u8], out: &mut [u8]) -> Written {
+    if key.len() != KEY || nonce.len() != NONCE || digest.len() != DIGEST {
+        return Written::refused(NOT_ITS_SIZE);
+    }
+    if line.len() < LINE_LEAST || line.len() > LINE_MOST {
+        return Written::refused(TOO_LONG);
+    }
+    if !all_listed(line) {
+        return Written::refused(NOT_LISTED);
+    }
+    if out.len() < FRAME_ROOM {
+        return Written::refused(NO_ROOM);
+    }
+    let (fields, count) = Fields::sealing(key, nonce, digest, line);
+    let frame = framed(&fields.body());
+    out[..frame.len()].copy_from_slice(&frame);
+    Written {
+        number: DONE,
+        length: frame.len(),
+        count,
+    }
+}
+
+#[cfg(test)]
+mod tests {
+    use super::*;
+    use crate::stuffing::unstuff;
+
+    #[test]
+    fn a_frame_is_marks_around_a_body_of_72_and_the_line() {
+        for length in [1, 2, 64, 65] {
+            let line = vec![b'7'; length];
+            let mut out = [0xee; FRAME_ROOM + 5];
+            let answer = write(&[1; KEY], &[0x7e; NONCE], &[0x7d; DIGEST], &line, &mut out);
+            assert_eq!(answer.number, DONE);
+            assert_eq!(answer.count, length + 39);
+            let frame = &out[..answer.length];
+            assert_eq!((frame[0], frame[answer.length - 1]), (MARK, MARK));
+            let body = unstuff(&frame[1..answer.length - 1]).unwrap();
+            assert_eq!(body.len(), 72 + length);
+            assert_eq!(Fields::taken_apart(&body).unwrap().body(), body);
+            assert!(out[answer.length..].iter().all(|&byte| byte == 0xee));
+        }
+    }
+
+    #[test]
+    fn refusals_write_nothing() {
+        let line_66 = [b'0'; 66];
+        // Lengths of key, nonce and digest, the line, the room, the number.
+        type Case<'a> = (usize, usize, usize, &'a [u8], usize, u8);
+        let cases: [Case; 9] = [
+            (15, 12, 32, &line_66, 0, NOT_ITS_SIZE),
+            (16, 13, 32, b"0", 276, NOT_ITS_SIZE),
+            (16, 12, 31, b"x", 276, NOT_ITS_SIZE),
+            (16, 12, 32, b"", 0, TOO_LONG),
+            (16, 12, 32, &line_66, 276, TOO_LONG),
+            (16, 12, 32, &[b'x'; 66], 0, TOO_LONG),
+            (16, 12, 32, b"E", 0, NOT_LISTED),
+            (16, 12, 32, b"0 a", 276, NOT_LISTED),
+            (16, 12, 32, b"0", 275, NO_ROOM),
+        ];
+        for (k, n, d, line, room, number) in cases {
+            let mut out = vec![0xee; room];
+            let answer = write(&vec![0; k], &vec![0; n], &vec![0; d], line, &mut out);
+            assert_eq!(answer, Written::refused(number));
+            assert_eq!(out, vec![0xee; room]);
+        }
+    }
+
+    #[test]
+    fn fields_out_of_order_cut_short_or_followed_are_none() {
+        let (fields, _) = Fields::sealing(&[1; KEY], &[2; NONCE], &[3; DIGEST], b"12");
+        let body = fields.body();
+        for length in 0..body.len() {
+            assert_eq!(Fields::taken_apart(&body[..length]), None);
+        }
+        let mut longer = body.clone();
+        longer.push(0);
+        assert_eq!(Fields::taken_apart(&longer), None);
+        // Tag and length bytes of the four fields around a line of two bytes.
+        for place in [0, 1, 2, 15, 16, 17, 50, 51, 52, 55, 56, 57] {
+            let mut other = body.clone();
+            other[place] ^= 0x04;
+            assert_eq!(Fields::taken_apart(&other), None);
+        }
+    }
+}

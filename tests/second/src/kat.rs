@@ -1,0 +1,58 @@
+//! The submission's known-answer format: entries counted from 1, upper-case
+//! hex, an empty line after each. Messages, keys and nonces are 00 01 02 ..
+
+use std::fmt::Write;
+
+use crate::cipher::{encrypt, INSTANCE_1};
+use crate::digest::{sizes, sponge};
+use crate::numbers::{KEY, NONCE};
+use crate::readings::PRODUCT;
+use crate::text::upper_hex;
+
+const HASH_MOST: usize = 1024;
+const AEAD_MOST: usize = 32;
+
+fn counting(length: usize) -> Vec<u8> {
+    (0..length).map(|i| (i % 256) as u8).collect()
+}
+
+/// `kat hash I`, or none where the instance is unknown.
+pub fn hash(instance: usize) -> Option<String> {
+    let shape = sizes(instance)?;
+    let mut entries = String::new();
+    for length in 0..=HASH_MOST {
+        let message = counting(length);
+        let (digest, _) = sponge(&PRODUCT, shape, &message);
+        writeln!(entries, "Count = {}", length + 1).unwrap();
+        writeln!(entries, "Msg = {}", upper_hex(&message)).unwrap();
+        writeln!(entries, "MD = {}\n", upper_hex(&digest)).unwrap();
+    }
+    Some(entries)
+}
+
+/// `kat aead I`, or none where the instance is not supplied. CT is the
+/// ciphertext with the seal after it.
+pub fn aead(instance: usize) -> Option<String> {
+    if instance != 1 {
+        return None;
+    }
+    let (key, nonce) = (counting(KEY), counting(NONCE));
+    let mut entries = String::new();
+    let mut count = 0;
+    for p in 0..=AEAD_MOST {
+        for a in 0..=AEAD_MOST {
+            let (message, associated) = (counting(p), counting(a));
+            let (mut ciphertext, seal, _) =
+                encrypt(&PRODUCT, &INSTANCE_1, &key, &nonce, &associated, &message);
+            ciphertext.extend(seal);
+            count += 1;
+            writeln!(entries, "Count = {}", count).unwrap();
+            writeln!(entries, "Key = {}", upper_hex(&key)).unwrap();
+            writeln!(entries, "Nonce = {}", upper_hex(&nonce)).unwrap();
+            writeln!(entries, "PT = {}", upper_hex(&message)).unwrap();
+            writeln!(entries, "AD = {}", upper_hex(&associated)).unwrap();
+            writeln!(entries, "CT = {}\n", upper_hex(&ciphertext)).unwrap();
+        }
+    }
+    Some(entries)
+}

@@ -1,0 +1,60 @@
+//! The leaders: document 000's Table 1.11 as printed. Its first thirty-two are
+//! Table 1.2; the rest serve a 33rd leader and rounds to order.
+
+/// Table 1.11, sixteen to a row.
+#[rustfmt::skip]
+const TABLE_1_11: [u8; 255] = [
+    0, 3, 0, 3, 0, 1, 2, 3, 2, 1, 2, 3, 2, 1, 2, 3,
+    0, 1, 2, 3, 2, 3, 0, 3, 2, 3, 2, 3, 2, 1, 2, 1,
+    0, 3, 2, 1, 0, 3, 2, 1, 2, 1, 2, 1, 0, 1, 2, 3,
+    0, 1, 0, 1, 0, 3, 2, 3, 0, 3, 0, 3, 0, 3, 0, 3,
+    2, 3, 2, 3, 0, 1, 2, 1, 2, 1, 0, 1, 0, 3, 0, 1,
+    2, 3, 2, 3, 2, 3, 2, 3, 0, 1, 0, 1, 2, 1, 2, 3,
+    2, 3, 0, 1, 0, 3, 2, 1, 2, 1, 0, 1, 0, 1, 0, 1,
+    2, 1, 0, 1, 2, 3, 2, 1, 0, 1, 2, 1, 0, 3, 0, 3,
+    2, 3, 0, 1, 0, 1, 0, 1, 2, 3, 0, 1, 2, 1, 0, 3,
+    0, 1, 2, 3, 0, 3, 2, 3, 0, 1, 2, 1, 0, 1, 0, 1,
+    2, 1, 2, 1, 2, 3, 0, 3, 2, 1, 2, 1, 2, 3, 0, 1,
+    2, 1, 2, 3, 0, 1, 0, 1, 2, 3, 2, 3, 2, 1, 2, 3,
+    0, 3, 2, 3, 2, 1, 2, 1, 2, 3, 2, 1, 2, 1, 0, 1,
+    2, 1, 0, 1, 0, 3, 2, 1, 2, 3, 0, 1, 0, 3, 2, 3,
+    2, 1, 0, 3, 2, 3, 0, 1, 2, 3, 0, 1, 0, 3, 0, 3,
+    2, 1, 2, 1, 0, 3, 0, 1, 0, 3, 0, 3, 0, 1, 2,
+];
+
+/// The first `count` leaders; past its 255 entries the table starts again.
+pub fn leaders(count: usize) -> Vec<u8> {
+    (0..count)
+        .map(|i| TABLE_1_11[i % TABLE_1_11.len()])
+        .collect()
+}
+
+#[cfg(test)]
+mod tests {
+    use super::*;
+
+    #[test]
+    fn thirty_two_leaders() {
+        let document_01 = [
+            0, 3, 0, 3, 0, 1, 2, 3, 2, 1, 2, 3, 2, 1, 2, 3, 0, 1, 2, 3, 2, 3, 0, 3, 2, 3, 2, 3, 2,
+            1, 2, 1,
+        ];
+        assert_eq!(leaders(32), document_01);
+        assert_eq!(leaders(33)[32], 0);
+        assert_eq!(leaders(256)[255], leaders(1)[0]);
+    }
+
+    #[test]
+    fn the_printed_table_follows_its_shift_register() {
+        let mut register: u8 = 0xaa;
+        for (i, &leader) in TABLE_1_11.iter().enumerate() {
+            let bit = register & 1;
+            register >>= 1;
+            if bit == 1 {
+                register ^= 0xb8;
+            }
+            assert_eq!(leader, 2 * bit + (i % 2) as u8, "entry {}", i);
+        }
+        assert_eq!(register, 0xaa);
+    }
+}

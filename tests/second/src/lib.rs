@@ -1,0 +1,26 @@
+//! The independent second program of Lubdhvani, as a library: every public
+//! call of the product, written from the papers alone and the slow way they
+//! read. Plain slices in, plain structs out, lent buffers as document 01 says.
+
+pub mod answers;
+pub mod bits;
+pub mod cipher;
+pub mod compose;
+pub mod diffusion;
+pub mod digest;
+pub mod frame;
+pub mod kat;
+pub mod leaders;
+pub mod line;
+pub mod lines;
+pub mod numbers;
+pub mod padding;
+pub mod permutation;
+pub mod reader;
+pub mod readings;
+pub mod rows;
+pub mod shuffle;
+pub mod stream;
+pub mod stuffing;
+pub mod substitution;
+pub mod text;

@@ -1,0 +1,89 @@
+//! The command line of the second program: one word says what is wanted.
+
+use std::env;
+use std::fs;
+use std::io::{self, Read, Write};
+use std::path::Path;
+use std::process::exit;
+
+use second::numbers::STREAM_LIMIT;
+use second::{answers, compose, diffusion, kat, lines, rows};
+
+const USAGE: &str = "\
+second rows OUTDIR                expected outputs of the product's test programs
+second kat hash I                 known-answer entries of hash instance I
+second kat aead I                 known-answer entries of cipher instance I
+second readings                   first known answers under every reading
+second diffusion                  full diffusion and pair-matching period
+second compose KEYFILE FONTFILE   orders on standard input, frames out
+second lines KEYFILE FONTFILE     stream on standard input, listing out";
+
+/// What ends the program: a line for standard error and the exit status.
+struct Stop(String, i32);
+
+fn main() {
+    let words: Vec<String> = env::args().skip(1).collect();
+    let words: Vec<&str> = words.iter().map(String::as_str).collect();
+    if let Err(Stop(why, status)) = run(&words) {
+        eprintln!("{}", why);
+        exit(status);
+    }
+}
+
+fn run(words: &[&str]) -> Result<(), Stop> {
+    match *words {
+        ["rows", directory] => {
+            rows::write_all(Path::new(directory)).map_err(|why| failed(directory, &why))
+        }
+        ["kat", "hash", instance] => entries(kat::hash, instance),
+        ["kat", "aead", instance] => entries(kat::aead, instance),
+        ["readings"] => print(answers::table().as_bytes()),
+        ["diffusion"] => print(diffusion::table().as_bytes()),
+        ["compose", key, font] => {
+            let orders = standard_input(u64::MAX)?;
+            let composed = compose::compose(file(key), file(font), &orders)
+                .map_err(|refusal| Stop(refusal.to_string(), 1))?;
+            for report in &composed.reports {
+                eprintln!("{}", report);
+            }
+            print(&composed.frames)
+        }
+        ["lines", key, font] => {
+            // One byte more than the limit tells a longer stream.
+            let stream = standard_input(STREAM_LIMIT as u64 + 1)?;
+            print(lines::listing(file(key), file(font), &stream).as_bytes())
+        }
+        _ => Err(Stop(USAGE.to_string(), 2)),
+    }
+}
+
+fn entries(of: fn(usize) -> Option<String>, instance: &str) -> Result<(), Stop> {
+    let entries = instance.parse().ok().and_then(of);
+    match entries {
+        None => Err(Stop(format!("no instance {}", instance), 1)),
+        Some(entries) => print(entries.as_bytes()),
+    }
+}
+
+fn file(path: &str) -> Option<Vec<u8>> {
+    fs::read(path).ok()
+}
+
+fn standard_input(most: u64) -> Result<Vec<u8>, Stop> {
+    let mut bytes = Vec::new();
+    io::stdin()
+        .take(most)
+        .read_to_end(&mut bytes)
+        .map_err(|why| failed("standard input", &why))?;
+    Ok(bytes)
+}
+
+fn print(bytes: &[u8]) -> Result<(), Stop> {
+    io::stdout()
+        .write_all(bytes)
+        .map_err(|why| failed("standard output", &why))
+}
+
+fn failed(what: &str, why: &io::Error) -> Stop {
+    Stop(format!("{}: {}", what, why), 1)
+}

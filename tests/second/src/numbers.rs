@@ -1,0 +1,60 @@
+//! The numbers that a call returns (document 01, 'Numbers returned') and the
+//! sizes that the refusals speak of. Each stands here once, under a name.
+
+pub const DONE: u8 = 0;
+/// Unknown hash instance, or state size not permitted.
+pub const UNKNOWN: u8 = 1;
+/// Key, nonce, digest, seal or seal buffer not of its exact size.
+pub const NOT_ITS_SIZE: u8 = 2;
+/// Too long, or the writer's line not 1 to 65.
+pub const TOO_LONG: u8 = 3;
+/// Room too small.
+pub const NO_ROOM: u8 = 4;
+/// Seal not the one worked out.
+pub const WRONG_SEAL: u8 = 5;
+/// Bad stuffing.
+pub const BAD_STUFFING: u8 = 6;
+/// Stretch over 274 bytes, or fields not as they must be.
+pub const BAD_FIELDS: u8 = 7;
+/// Font digest differs from the one asked for.
+pub const OTHER_FONT: u8 = 8;
+/// Line holds a byte not listed.
+pub const NOT_LISTED: u8 = 9;
+/// Reader's place beyond the stream's end.
+pub const BEYOND_END: u8 = 10;
+
+pub const KEY: usize = 16;
+pub const NONCE: usize = 12;
+pub const DIGEST: usize = 32;
+pub const SEAL: usize = 16;
+
+pub const MESSAGE_LIMIT: usize = 65_536;
+pub const STREAM_LIMIT: usize = 65_536;
+pub const CIPHER_LIMIT: usize = 4_096;
+pub const ASSOCIATED_LIMIT: usize = 1_024;
+
+pub const LINE_LEAST: usize = 1;
+pub const LINE_MOST: usize = 65;
+pub const FRAME_ROOM: usize = 276;
+pub const STRETCH_MOST: usize = 274;
+
+/// The answer of a call that reports a number and its calls of the permutation.
+#[derive(Clone, Copy, Debug, PartialEq, Eq)]
+pub struct Counted {
+    pub number: u8,
+    pub count: usize,
+}
+
+impl Counted {
+    /// A refusal before any work: the count is 0.
+    pub fn refused(number: u8) -> Counted {
+        Counted { number, count: 0 }
+    }
+
+    pub fn done(count: usize) -> Counted {
+        Counted {
+            number: DONE,
+            count,
+        }
+    }
+}

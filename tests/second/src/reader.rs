@@ -1,0 +1,293 @@
+//! The reader: judging one stretch, the read call, and the walker over it.
+
+use crate::cipher::{decrypt, INSTANCE_1};
+use crate::frame::{associated, Fields};
+use crate::line::all_listed;
+use crate::numbers::{
+    BAD_FIELDS, BAD_STUFFING, BEYOND_END, DIGEST, DONE, KEY, LINE_MOST, NOT_ITS_SIZE, NOT_LISTED,
+    NO_ROOM, OTHER_FONT, STREAM_LIMIT, STRETCH_MOST, TOO_LONG, WRONG_SEAL,
+};
+use crate::readings::PRODUCT;
+use crate::stream::next_stretch;
+use crate::stuffing::unstuff;
+
+/// What the reader is told besides the stream.
+#[derive(Clone, Copy)]
+pub struct Told<'a> {
+    pub key: &'a [u8],
+    pub digest: &'a [u8],
+}
+
+/// A stretch judged: its line where the number is 0, else an empty one.
+struct Judged {
+    number: u8,
+    line: Vec<u8>,
+    count: usize,
+}
+
+impl Judged {
+    fn refused(number: u8, count: usize) -> Judged {
+        Judged {
+            number,
+            line: Vec::new(),
+            count,
+        }
+    }
+}
+
+/// Order of a stretch: 7 for its length, 6, 7 for its fields, 8, 5, 9.
+fn judge(told: Told, stretch: &[u8]) -> Judged {
+    if stretch.len() > STRETCH_MOST {
+        return Judged::refused(BAD_FIELDS, 0);
+    }
+    let body = match unstuff(stretch) {
+        None => return Judged::refused(BAD_STUFFING, 0),
+        Some(body) => body,
+    };
+    let fields = match Fields::taken_apart(&body) {
+        None => return Judged::refused(BAD_FIELDS, 0),
+        Some(fields) => fields,
+    };
+    if fields.digest != told.digest {
+        return Judged::refused(OTHER_FONT, 0);
+    }
+    let (line, worked_out, count) = decrypt(
+        &PRODUCT,
+        &INSTANCE_1,
+        told.key,
+        &fields.nonce,
+        &associated(&fields.digest),
+        &fields.ciphertext,
+    );
+    if fields.seal != worked_out {
+        return Judged::refused(WRONG_SEAL, count);
+    }
+    if !all_listed(&line) {
+        return Judged::refused(NOT_LISTED, count);
+    }
+    Judged {
+        number: DONE,
+        line,
+        count,
+    }
+}
+
+/// What the read call answers. End of stream is its own answer: `end` is set,
+/// the number is 0.
+#[derive(Clone, Copy, Debug, PartialEq, Eq)]
+pub struct Reading {
+    pub first: usize,
+    pub closing: usize,
+    pub end: bool,
+    pub number: u8,
+    pub length: usize,
+    pub count: usize,
+}
+
+impl Reading {
+    fn call_refused(number: u8, place: usize) -> Reading {
+        Reading {
+            first: place,
+            closing: place,
+            end: false,
+            number,
+            length: 0,
+            count: 0,
+        }
+    }
+
+    /// Whether the call itself was refused, so that no reading goes on from it.
+    pub fn is_call_refused(&self) -> bool {
+        matches!(self.number, NOT_ITS_SIZE | TOO_LONG | NO_ROOM | BEYOND_END)
+    }
+}
+
+/// The public call. Writes the line into the first bytes of `out`; on a
+/// refusal, of the call or of the stretch, nothing.
+pub fn read(told: Told, stream: &[u8], place: usize, out: &mut [u8]) -> Reading {
+    if told.key.len() != KEY || told.digest.len() != DIGEST {
+        return Reading::call_refused(NOT_ITS_SIZE, place);
+    }
+    if stream.len() > STREAM_LIMIT {
+        return Reading::call_refused(TOO_LONG, place);
+    }
+    if out.len() < LINE_MOST {
+        return Reading::call_refused(NO_ROOM, place);
+    }
+    if place > stream.len() {
+        return Reading::call_refused(BEYOND_END, place);
+    }
+    let part = next_stretch(stream, place);
+    if part.length == 0 {
+        return Reading {
+            first: stream.len(),
+            closing: stream.len(),
+            end: true,
+            number: DONE,
+            length: 0,
+            count: 0,
+        };
+    }
+    let closing = part.first + part.length;
+    let judged = judge(told, &stream[part.first..closing]);
+    out[..judged.line.len()].copy_from_slice(&judged.line);
+    Reading {
+        first: part.first,
+        closing,
+        end: false,
+        number: judged.number,
+        length: judged.line.len(),
+        count: judged.count,
+    }
+}
+
+/// The stream and the place reached, for the press.
+pub struct Walker<'a> {
+    pub stream: &'a [u8],
+    pub place: usize,
+}
+
+impl<'a> Walker<'a> {
+    pub fn new(stream: &'a [u8]) -> Walker<'a> {
+        Walker { stream, place: 0 }
+    }
+
+    /// Reads from the place reached and goes on to the closing mark; at the end
+    /// of the stream it stands at its length, on a refused call it stays.
+    pub fn next(&mut self, told: Told, out: &mut [u8]) -> Reading {
+        let reading = read(told, self.stream, self.place, out);
+        self.place = reading.closing;
+        reading
+    }
+}
+
+#[cfg(test)]
+mod tests {
+    use super::*;
+    use crate::frame::{framed, write};
+    use crate::numbers::{FRAME_ROOM, NONCE};
+
+    const KEY_1: [u8; KEY] = [9; KEY];
+    const FONT: [u8; DIGEST] = [0x7e; DIGEST];
+    const TOLD: Told = Told {
+        key: &KEY_1,
+        digest: &FONT,
+    };
+
+    fn frame(line: &[u8]) -> Vec<u8> {
+        let mut out = [0; FRAME_ROOM];
+        let length = write(&KEY_1, &[0x7d; NONCE], &FONT, line, &mut out).length;
+        out[..length].to_vec()
+    }
+
+    fn number(stream: &[u8]) -> u8 {
+        let mut out = [0xcc; LINE_MOST];
+        let reading = read(TOLD, stream, 0, &mut out);
+        assert!(!reading.end);
+        if reading.number != DONE {
+            assert_eq!(out, [0xcc; LINE_MOST]);
+            assert_eq!(reading.length, 0);
+        }
+        reading.number
+    }
+
+    #[test]
+    fn a_written_line_is_given_out() {
+        for line in [&b"7"[..], b"A123456789A", &[b' '; 65]] {
+            let stream = frame(line);
+            let mut out = [0xcc; LINE_MOST + 2];
+            let reading = read(TOLD, &stream, 0, &mut out);
+            let expected = Reading {
+                first: 1,
+                closing: stream.len() - 1,
+                end: false,
+                number: DONE,
+                length: line.len(),
+                count: line.len() + 39,
+            };
+            assert_eq!(reading, expected);
+            assert_eq!(&out[..line.len()], line);
+            assert!(out[line.len()..].iter().all(|&byte| byte == 0xcc));
+        }
+    }
+
+    #[test]
+    fn run_and_compared() {
+        for stream in [&b""[..], b"~", b"~~", b"A~", b"~A"] {
+            let reading = read(TOLD, stream, 0, &mut [0; LINE_MOST]);
+            assert!(reading.end);
+            assert_eq!(
+                (reading.first, reading.closing),
+                (stream.len(), stream.len())
+            );
+        }
+        assert_eq!(number(b"~}A~"), BAD_STUFFING);
+        assert_eq!(number(b"~}^~"), BAD_FIELDS);
+        let stretch = |length: usize, last: u8| {
+            let mut stream = vec![b'A'; length + 2];
+            stream[0] = b'~';
+            stream[length] = last;
+            stream[length + 1] = b'~';
+            number(&stream)
+        };
+        assert_eq!(stretch(274, b'A'), BAD_FIELDS);
+        assert_eq!(stretch(274, b'}'), BAD_STUFFING);
+        assert_eq!(stretch(275, b'}'), BAD_FIELDS);
+    }
+
+    #[test]
+    fn a_dangling_escape_does_not_swallow_the_mark() {
+        let mut stream = b"~A}".to_vec();
+        stream.extend(frame(b"123"));
+        let mut walker = Walker::new(&stream);
+        let mut out = [0; LINE_MOST];
+        assert_eq!(walker.next(TOLD, &mut out).number, BAD_STUFFING);
+        assert_eq!(walker.place, 3);
+        assert_eq!(walker.next(TOLD, &mut out).number, DONE);
+        assert_eq!(&out[..3], b"123");
+        assert!(walker.next(TOLD, &mut out).end);
+        assert_eq!(walker.place, stream.len());
+    }
+
+    #[test]
+    fn order_of_a_stretch() {
+        let made = |digest: &[u8], line: &[u8], damage: bool| {
+            let (mut fields, _) = Fields::sealing(&KEY_1, &[1; NONCE], digest, line);
+            fields.seal[3] ^= u8::from(damage);
+            number(&framed(&fields.body()))
+        };
+        assert_eq!(made(&FONT, b"12", false), DONE);
+        assert_eq!(made(&[0; DIGEST], b"x", true), OTHER_FONT);
+        assert_eq!(made(&FONT, b"x", true), WRONG_SEAL);
+        assert_eq!(made(&FONT, b"x", false), NOT_LISTED);
+        assert_eq!(made(&FONT, b"", false), BAD_FIELDS);
+        assert_eq!(made(&FONT, &[b'1'; 66], false), BAD_FIELDS);
+    }
+
+    #[test]
+    fn order_of_the_call() {
+        let long = vec![b'~'; STREAM_LIMIT + 1];
+        // Lengths of key and digest, the stream, the place, the room, the number.
+        type Case<'a> = (usize, usize, &'a [u8], usize, usize, u8);
+        let cases: [Case; 7] = [
+            (15, 32, &long, 70_000, 64, NOT_ITS_SIZE),
+            (16, 31, b"", 0, 65, NOT_ITS_SIZE),
+            (16, 32, &long, 70_000, 64, TOO_LONG),
+            (16, 32, &long, 0, 65, TOO_LONG),
+            (16, 32, b"~", 2, 64, NO_ROOM),
+            (16, 32, b"~", 2, 65, BEYOND_END),
+            (16, 32, &long[1..], 65_537, 65, BEYOND_END),
+        ];
+        for (k, d, stream, place, room, number) in cases {
+            let (key, digest) = (vec![0; k], vec![0; d]);
+            let told = Told {
+                key: &key,
+                digest: &digest,
+            };
+            let mut out = vec![0xcc; room];
+            let reading = read(told, stream, place, &mut out);
+            assert_eq!(reading, Reading::call_refused(number, place));
+            assert_eq!(out, vec![0xcc; room]);
+        }
+    }
+}

@@ -1,0 +1,70 @@
+//! The expected outputs of the product's test programs, one file of rows each.
+//! Where a test program reads cases, its standard input is made here too.
+
+mod chance;
+mod damage;
+pub mod digest;
+pub mod frame;
+pub mod limit;
+pub mod permute;
+pub mod seal;
+mod sound;
+pub mod stream;
+pub mod stretch;
+mod told;
+
+use std::fs;
+use std::io;
+use std::path::Path;
+
+/// One test program: its name, what it reads and what it must print.
+pub struct Rows {
+    pub name: &'static str,
+    pub stdin: Option<Vec<u8>>,
+    pub stdout: String,
+}
+
+impl Rows {
+    fn printed(name: &'static str, stdout: String) -> Rows {
+        Rows {
+            name,
+            stdin: None,
+            stdout,
+        }
+    }
+}
+
+pub fn all() -> Vec<Rows> {
+    let (cases, stream_rows) = stream::stdin_and_rows();
+    vec![
+        Rows::printed("digest_rows", digest::rows()),
+        Rows::printed("permute_rows", permute::rows()),
+        Rows::printed("seal_rows", seal::rows()),
+        Rows::printed("frame_rows", frame::rows()),
+        Rows {
+            name: "stream_rows",
+            stdin: Some(cases),
+            stdout: stream_rows,
+        },
+        Rows::printed("limit_rows", limit::rows()),
+        Rows::printed("stretch_rows", stretch::rows()),
+    ]
+}
+
+/// Writes NAME.stdout, and NAME.stdin where there is one, into the directory.
+pub fn write_all(directory: &Path) -> io::Result<()> {
+    fs::create_dir_all(directory)?;
+    for rows in all() {
+        let path = |ending: &str| directory.join(format!("{}.{}", rows.name, ending));
+        fs::write(path("stdout"), &rows.stdout)?;
+        if let Some(stdin) = &rows.stdin {
+            fs::write(path("stdin"), stdin)?;
+        }
+    }
+    Ok(())
+}
+
+/// Byte i of the result is what the rule gives for i, mod 256.
+pub(crate) fn by_rule<F: Fn(usize) -> usize>(length: usize, rule: F) -> Vec<u8> {
+    (0..length).map(|i| (rule(i) % 256) as u8).collect()
+}

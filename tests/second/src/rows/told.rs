@@ -1,0 +1,53 @@
+//! What every reader of the rows is told: key byte i is 0x10 + i, font digest
+//! byte i is 3*i + 1 mod 256. And how a reading is printed.
+
+use super::by_rule;
+use crate::frame::write;
+use crate::numbers::{DIGEST, DONE, FRAME_ROOM, KEY, LINE_MOST};
+use crate::reader::{read, Reading, Told};
+
+pub fn key() -> Vec<u8> {
+    by_rule(KEY, |i| 0x10 + i)
+}
+
+pub fn digest() -> Vec<u8> {
+    by_rule(DIGEST, |i| 3 * i + 1)
+}
+
+/// The writer's frame of a line under that key and digest.
+pub fn frame(nonce: &[u8], line: &[u8]) -> Vec<u8> {
+    let mut out = [0; FRAME_ROOM];
+    let answer = write(&key(), nonce, &digest(), line, &mut out);
+    assert_eq!(answer.number, DONE, "an order of the rows is sound");
+    out[..answer.length].to_vec()
+}
+
+/// One reading under that key and digest, with the line as a row prints it.
+pub fn reading(stream: &[u8], place: usize, room: usize) -> (Reading, String) {
+    let (key, digest) = (key(), digest());
+    let told = Told {
+        key: &key,
+        digest: &digest,
+    };
+    reading_told(told, stream, place, room)
+}
+
+pub fn reading_told(told: Told, stream: &[u8], place: usize, room: usize) -> (Reading, String) {
+    let mut out = vec![0; room.max(LINE_MOST)];
+    let reading = read(told, stream, place, &mut out[..room]);
+    let line = if reading.length == 0 {
+        "-".to_string()
+    } else {
+        format!("[{}]", String::from_utf8_lossy(&out[..reading.length]))
+    };
+    (reading, line)
+}
+
+/// The number as a row prints it: the end of the stream is its own answer.
+pub fn number(reading: &Reading) -> String {
+    if reading.end {
+        "end".to_string()
+    } else {
+        reading.number.to_string()
+    }
+}
