@@ -1,0 +1,5 @@
+pub mod Among
+pub mod Substituting
+pub mod Wrapping
+pub mod Weighing
+pub mod Turning

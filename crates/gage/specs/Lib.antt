@@ -1,0 +1,8 @@
+pub mod Cells
+pub mod Shuffling
+pub mod Permutation
+pub mod Quasigroup
+pub mod Tables
+pub mod Bits
+pub mod States
+pub mod Inverse

@@ -1,0 +1,60 @@
+-- The rules of the constant tables, each proved over the whole table by one computed test: every leader is a cell, and the
+-- places are a permutation of 1 to 8. Assumes nothing.
+use mathlib.Core.Path.{_≡_, refl}
+use mathlib.Core.Bool.{Bool, true, false, cond}
+use mathlib.Core.List.{List, [], _∷_}
+use Prim.Native.Nat.{ℕ, suc, _≤_, _<_}
+use native.Mathlib.Omega.{arith}
+use lib.Dec.{T, eqb, eqb→eq, ltb, ltb→lt, leb, leb→le}
+use borrow.Author.Tests.{eqb-true}
+use lib.ListN.{length, getD, take}
+use Rattle.lists.specs.Table.{at, every, both-left, both-right}
+use Rattle.lists.specs.Below.{Below, below-all, below-take}
+use Rattle.gage.specs.Shuffling.{places}
+use Rattle.gage.specs.Permutation.{ROUNDS, leaders, sizes, among, permitted}
+
+cell : ℕ → ℕ → Bool
+cell k l = ltb l 4
+
+-- every leader is a cell
+pub leader-below : (i : ℕ) → i < ROUNDS → getD leaders i 0 < 4
+unfolding leaders cell
+leader-below i h = ltb→lt (getD leaders i 0) 4 (at cell leaders tt i h)
+
+pub length-leaders : length leaders ≡ ROUNDS
+unfolding leaders
+length-leaders = refl
+
+pub leaders-below : (k : ℕ) → Below 4 (take k leaders)
+unfolding leaders
+leaders-below k = below-take 4 k leaders (below-all 4 leaders leader-below)
+
+-- how often x stands in a list
+abbrev pub times : ℕ → List ℕ → ℕ
+times x [] = 0
+times x (y ∷ r) = cond (eqb x y) (suc (times x r)) (times x r)
+
+once : ℕ → ℕ → Bool
+once k p = eqb (times (suc k) places) 1
+
+-- each of the places 1 to 8 is taken once
+pub place-once : (k : ℕ) → k < 8 → times (suc k) places ≡ 1
+unfolding once
+place-once k h = eqb→eq (times (suc k) places) 1 (at once places tt k h)
+
+-- what holds of every number of a list holds of each among them
+among-rule : (f : ℕ → Bool) (xs : List ℕ) (i n : ℕ) → T (every (λ k x. f x) i xs) → among n xs ≡ true → T (f n)
+unfolding among
+among-rule f [] i n t e = absurd (let z : _≡_ {A = ℕ} 0 1 = cc e in omega arith)
+among-rule f (x ∷ xs) i n t e =
+    picked (eqb n x) refl (among-rule f xs (suc i) n (both-right (f x) (every (λ k y. f y) (suc i) xs) t)) e
+  where
+    picked : (b : Bool) → eqb n x ≡ b → (among n xs ≡ true → T (f n)) → cond b true (among n xs) ≡ true → T (f n)
+    picked true h next g = rw (eqb-true n x h) (both-left (f x) (every (λ k y. f y) (suc i) xs) t)
+    picked false h next g = next g
+
+-- every permitted size is from 29 to 72
+pub permitted-size : (n : ℕ) → permitted n ≡ true → (29 ≤ n) × (n ≤ 72)
+unfolding permitted
+permitted-size n e =
+    (leb→le 29 n (among-rule (λ x. leb 29 x) sizes 0 n tt e), leb→le n 72 (among-rule (λ x. leb x 72) sizes 0 n tt e))

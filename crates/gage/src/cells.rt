@@ -1,0 +1,76 @@
+// The substitution over two-bit cells, a byte at a time, and its inverse (specs/Cells.antt).
+// The table of products is four rows of four, passed whole.
+ghost use mathlib.Core.Path.{_≡_};
+ghost use mathlib.Core.List.{_++_};
+ghost use Prim.Native.Nat.{_<_, _≤_};
+ghost use lib.ListN.{take, drop};
+ghost use Rattle.gage.specs.Cells.{Closed, table, star, substitutedByte, substitute, restore};
+
+const TABLE: [[u8; 4]; 4] = [[1, 0, 3, 2], [0, 2, 1, 3], [2, 3, 0, 1], [3, 1, 2, 0]];
+
+// The table x * y.
+pub fn products() -> [[u8; 4]; 4]
+    ensures { λ r. ⌜ r ≡ table ⌝ }
+{
+    TABLE
+}
+
+// x * y.
+fn star(t: [[u8; 4]; 4], x: usize, y: usize) -> u8
+    requires { ⌜ (x < 4) × (y < 4) × Closed t ⌝ }
+    ensures { λ r. ⌜ (r ≡ star t x y) × (r < 4) ⌝ }
+{
+    t[x][y]
+}
+
+// One byte of the substitution, after the cell p.
+fn substituted_byte(t: [[u8; 4]; 4], p: u8, b: u8) -> u8
+    requires { ⌜ (p < 4) × Closed t ⌝ }
+    ensures { λ r. ⌜ r ≡ substitutedByte t p b ⌝ }
+{
+    let l = p as usize;
+    let w = b as usize;
+    let a = w / 64;
+    let c = w / 16 % 4;
+    let d = w / 4 % 4;
+    let e = w % 4;
+    star(t, l, a) * 64 + star(t, a, c) * 16 + star(t, c, d) * 4 + star(t, d, e)
+}
+
+// The first n bytes of s substituted with a leader.
+pub fn substitute(t: [[u8; 4]; 4], s: [u8; 72], n: usize, leader: u8) -> [u8; 72]
+    requires { ⌜ (n ≤ 72) × (leader < 4) × Closed t ⌝ }
+    ensures { λ r. ⌜ r ≡ substitute t leader (take n s) ++ drop n s ⌝ }
+{
+    let mut out = s;
+    let mut p = leader;
+    let mut i = 0;
+    while i < n {
+        let b = s[i];
+        out[i] = substituted_byte(t, p, b);
+        p = b % 4;
+        i += 1;
+    }
+    out
+}
+
+// The first n bytes of s before a substitution with a leader: each cell from the one just recovered.
+pub fn restore(t: [[u8; 4]; 4], s: [u8; 72], n: usize, leader: u8) -> [u8; 72]
+    requires { ⌜ (n ≤ 72) × (leader < 4) × Closed t ⌝ }
+    ensures { λ r. ⌜ r ≡ restore t leader (take n s) ++ drop n s ⌝ }
+{
+    let mut out = s;
+    let mut p = leader as usize;
+    let mut i = 0;
+    while i < n {
+        let b = s[i] as usize;
+        let a = star(t, p, b / 64);
+        let c = star(t, a as usize, b / 16 % 4);
+        let d = star(t, c as usize, b / 4 % 4);
+        let e = star(t, d as usize, b % 4);
+        out[i] = a * 64 + c * 16 + d * 4 + e;
+        p = e as usize;
+        i += 1;
+    }
+    out
+}

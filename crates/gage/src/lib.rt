@@ -1,0 +1,173 @@
+// GAGE's round permutation and its inverse, on a state by value with its size in bytes (document 000, section 1.1; document
+// 01, 'The permutation'). Substitution and shuffle are modules of their own; the promises cite specs/Permutation.antt.
+mod cells;
+mod shuffling;
+
+ghost use mathlib.Core.Path.{_≡_};
+ghost use mathlib.Core.List.{_++_};
+ghost use Prim.Native.Nat.{_/_, _<_, _≤_};
+ghost use lib.ListN.{getD, length, take, drop};
+ghost use Rattle.gage.specs.Permutation.{ROUNDS, leaders, permitted, permuteBy, permute, unpermuteBy, unpermute, answered};
+
+// The largest permitted state, in bytes.
+pub const LARGEST: usize = 72;
+
+// The rounds of a whole permutation, and the leader of each (document 000, Table 1.2).
+const ROUNDS: usize = 32;
+
+const LEADERS: [u8; ROUNDS] = [
+    0,
+    3,
+    0,
+    3,
+    0,
+    1,
+    2,
+    3,
+    2,
+    1,
+    2,
+    3,
+    2,
+    1,
+    2,
+    3,
+    0,
+    1,
+    2,
+    3,
+    2,
+    3,
+    0,
+    3,
+    2,
+    3,
+    2,
+    3,
+    2,
+    1,
+    2,
+    1,
+];
+
+// The permitted state sizes in bytes (document 01, 'The permutation').
+const SIZES: [usize; 9] = [29, 30, 32, 34, 36, 40, 48, 68, 72];
+
+// Done, or refused for a state size that is not permitted.
+pub enum Answer {
+    Done,
+    Size,
+}
+
+pub struct Permuted {
+    pub answer: Answer,
+    pub state: [u8; LARGEST],
+}
+
+fn leader(i: usize) -> u8
+    requires { ⌜ i < 32 ⌝ }
+    ensures { λ r. ⌜ (r ≡ getD leaders i 0) × (r < 4) ⌝ }
+{
+    LEADERS[i]
+}
+
+// Whether a state may have n bytes.
+fn is_permitted(n: usize) -> bool
+    ensures { λ r. ⌜ r ≡ permitted n ⌝ }
+{
+    let sizes = SIZES;
+    let mut i = 0;
+    while i < 9 {
+        if sizes[i] == n {
+            return true;
+        }
+        i += 1;
+    }
+    false
+}
+
+// The first k rounds of the permutation on the first n bytes of s.
+fn turned(s: [u8; LARGEST], n: usize, k: usize) -> [u8; LARGEST]
+    requires { ⌜ (8 ≤ n) × (n ≤ 72) × (1 ≤ k) × (k ≤ ROUNDS) ⌝ }
+    ensures { λ r. ⌜ r ≡ permute k (take n s) ++ drop n s ⌝ }
+{
+    let t = cells::products();
+    let mut a = cells::substitute(t, s, n, leader(0));
+    let mut i = 1;
+    while i < k {
+        let b = shuffling::shuffle(a, n);
+        a = cells::substitute(t, b, n, leader(i));
+        i += 1;
+    }
+    a
+}
+
+// The first n bytes of s before k rounds of the permutation.
+fn unturned(s: [u8; LARGEST], n: usize, k: usize) -> [u8; LARGEST]
+    requires { ⌜ (8 ≤ n) × (n ≤ 72) × (1 ≤ k) × (k ≤ ROUNDS) ⌝ }
+    ensures { λ r. ⌜ r ≡ unpermute k (take n s) ++ drop n s ⌝ }
+{
+    let t = cells::products();
+    let mut a = s;
+    let mut i = k;
+    while i > 1 {
+        i -= 1;
+        let b = cells::restore(t, a, n, leader(i));
+        a = shuffling::unshuffle(b, n);
+    }
+    cells::restore(t, a, n, leader(0))
+}
+
+// The permutation of all rounds.
+pub fn permute(s: [u8; LARGEST], n: usize) -> Permuted
+    ensures { λ r. ⌜ r ≡ answered (permute ROUNDS) s n ⌝ }
+{
+    if is_permitted(n) {
+        let state = turned(s, n, ROUNDS);
+        Permuted {
+            answer: Answer::Done,
+            state,
+        }
+    } else {
+        Permuted {
+            answer: Answer::Size,
+            state: s,
+        }
+    }
+}
+
+// The permutation of half the rounds, as document 000, section 2.1 runs it for a block.
+pub fn permute_half(s: [u8; LARGEST], n: usize) -> Permuted
+    ensures { λ r. ⌜ r ≡ answered (permute (ROUNDS / 2)) s n ⌝ }
+{
+    if is_permitted(n) {
+        let state = turned(s, n, ROUNDS / 2);
+        Permuted {
+            answer: Answer::Done,
+            state,
+        }
+    } else {
+        Permuted {
+            answer: Answer::Size,
+            state: s,
+        }
+    }
+}
+
+// The inverse of the permutation of all rounds.
+pub fn unpermute(s: [u8; LARGEST], n: usize) -> Permuted
+    ensures { λ r. ⌜ r ≡ answered (unpermute ROUNDS) s n ⌝ }
+{
+    if is_permitted(n) {
+        let state = unturned(s, n, ROUNDS);
+        Permuted {
+            answer: Answer::Done,
+            state,
+        }
+    } else {
+        Permuted {
+            answer: Answer::Size,
+            state: s,
+        }
+    }
+}
