@@ -1,0 +1,17 @@
+-- Message padding and blocks (document 000, section 1.1.3, Algorithm 3; document 01, 'The digest'), over the rate R in bytes.
+-- Assumes nothing: these are definitions.
+use Prim.Native.Nat.{ℕ, _+_, _-_, _*_, _/_, _%_}
+use mathlib.Core.List.{List, _∷_, _++_}
+use lib.ListN.{length, take, drop, replicate}
+
+-- 0x80 and the fewest zeros that make a multiple of R bytes: Algorithm 3's block count decides over its zero count
+unfoldable pub padded : ℕ → List ℕ → List ℕ
+padded R m = m ++ (0x80 ∷ replicate (R - 1 - length m % R) 0)
+
+-- how many blocks that makes
+abbrev pub blockCount : ℕ → List ℕ → ℕ
+blockCount R m = length m / R + 1
+
+-- block i, counted from 0
+unfoldable pub block : ℕ → List ℕ → ℕ → List ℕ
+block R m i = take R (drop (i * R) (padded R m))
