@@ -1,0 +1,9 @@
+pub mod Stuffing
+pub mod Rules
+pub mod Answers
+pub mod Lengths
+pub mod RoundTrip
+pub mod GoodStuffing
+pub mod Marks
+pub mod Bytes
+pub mod Outcomes
