@@ -1,0 +1,5 @@
+pub mod Stretches
+pub mod Steps
+pub mod Meaning
+pub mod Places
+pub mod Shift
