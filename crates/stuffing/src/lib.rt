@@ -11,12 +11,16 @@ ghost use Rattle.stuffing.specs.Answers.{lengthAnswer, unstuffAnswer, un
 
 // The mark that opens and closes a frame (document 01).
 pub const MARK: u8 = 0x7E;
+
 // The byte that opens an escape (RFC 1662).
 const ESCAPE: u8 = 0x7D;
+
 // What stands for the mark inside an escape (document 01).
 const ESCAPED_MARK: u8 = 0x5E;
+
 // What stands for the escape byte inside an escape (document 01).
 const ESCAPED_ESCAPE: u8 = 0x5D;
+
 // The longest stretch that is judged (document 01, number 7).
 pub const LONGEST_STRETCH: usize = 274;
 
