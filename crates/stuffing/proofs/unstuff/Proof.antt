@@ -20,14 +20,16 @@ returns-2 c =
 
 write-body-requires : tie.Need-write-body-requires
 write-body-requires c κs =
-    room _ (c .before .before .before .before .before .before .before .before .args .out .now) _ (sym (c .before .before .before .told .given .1) ∙ c .before .before .before .before .before .unstuffed-length .ensures) (c .before .if1 .left)
+    room _ (c .before .before .before .before .before .before .before .before .args .out .now) _
+    (sym (c .before .before .before .told .given .1) ∙ c .before .before .before .before .before .unstuffed-length .ensures) (c .before .if1 .left)
 
 same-length : tie.Need-same-length
 same-length c = search needs
 
 returns-3 : tie.Need-returns-3
 returns-3 c =
-    let e = sym (c .before .before .before .before .before .before .told .given .1) ∙ c .before .before .before .before .before .before .before .before .unstuffed-length .ensures in
+    let e = sym (c .before .before .before .before .before .before .told .given .1)
+    ∙ c .before .before .before .before .before .before .before .before .unstuffed-length .ensures in
     let d = done _ _ _ e (c .before .before .before .before .if1 .left) in
     (d .0, c .before .before .write-body .ensures ∙ d .1)
 
