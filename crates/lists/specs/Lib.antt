@@ -4,3 +4,5 @@ pub mod Sameness
 pub mod Table
 pub mod Below
 pub mod Upto
+pub mod Over
+pub mod Free

@@ -1,0 +1,114 @@
+-- The rule of a line as a statement on lists: a line is accepted exactly if each of its bytes is a digit, a symbol or the blank.
+-- Assumes nothing.
+use mathlib.Core.Path.{_≡_, refl, subst}
+use mathlib.Core.Bool.{Bool, true, false, cond}
+use mathlib.Core.List.{List, [], _∷_}
+use Prim.Native.Nat.{ℕ, _≤_, _<_}
+use native.Mathlib.Omega.{arith}
+use lib.Dec.{eqb, leb}
+use borrow.Author.Tests.{le-leb, lt-leb, leb-true, eqb-true}
+use Rattle.lists.specs.Below.{Below}
+use Rattle.line.specs.declared.Judged.{Judged}
+use Rattle.line.specs.declared.Judged.the-variants.{Accepted, Unlisted}
+use Rattle.line.specs.Lines.{firstDigit, lastDigit, transit, dash, blank, isListed, allListed, lineRule}
+
+-- a listed byte
+pub data Listed (b : ℕ) : Type 0 where
+  a-digit : firstDigit ≤ b → b ≤ lastDigit → Listed b
+  a-symbol : transit ≤ b → b ≤ dash → Listed b
+  a-blank : b ≡ blank → Listed b
+
+-- a line of listed bytes
+abbrev pub AllListed : List ℕ → Type 0
+AllListed [] = Unit {0}
+AllListed (b ∷ s) = Listed b × AllListed s
+
+-- the test of a byte says what the statement says
+pub listed-is : (b : ℕ) → Listed b → isListed b ≡ true
+unfolding isListed
+listed-is b (a-digit l h) = rw (le-leb firstDigit b l, le-leb b lastDigit h)
+listed-is b (a-symbol l h) =
+    rw (le-leb firstDigit b (omega arith), lt-leb b lastDigit (omega arith), le-leb transit b l, le-leb b dash h)
+listed-is b (a-blank e) = rw e
+
+pub is-listed : (b : ℕ) → isListed b ≡ true → Listed b
+unfolding isListed
+is-listed b = go (leb firstDigit b) refl (leb b lastDigit) refl (leb transit b) refl (leb b dash) refl
+  where
+    go : (t : Bool) → leb firstDigit b ≡ t → (u : Bool) → leb b lastDigit ≡ u
+        → (v : Bool) → leb transit b ≡ v → (w : Bool) → leb b dash ≡ w
+        → cond (cond t u false) true (cond (cond v w false) true (eqb b blank)) ≡ true → Listed b
+    go true p true q v r w s e = a-digit (leb-true firstDigit b p) (leb-true b lastDigit q)
+    go true p false q true r true s e = a-symbol (leb-true transit b r) (leb-true b dash s)
+    go true p false q true r false s e = a-blank (eqb-true b blank e)
+    go true p false q false r w s e = a-blank (eqb-true b blank e)
+    go false p u q true r true s e = a-symbol (leb-true transit b r) (leb-true b dash s)
+    go false p u q true r false s e = a-blank (eqb-true b blank e)
+    go false p u q false r w s e = a-blank (eqb-true b blank e)
+
+never : {t : Bool} → t ≡ true → t ≡ false → ⊥
+never p q = let z : _≡_ {A = ℕ} 0 1 = cc (p, q) in omega arith
+
+-- a test that isn't true is false
+refuted : {X : Type 0} (t : Bool) → (t ≡ true → X) → (X → ⊥) → t ≡ false
+refuted true f n = absurd (n (f refl))
+refuted false f n = refl
+
+pub not-listed : (b : ℕ) → (Listed b → ⊥) → isListed b ≡ false
+not-listed b n = refuted (isListed b) (is-listed b) n
+
+-- the test of a line says what the statement says
+pub all-listed-is : (s : List ℕ) → AllListed s → allListed s ≡ true
+unfolding allListed
+all-listed-is [] a = refl
+all-listed-is (b ∷ s) a = rw (listed-is b (a .0)) (all-listed-is s (a .1))
+
+both : {X Y : Type 0} (t u : Bool) → (t ≡ true → X) → (u ≡ true → Y) → cond t u false ≡ true → X × Y
+both true u f g e = (f refl, g e)
+both false u f g e = absurd (never e refl)
+
+pub is-all-listed : (s : List ℕ) → allListed s ≡ true → AllListed s
+unfolding allListed
+is-all-listed [] e = tt
+is-all-listed (b ∷ s) e = both (isListed b) (allListed s) (is-listed b) (is-all-listed s) e
+
+-- the rule: a line is accepted exactly if all its bytes are listed, and else holds one that isn't
+pub rule-accepted : (s : List ℕ) → AllListed s → lineRule s ≡ Accepted
+unfolding lineRule
+rule-accepted s a = rw (all-listed-is s a)
+
+pub rule-unlisted : (s : List ℕ) → (AllListed s → ⊥) → lineRule s ≡ Unlisted
+unfolding lineRule
+rule-unlisted s n = rw (refuted (allListed s) (is-all-listed s) n)
+
+-- what an answer says of the line
+abbrev Says : Judged → List ℕ → Type 0
+Says Accepted s = AllListed s
+Says Unlisted s = AllListed s → ⊥
+
+rule-says : (s : List ℕ) → Says (lineRule s) s
+unfolding lineRule
+rule-says s = go (allListed s) refl
+  where
+    go : (t : Bool) → allListed s ≡ t → Says (cond t Accepted Unlisted) s
+    go true e = is-all-listed s e
+    go false e = λ a. never (all-listed-is s a) e
+
+pub accepted-rule : (s : List ℕ) → lineRule s ≡ Accepted → AllListed s
+accepted-rule s e = subst (λ (j : Judged). Says j s) e (rule-says s)
+
+pub unlisted-rule : (s : List ℕ) → lineRule s ≡ Unlisted → AllListed s → ⊥
+unlisted-rule s e = subst (λ (j : Judged). Says j s) e (rule-says s)
+
+-- an accepted line is one of bytes
+listed-below : (b : ℕ) → Listed b → b < 256
+listed-below b (a-digit l h) = omega arith
+listed-below b (a-symbol l h) = omega arith
+listed-below b (a-blank e) = omega arith
+
+all-below : (s : List ℕ) → AllListed s → Below 256 s
+all-below [] a = tt
+all-below (b ∷ s) a = (listed-below b (a .0), all-below s (a .1))
+
+pub accepted-below : (s : List ℕ) → lineRule s ≡ Accepted → Below 256 s
+accepted-below s e = all-below s (accepted-rule s e)

@@ -1,0 +1,64 @@
+-- The next stretch a byte at a time along a stream: what stands at a place decides where to look on. Assumes nothing.
+use mathlib.Core.Path.{_≡_, refl, sym, ap, _∙_}
+use mathlib.Core.Bool.{Bool, true, false, cond}
+use mathlib.Core.List.{List, _∷_}
+use Prim.Native.Nat.{ℕ, _+_, _≤_, _<_}
+use native.Mathlib.Omega.{arith}
+use native.Mathlib.Numerals.{add-one}
+use lib.Dec.{leb}
+use lib.ListN.{length, getD, drop, drop-of-length-le}
+use lib.Seq.{drop-cons}
+use borrow.Author.Tests.{eq-eqb, ne-eqb, lt-ltb, le-ltb, le-leb, leb-true}
+use Rattle.stuffing.specs.Stuffing.{mark}
+use Rattle.stream.specs.Stretches.{span, afterMark, beforeMark, nextSpan}
+
+-- the byte at i, and what is after it
+at : (s : List ℕ) (i : ℕ) → i < length s → drop i s ≡ getD s i 0 ∷ drop (i + 1) s
+at s i h = rw (add-one, drop-cons s i 0 h)
+
+pub after-end : (s : List ℕ) (a i : ℕ) → i ≤ length s → length s ≤ i → afterMark a i (drop i s) ≡ span (length s) (length s)
+unfolding afterMark
+after-end s a i h l = let e : i ≡ length s = omega arith in rw (drop-of-length-le s {i = i} l) (ap (λ (k : ℕ). span k k) e)
+
+-- an empty run
+pub after-mark : (s : List ℕ) (a i : ℕ) → i < length s → getD s i 0 ≡ mark → i ≤ a
+    → afterMark a i (drop i s) ≡ afterMark (i + 1) (i + 1) (drop (i + 1) s)
+unfolding afterMark
+after-mark s a i h e l = rw (at s i h, eq-eqb (getD s i 0) mark e, le-ltb a i l)
+
+-- a run that isn't empty
+pub after-close : (s : List ℕ) (a i : ℕ) → i < length s → getD s i 0 ≡ mark → a < i → afterMark a i (drop i s) ≡ span a i
+unfolding afterMark
+after-close s a i h e l = rw (at s i h, eq-eqb (getD s i 0) mark e, lt-ltb a i l)
+
+pub after-on : (s : List ℕ) (a i : ℕ) → i < length s → (getD s i 0 ≡ mark → ⊥)
+    → afterMark a i (drop i s) ≡ afterMark a (i + 1) (drop (i + 1) s)
+unfolding afterMark
+after-on s a i h n = rw (at s i h, ne-eqb (getD s i 0) mark n)
+
+-- from the end or beyond
+pub next-end : (s : List ℕ) (i : ℕ) → length s ≤ i → nextSpan s i ≡ span (length s) (length s)
+unfolding nextSpan beforeMark
+next-end s i l = go (leb i (length s)) refl
+  where
+    go : (t : Bool) → leb i (length s) ≡ t → cond t (beforeMark i (drop i s)) (span (length s) (length s)) ≡ span (length s) (length s)
+    go true t =
+        let e : i ≡ length s = omega (arith, leb-true i (length s) t) in
+        rw (drop-of-length-le s {i = i} l) (ap (λ (k : ℕ). span k k) e)
+    go false t = refl
+
+-- a mark opens
+pub next-mark : (s : List ℕ) (i : ℕ) → i < length s → getD s i 0 ≡ mark → nextSpan s i ≡ afterMark (i + 1) (i + 1) (drop (i + 1) s)
+unfolding nextSpan beforeMark
+next-mark s i h e = rw (le-leb i (length s) (omega arith), at s i h, eq-eqb (getD s i 0) mark e)
+
+-- any other byte is passed over
+pub next-on : (s : List ℕ) (i : ℕ) → i < length s → (getD s i 0 ≡ mark → ⊥) → nextSpan s i ≡ nextSpan s (i + 1)
+unfolding nextSpan beforeMark
+next-on s i h n =
+    rw (le-leb i (length s) (omega arith), le-leb (i + 1) (length s) (omega arith), at s i h, ne-eqb (getD s i 0) mark n)
+
+-- between two marks that stand side by side there is no stretch
+pub next-empty : (s : List ℕ) (i : ℕ) → i + 1 < length s → getD s i 0 ≡ mark → getD s (i + 1) 0 ≡ mark → nextSpan s i ≡ nextSpan s (i + 1)
+next-empty s i h e f =
+    next-mark s i (omega arith) e ∙ after-mark s (i + 1) (i + 1) h f (omega arith) ∙ sym (next-mark s (i + 1) h f)
