@@ -3,3 +3,4 @@ pub mod Substituting
 pub mod Wrapping
 pub mod Weighing
 pub mod Turning
+pub mod Single

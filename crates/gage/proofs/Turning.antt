@@ -1,15 +1,14 @@
 -- The loops of the permutation and of its inverse: which turns are left. Assumes nothing.
 use mathlib.Core.Path.{_≡_, refl, sym, ap, _∙_}
-use mathlib.Core.List.{List, [], _∷_, _++_}
-use Prim.Native.Nat.{ℕ, zero, suc, _+_, _-_, _≤_, _<_}
+use mathlib.Core.List.{List, _∷_, _++_}
+use Prim.Native.Nat.{ℕ, suc, _+_, _-_, _≤_, _<_}
 use native.Mathlib.Numerals.{add-one}
 use native.Mathlib.Omega.{arith}
 use lib.ListN.{length, getD, take, drop, take-append-drop, drop-of-length-le}
-use lib.Seq.{length-take-le, take-at, drop-at, drop-cons, getD-take}
+use lib.Seq.{length-take-le, take-at, drop-at, drop-cons}
 use Rattle.gage.specs.Cells.{table, substitute, restore}
 use Rattle.gage.specs.Shuffling.{shuffle, unshuffle}
-use Rattle.gage.specs.Permutation.{leaders, turns, permuteBy, permute, unturns, unpermuteBy, unpermute}
-use Rattle.gage.specs.States.{length-substitute, length-restore, length-shuffle, length-unshuffle}
+use Rattle.gage.specs.Permutation.{leaders, turns, permuteBy, unturns, unpermuteBy}
 
 -- b is a state a whose first n bytes were changed by f
 pub record Changed (f : List ℕ → List ℕ) (n : ℕ) (a b : List ℕ) : Type 0 where

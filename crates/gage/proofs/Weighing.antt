@@ -1,6 +1,6 @@
 -- A shift to the right gives a place's weight: one test at each of the eight places. Assumes nothing.
 use mathlib.Core.Path.{_≡_, refl}
-use Prim.Native.Nat.{ℕ, zero, suc, _-_, _/_, _^_, _≤_, _<_}
+use Prim.Native.Nat.{ℕ, zero, suc, _-_, _/_, _^_, _≤_}
 use native.Mathlib.Omega.{arith}
 use Rattle.gage.specs.Shuffling.{weight}
 use Rattle.gage.specs.Bits.{eight}

@@ -7,9 +7,9 @@ use native.Mathlib.Decide.{decLt}
 use native.Mathlib.Omega.{arith}
 use lib.ListN.{length, getD, take, drop, set, length-set}
 use lib.Seq.{length-take-le, getD-take, getD-set-same, getD-set-other}
-use Rattle.lists.specs.Fill.{Filled, filled-none, filled-more, filled-all}
+use Rattle.lists.specs.Fill.{Filled, filled-more, filled-all}
 use Rattle.lists.specs.Upto.{Upto}
-use Rattle.gage.specs.Shuffling.{bit, element, source, weights, origins, weighed, gathered, returned, Joined, shuffledByte, shuffle, unshuffledByte, unshuffle}
+use Rattle.gage.specs.Shuffling.{bit, element, source, weights, origins, gathered, returned, Joined, shuffledByte, shuffle, unshuffledByte, unshuffle}
 use Rattle.gage.specs.Bits.{eight, weighed-by}
 use Rattle.gage.specs.States.{length-shuffle, length-unshuffle, shuffle-at, unshuffle-at}
 

@@ -1,20 +1,20 @@
 -- The inverse undoes the permutation and the permutation the inverse, at every state size from 8 bytes on and for all leaders.
 -- Assumes nothing.
-use mathlib.Core.Path.{_≡_, refl, sym, ap, ap₂, _∙_}
-use mathlib.Core.List.{List, [], _∷_, _++_}
-use Prim.Native.Nat.{ℕ, zero, suc, _+_, _*_, _/_, _-_, _≤_, _<_, _%_}
+use mathlib.Core.Path.{_≡_, refl, ap, ap₂, _∙_}
+use mathlib.Core.List.{List, [], _∷_}
+use Prim.Native.Nat.{ℕ, _+_, _/_, _-_, _≤_, _<_, _%_}
 use native.Mathlib.Nat.{zero-add, mod-lt, mod-eq-of-lt, mod-add-mod, add-mod-right}
 use native.Mathlib.Omega.{arith}
 use lib.ListN.{length, getD, take}
 use lib.Seq.{ext-getD}
 use Rattle.lists.specs.Below.{Below, below-at}
-use Rattle.gage.specs.Cells.{star, table, Closed, cells, bytes, follow, recover, substitute, restore}
+use Rattle.gage.specs.Cells.{star, table, cells, bytes, follow, recover, substitute, restore}
 use Rattle.gage.specs.Quasigroup.{star-undoes, table-closed}
 use Rattle.gage.specs.Tables.{leaders-below}
-use Rattle.gage.specs.Shuffling.{bit, element, source, weighed, weights, origins, listed, shuffledByte, shuffle, unshuffledByte, unshuffle}
+use Rattle.gage.specs.Shuffling.{bit, element, source, weights, origins, shuffledByte, shuffle, unshuffledByte, unshuffle}
 use Rattle.gage.specs.Bits.{origin-weight, weighed-by, placed-back, origin-back, placed-whole, origin-whole}
 use Rattle.gage.specs.Permutation.{leaders, turns, permuteBy, permute, unturns, unpermuteBy, unpermute}
-use Rattle.gage.specs.States.{length-substitute, length-restore, substitute-below, restore-below, length-shuffle, length-unshuffle, shuffle-at, unshuffle-at, shuffle-below, unshuffle-below, length-unturns, unturns-below}
+use Rattle.gage.specs.States.{length-substitute, length-restore, substitute-below, restore-below, length-shuffle, length-unshuffle, shuffle-at, unshuffle-at, shuffle-below, length-unturns, unturns-below}
 
 -- cells: each step undoes the other
 recover-follow : (l : ℕ) (cs : List ℕ) → l < 4 → Below 4 cs → recover table l (follow table l cs) ≡ cs

@@ -6,3 +6,5 @@ pub mod Tables
 pub mod Bits
 pub mod States
 pub mod Inverse
+pub mod Answers
+pub mod Acceptance

@@ -1,6 +1,6 @@
 -- The round permutation of document 000, section 1.1.2 (Algorithm 2, Table 1.2), its inverse, and what the public calls answer
 -- (document 01, 'The permutation'). Size and rounds are parameters. Assumes nothing: these are definitions.
-use Prim.Native.Nat.{ℕ, _/_}
+use Prim.Native.Nat.{ℕ}
 use mathlib.Core.Bool.{Bool, true, false, cond}
 use mathlib.Core.List.{List, [], _∷_, _++_}
 use lib.Dec.{eqb}

@@ -1,16 +1,15 @@
 -- A state stays a state: substitution, shuffle and permutation, and their inverses, keep its length and give bytes, at every
 -- size and for all leaders. Assumes nothing.
 use mathlib.Core.Path.{_≡_, refl, ap, _∙_}
-use mathlib.Core.Bool.{true}
-use mathlib.Core.List.{List, [], _∷_, _++_}
-use Prim.Native.Nat.{ℕ, zero, suc, _+_, _*_, _/_, _≤_, _<_, _%_}
+use mathlib.Core.List.{List, [], _∷_}
+use Prim.Native.Nat.{ℕ, zero, suc, _+_, _*_, _/_, _<_, _%_}
 use native.Mathlib.Nat.{not-suc-le-zero, le-of-suc-le-suc, add-zero, zero-add, add-suc, suc-add}
 use native.Mathlib.Omega.{arith}
-use lib.ListN.{length, getD, take, drop}
+use lib.ListN.{length, getD, take}
 use Rattle.lists.specs.Below.{Below}
 use Rattle.gage.specs.Cells.{star, table, Closed, cells, bytes, follow, recover, substitute, restore}
 use Rattle.gage.specs.Quasigroup.{table-closed}
-use Rattle.gage.specs.Shuffling.{element, source, weighed, weights, origins, listed, shuffledByte, shuffle, unshuffledByte, unshuffle}
+use Rattle.gage.specs.Shuffling.{element, source, listed, shuffledByte, shuffle, unshuffledByte, unshuffle}
 use Rattle.gage.specs.Bits.{placed-below, origin-below}
 use Rattle.gage.specs.Permutation.{leaders, turns, permuteBy, permute, unturns, unpermuteBy, unpermute}
 

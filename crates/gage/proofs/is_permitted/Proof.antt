@@ -1,14 +1,13 @@
+-- `is_permitted` meets its promise. The invariant: n is among the sizes exactly if it is among those from i on; the measure is
+-- what is left of the table. Assumes nothing.
 use Rattle.gage.proofs.Among.{among-here, among-next, among-none}
 use Rattle.gage.specs.Permutation.{sizes, among, permitted}
 use lib.ListN.{drop}
-use Prim.Native.Nat.{ℕ, _+_, _-_, _*_, _/_, _%_, _≤_, _<_}
-use mathlib.Core.Path.{_≡_, refl, sym, ap, _∙_}
-use native.Mathlib.Omega.{arith}
+use Prim.Native.Nat.{_-_, _≤_}
+use mathlib.Core.Path.{_≡_}
 use borrow.Author.Needs.{needs}
 use Rattle.gage.proofs.is_permitted.Statement.{statement}
 use Rattle.gage.proofs.is_permitted.Tie as tie
-use Rattle.gage.proofs.is_permitted.Reads as reads
-use Rattle.gage.proofs.is_permitted.Lts as lts
 
 abbrev Inv-loop : tie.InvT-loop
 Inv-loop n sizes i₀ i = (i ≤ 9) × (among n (drop i sizes) ≡ among n sizes)
@@ -16,36 +15,28 @@ Inv-loop n sizes i₀ i = (i ≤ 9) × (among n (drop i sizes) ≡ among n sizes
 abbrev μ-loop : tie.MeasureT-loop
 μ-loop n sizes i₀ i = 9 - i
 
--- src/lib.rt:80:5
 loop-holds : tie.Need-loop-holds Inv-loop μ-loop
 loop-holds c = search needs
 
--- src/lib.rt:81:12
 mul-if1 : tie.Need-mul-if1 Inv-loop μ-loop
 mul-if1 c = search needs
 
--- src/lib.rt:81:12
 array-read-if1 : tie.Need-array-read-if1 Inv-loop μ-loop
 array-read-if1 c = search needs
 
--- src/lib.rt:82:13
 returns : tie.Need-returns Inv-loop μ-loop
 unfolding permitted
 returns c = among-here (c .before .before .before .args .n) sizes (c .before .before .loop .i) (c .before .before .loop .inv .1) (search needs) (c .if1 .taken)
 
--- src/lib.rt:84:9
 add-i : tie.Need-add-i Inv-loop μ-loop
 add-i c = search needs
 
--- src/lib.rt:80:5
 loop-less : tie.Need-loop-less Inv-loop μ-loop
 loop-less c = search needs
 
--- src/lib.rt:80:5
 loop-again : tie.Need-loop-again Inv-loop μ-loop
 loop-again c = (search needs, among-next (c .before .before .before .args .n) sizes (c .before .before .loop .i) (c .before .before .loop .inv .1) (search needs) (c .if1 .left))
 
--- src/lib.rt:75:1
 returns-2 : tie.Need-returns-2 Inv-loop μ-loop
 unfolding permitted
 returns-2 c = among-none (c .before .before .args .n) sizes (c .before .loop .i) (c .before .loop .inv .1) (search needs)

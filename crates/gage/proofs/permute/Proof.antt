@@ -1,3 +1,4 @@
+-- `permute` meets its promise: a permitted size is one that `turned` takes. Assumes nothing.
 use Rattle.gage.specs.Tables.{permitted-size}
 use Rattle.gage.specs.Permutation.{permitted, answered}
 use mathlib.Core.Bool.{true, false}
@@ -6,29 +7,21 @@ use native.Mathlib.Omega.{arith}
 use borrow.Author.Needs.{needs}
 use Rattle.gage.proofs.permute.Statement.{statement}
 use Rattle.gage.proofs.permute.Tie as tie
-use Rattle.gage.proofs.permute.Reads as reads
-use Rattle.gage.proofs.permute.Lts as lts
-use Rattle.gage.proofs.is_permitted.Reads as is-permitted-reads
-use Rattle.gage.proofs.turned.Reads as turned-reads
 
--- src/lib.rt:125:8
 is-permitted-requires : tie.Need-is-permitted-requires
 is-permitted-requires c κs = search needs
 
--- src/lib.rt:126:13
 turned-requires : tie.Need-turned-requires
 turned-requires c κs =
     let size = permitted-size (c .before .before .args .n) (sym (c .before .is-permitted .ensures) ∙ c .if1 .taken) in
     (omega arith, size .1, search needs, search needs)
 
--- src/lib.rt:122:1
 returns : tie.Need-returns
 unfolding answered
 returns c =
     let p : permitted (c .before .before .before .args .n) ≡ true = sym (c .before .before .is-permitted .ensures) ∙ c .before .if1 .taken in
     rw (p, c .turned .ensures)
 
--- src/lib.rt:122:1
 returns-2 : tie.Need-returns-2
 unfolding answered
 returns-2 c =

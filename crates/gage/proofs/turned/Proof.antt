@@ -1,24 +1,19 @@
-use Rattle.gage.proofs.Turning.{changed, Left, left-more, left-none, Undone, undone-none, undone-more, undone-all}
-use Rattle.gage.specs.States.{length-substitute, length-restore, length-shuffle, length-unshuffle}
-use Rattle.gage.specs.Permutation.{leaders, permute, unpermute}
+-- `turned` meets its promise. The invariant: the turns of the leaders from i on are left (`Left`); the measure is their number. Assumes nothing.
+use Rattle.gage.proofs.Turning.{changed, Left, left-more, left-none}
+use Rattle.gage.specs.States.{length-substitute, length-shuffle}
+use Rattle.gage.specs.Permutation.{leaders, permute}
 use Rattle.gage.specs.Tables.{length-leaders}
 use Rattle.gage.specs.Quasigroup.{table-closed}
-use Rattle.gage.specs.Shuffling.{shuffle, unshuffle}
-use Rattle.gage.specs.Cells.{table, substitute, restore}
+use Rattle.gage.specs.Shuffling.{shuffle}
+use Rattle.gage.specs.Cells.{table, substitute}
 use lib.Seq.{length-take-le, getD-take}
-use lib.ListN.{length, getD, take}
-use Prim.Native.Nat.{ℕ, _+_, _-_, _≤_, _<_}
-use mathlib.Core.Path.{_≡_, refl, sym, ap, _∙_}
+use lib.ListN.{length, take}
+use Prim.Native.Nat.{_-_}
+use mathlib.Core.Path.{_≡_, refl, sym, _∙_}
 use native.Mathlib.Omega.{arith}
 use borrow.Author.Needs.{needs}
 use Rattle.gage.proofs.turned.Statement.{statement}
 use Rattle.gage.proofs.turned.Tie as tie
-use Rattle.gage.proofs.turned.Reads as reads
-use Rattle.gage.proofs.turned.Lts as lts
-use Rattle.gage.proofs.cells.products.Reads as products-reads
-use Rattle.gage.proofs.cells.substitute.Reads as substitute-reads
-use Rattle.gage.proofs.leader.Reads as leader-reads
-use Rattle.gage.proofs.shuffling.shuffle.Reads as shuffle-reads
 
 abbrev Inv-loop : tie.InvT-loop
 Inv-loop n k t a₀ i₀ a i = Left (take k leaders) n a₀ a i
@@ -26,19 +21,15 @@ Inv-loop n k t a₀ i₀ a i = Left (take k leaders) n a₀ a i
 abbrev μ-loop : tie.MeasureT-loop
 μ-loop n k t a₀ i₀ a i = k - i
 
--- src/lib.rt:94:9
 products-requires : tie.Need-products-requires Inv-loop μ-loop
 products-requires c κs = search needs
 
--- src/lib.rt:95:44
 leader-requires : tie.Need-leader-requires Inv-loop μ-loop
 leader-requires c κs = search needs
 
--- src/lib.rt:95:9
 substitute-requires : tie.Need-substitute-requires Inv-loop μ-loop
 substitute-requires c κs = (search needs, c .leader .ensures .1, rw (c .before .products .ensures) table-closed)
 
--- src/lib.rt:97:5
 loop-holds : tie.Need-loop-holds Inv-loop μ-loop
 unfolding leaders
 loop-holds c =
@@ -46,27 +37,21 @@ loop-holds c =
     let l : length (take k leaders) ≡ k = length-take-le k leaders (omega (arith, length-leaders)) in
     record { begun = search needs; turn = omega arith; fits = search needs; same = refl; rest = refl }
 
--- src/lib.rt:98:13
 shuffle-requires : tie.Need-shuffle-requires Inv-loop μ-loop
 shuffle-requires c κs = search needs
 
--- src/lib.rt:99:40
 leader-requires-2 : tie.Need-leader-requires-2 Inv-loop μ-loop
 leader-requires-2 c κs = search needs
 
--- src/lib.rt:99:9
 substitute-requires-2 : tie.Need-substitute-requires-2 Inv-loop μ-loop
 substitute-requires-2 c κs = (search needs, c .leader2 .ensures .1, rw (c .before .before .before .before .before .before .products .ensures) table-closed)
 
--- src/lib.rt:100:9
 add-i : tie.Need-add-i Inv-loop μ-loop
 add-i c = search needs
 
--- src/lib.rt:97:5
 loop-less : tie.Need-loop-less Inv-loop μ-loop
 loop-less c = search needs
 
--- src/lib.rt:97:5
 loop-again : tie.Need-loop-again Inv-loop μ-loop
 loop-again c =
     let k = c .before .before .before .before .before .before .before .before .args .k in
@@ -77,7 +62,6 @@ loop-again c =
     (changed (substitute table (c .before .leader2 .result)) (length-substitute table (c .before .leader2 .result)) _ _ _ (search needs)
     (rw (c .before .before .before .before .before .before .before .products .ensures) at (c .substitute2 .ensures)) (search needs))
 
--- src/lib.rt:90:1
 returns : tie.Need-returns Inv-loop μ-loop
 unfolding permute
 returns c =

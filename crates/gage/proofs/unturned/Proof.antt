@@ -1,24 +1,19 @@
-use Rattle.gage.proofs.Turning.{changed, Left, left-more, left-none, Undone, undone-none, undone-more, undone-all}
-use Rattle.gage.specs.States.{length-substitute, length-restore, length-shuffle, length-unshuffle}
-use Rattle.gage.specs.Permutation.{leaders, permute, unpermute}
+-- `unturned` meets its promise. The invariant: the turns of the leaders from i on are undone (`Undone`); the measure is i. Assumes nothing.
+use Rattle.gage.proofs.Turning.{changed, Undone, undone-none, undone-more, undone-all}
+use Rattle.gage.specs.States.{length-restore, length-unshuffle}
+use Rattle.gage.specs.Permutation.{leaders, unpermute}
 use Rattle.gage.specs.Tables.{length-leaders}
 use Rattle.gage.specs.Quasigroup.{table-closed}
-use Rattle.gage.specs.Shuffling.{shuffle, unshuffle}
-use Rattle.gage.specs.Cells.{table, substitute, restore}
+use Rattle.gage.specs.Shuffling.{unshuffle}
+use Rattle.gage.specs.Cells.{table, restore}
 use lib.Seq.{length-take-le, getD-take}
-use lib.ListN.{length, getD, take}
-use Prim.Native.Nat.{ℕ, _+_, _-_, _≤_, _<_}
-use mathlib.Core.Path.{_≡_, refl, sym, ap, _∙_}
+use lib.ListN.{length, take}
+use Prim.Native.Nat.{_-_, _≤_}
+use mathlib.Core.Path.{_≡_, sym, _∙_}
 use native.Mathlib.Omega.{arith}
 use borrow.Author.Needs.{needs}
 use Rattle.gage.proofs.unturned.Statement.{statement}
 use Rattle.gage.proofs.unturned.Tie as tie
-use Rattle.gage.proofs.unturned.Reads as reads
-use Rattle.gage.proofs.unturned.Lts as lts
-use Rattle.gage.proofs.cells.products.Reads as products-reads
-use Rattle.gage.proofs.cells.restore.Reads as restore-reads
-use Rattle.gage.proofs.leader.Reads as leader-reads
-use Rattle.gage.proofs.shuffling.unshuffle.Reads as unshuffle-reads
 
 abbrev Inv-loop : tie.InvT-loop
 Inv-loop n k t a₀ i₀ a i = (i ≤ k) × Undone (take k leaders) n a₀ a i
@@ -26,38 +21,30 @@ Inv-loop n k t a₀ i₀ a i = (i ≤ k) × Undone (take k leaders) n a₀ a i
 abbrev μ-loop : tie.MeasureT-loop
 μ-loop n k t a₀ i₀ a i = i
 
--- src/lib.rt:110:9
 products-requires : tie.Need-products-requires Inv-loop μ-loop
 products-requires c κs = search needs
 
--- src/lib.rt:113:5
 loop-holds : tie.Need-loop-holds Inv-loop μ-loop
 loop-holds c =
     let k = c .before .args .k in
     let l : length (take k leaders) ≡ k = length-take-le k leaders (omega (arith, length-leaders)) in
     (search needs, undone-none _ _ _ _ (search needs) (search needs) l)
 
--- src/lib.rt:114:9
 sub-i : tie.Need-sub-i Inv-loop μ-loop
 sub-i c = search needs
 
--- src/lib.rt:115:41
 leader-requires : tie.Need-leader-requires Inv-loop μ-loop
 leader-requires c κs = search needs
 
--- src/lib.rt:115:13
 restore-requires : tie.Need-restore-requires Inv-loop μ-loop
 restore-requires c κs = (search needs, c .leader .ensures .1, rw (c .before .before .before .products .ensures) table-closed)
 
--- src/lib.rt:116:9
 unshuffle-requires : tie.Need-unshuffle-requires Inv-loop μ-loop
 unshuffle-requires c κs = search needs
 
--- src/lib.rt:113:5
 loop-less : tie.Need-loop-less Inv-loop μ-loop
 loop-less c = search needs
 
--- src/lib.rt:113:5
 loop-again : tie.Need-loop-again Inv-loop μ-loop
 loop-again c =
     let k = c .before .before .before .before .before .before .args .k in (
@@ -69,15 +56,12 @@ loop-again c =
           (changed unshuffle length-unshuffle _ _ _ (search needs) (c .unshuffle .ensures) (search needs)),
     )
 
--- src/lib.rt:118:29
 leader-requires-2 : tie.Need-leader-requires-2 Inv-loop μ-loop
 leader-requires-2 c κs = search needs
 
--- src/lib.rt:118:5
 restore-requires-2 : tie.Need-restore-requires-2 Inv-loop μ-loop
 restore-requires-2 c κs = (search needs, c .leader2 .ensures .1, rw (c .before .before .before .products .ensures) table-closed)
 
--- src/lib.rt:106:1
 returns : tie.Need-returns Inv-loop μ-loop
 unfolding unpermute
 returns c =

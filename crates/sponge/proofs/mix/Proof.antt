@@ -49,9 +49,12 @@ loop-less c = search needs
 
 -- src/lib.rt:12:5
 loop-again : tie.Need-loop-again Inv-loop μ-loop
-loop-again c = 
-    (search needs, search needs, rw (c .before .before .before .loop .inv .2, add-one)
-    (xored-more _ _ (c .before .before .before .loop .i) (search needs) (search needs)))
+loop-again c = (
+  search needs,
+  search needs,
+  rw (c .before .before .before .loop .inv .2, add-one)
+      (xored-more _ _ (c .before .before .before .loop .i) (search needs) (search needs)),
+)
 
 -- src/lib.rt:7:1
 returns-2 : tie.Need-returns-2 Inv-loop μ-loop

@@ -1,17 +1,14 @@
+-- `restore` meets its promise. The invariant: the first i bytes are restored and what is left is restored from the cell p on
+-- (`Restored`); the measure is what is left. Assumes nothing.
 use lib.ListN.{getD}
 use mir.Syntax.{w8}
 use mir.Val.{Fits}
 use Rattle.gage.proofs.Substituting.{Restored, back-none, back-more, back-all}
-use lib.ListN.{length}
-use Prim.Native.Nat.{ℕ, _+_, _-_, _*_, _/_, _%_, _≤_, _<_}
-use mathlib.Core.Path.{_≡_, refl, sym, ap, _∙_}
+use Prim.Native.Nat.{_-_}
 use native.Mathlib.Omega.{arith}
 use borrow.Author.Needs.{needs}
 use Rattle.gage.proofs.cells.restore.Statement.{statement}
 use Rattle.gage.proofs.cells.restore.Tie as tie
-use Rattle.gage.proofs.cells.restore.Reads as reads
-use Rattle.gage.proofs.cells.restore.Lts as lts
-use Rattle.gage.proofs.cells.star.Reads as star-reads
 
 abbrev Inv-loop : tie.InvT-loop
 Inv-loop t n leader s out₀ p₀ i₀ out p i = Restored t leader s n out p i
@@ -19,96 +16,74 @@ Inv-loop t n leader s out₀ p₀ i₀ out p i = Restored t leader s n out p i
 abbrev μ-loop : tie.MeasureT-loop
 μ-loop t n leader s out₀ p₀ i₀ out p i = n - i
 
--- src/cells.rt:65:5
 loop-holds : tie.Need-loop-holds Inv-loop μ-loop
 loop-holds c = back-none _ _ _ _ (search needs) (c .pre .1)
 
--- src/cells.rt:66:17
 array-read-b : tie.Need-array-read-b Inv-loop μ-loop
 array-read-b c = search needs
 
--- src/cells.rt:66:17
 cast-b : tie.Need-cast-b Inv-loop μ-loop
 cast-b c = search needs
 
--- src/cells.rt:67:13
 star-requires : tie.Need-star-requires Inv-loop μ-loop
 star-requires c κs =
     let f : Fits w8 (getD (c .before .before .args .t2) (c .before .loop .i) 0) = search needs in
     (c .before .loop .inv .cell, omega (arith, f .fits), c .before .before .pre .2)
 
--- src/cells.rt:68:25
 cast-star : tie.Need-cast-star Inv-loop μ-loop
 cast-star c = search needs
 
--- src/cells.rt:68:13
 star-requires-2 : tie.Need-star-requires-2 Inv-loop μ-loop
 star-requires-2 c κs = search needs
 
--- src/cells.rt:69:25
 cast-star-2 : tie.Need-cast-star-2 Inv-loop μ-loop
 cast-star-2 c = search needs
 
--- src/cells.rt:69:13
 star-requires-3 : tie.Need-star-requires-3 Inv-loop μ-loop
 star-requires-3 c κs = search needs
 
--- src/cells.rt:70:25
 cast-star-3 : tie.Need-cast-star-3 Inv-loop μ-loop
 cast-star-3 c = search needs
 
--- src/cells.rt:70:13
 star-requires-4 : tie.Need-star-requires-4 Inv-loop μ-loop
 star-requires-4 c κs = search needs
 
--- src/cells.rt:71:18
 mul-out : tie.Need-mul-out Inv-loop μ-loop
 mul-out c = search needs
 
--- src/cells.rt:71:27
 mul-out-2 : tie.Need-mul-out-2 Inv-loop μ-loop
 mul-out-2 c = search needs
 
--- src/cells.rt:71:18
 add-out : tie.Need-add-out Inv-loop μ-loop
 add-out c = search needs
 
--- src/cells.rt:71:36
 mul-out-3 : tie.Need-mul-out-3 Inv-loop μ-loop
 mul-out-3 c = search needs
 
--- src/cells.rt:71:18
 add-out-2 : tie.Need-add-out-2 Inv-loop μ-loop
 add-out-2 c = search needs
 
--- src/cells.rt:71:18
 add-out-3 : tie.Need-add-out-3 Inv-loop μ-loop
 add-out-3 c = search needs
 
--- src/cells.rt:71:9
 array-write-out : tie.Need-array-write-out Inv-loop μ-loop
 array-write-out c = search needs
 
--- src/cells.rt:72:13
 cast-p : tie.Need-cast-p Inv-loop μ-loop
 cast-p c = search needs
 
--- src/cells.rt:73:9
 add-i : tie.Need-add-i Inv-loop μ-loop
 add-i c = search needs
 
--- src/cells.rt:65:5
 loop-less : tie.Need-loop-less Inv-loop μ-loop
 loop-less c = search needs
 
--- src/cells.rt:65:5
 loop-again : tie.Need-loop-again Inv-loop μ-loop
 loop-again c =
     back-more _ _ _ _ (search needs) _ _ _ _ _ _ _ (c .before .before .before .before .before .loop .inv) (search needs)
     (c .before .before .before .star .ensures .0) (c .before .before .star2 .ensures .0) (c .before .star3 .ensures .0)
     (c .star4 .ensures .0) (c .star4 .ensures .1)
 
--- src/cells.rt:58:1
 returns : tie.Need-returns Inv-loop μ-loop
 returns c = back-all _ _ _ _ (search needs) _ _ _ (c .before .loop .inv) (search needs)
 

@@ -1,14 +1,10 @@
+-- `substitute` meets its promise. The invariant: the first i bytes are substituted and p is the cell before the next
+-- (`Substituted`); the measure is what is left. Assumes nothing.
 use Rattle.gage.proofs.Substituting.{Substituted, sub-none, sub-more, sub-all}
-use lib.ListN.{length}
-use Prim.Native.Nat.{ℕ, _+_, _-_, _*_, _/_, _%_, _≤_, _<_}
-use mathlib.Core.Path.{_≡_, refl, sym, ap, _∙_}
-use native.Mathlib.Omega.{arith}
+use Prim.Native.Nat.{_-_}
 use borrow.Author.Needs.{needs}
 use Rattle.gage.proofs.cells.substitute.Statement.{statement}
 use Rattle.gage.proofs.cells.substitute.Tie as tie
-use Rattle.gage.proofs.cells.substitute.Reads as reads
-use Rattle.gage.proofs.cells.substitute.Lts as lts
-use Rattle.gage.proofs.cells.substituted_byte.Reads as substituted-byte-reads
 
 abbrev Inv-loop : tie.InvT-loop
 Inv-loop t n leader s out₀ p₀ i₀ out p i = Substituted t leader s n out p i
@@ -16,35 +12,27 @@ Inv-loop t n leader s out₀ p₀ i₀ out p i = Substituted t leader s n out p 
 abbrev μ-loop : tie.MeasureT-loop
 μ-loop t n leader s out₀ p₀ i₀ out p i = n - i
 
--- src/cells.rt:48:5
 loop-holds : tie.Need-loop-holds Inv-loop μ-loop
 loop-holds c = sub-none _ _ _ _ (search needs) (c .pre .1)
 
--- src/cells.rt:49:17
 array-read-b : tie.Need-array-read-b Inv-loop μ-loop
 array-read-b c = search needs
 
--- src/cells.rt:50:18
 substituted-byte-requires : tie.Need-substituted-byte-requires Inv-loop μ-loop
 substituted-byte-requires c κs = (c .before .loop .inv .cell, c .before .before .pre .2)
 
--- src/cells.rt:50:9
 array-write-out : tie.Need-array-write-out Inv-loop μ-loop
 array-write-out c = search needs
 
--- src/cells.rt:52:9
 add-i : tie.Need-add-i Inv-loop μ-loop
 add-i c = search needs
 
--- src/cells.rt:48:5
 loop-less : tie.Need-loop-less Inv-loop μ-loop
 loop-less c = search needs
 
--- src/cells.rt:48:5
 loop-again : tie.Need-loop-again Inv-loop μ-loop
 loop-again c = sub-more _ _ _ _ (search needs) _ _ _ _ (c .before .before .loop .inv) (search needs) (c .substituted-byte .ensures)
 
--- src/cells.rt:41:1
 returns : tie.Need-returns Inv-loop μ-loop
 returns c = sub-all _ _ _ _ (search needs) _ _ _ (c .before .loop .inv) (search needs)
 

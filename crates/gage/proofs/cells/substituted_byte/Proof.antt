@@ -1,53 +1,39 @@
+-- `substituted_byte` meets its promise: four products over the old cells, each below 4, make a byte. Assumes nothing.
 use Rattle.gage.specs.Cells.{substitutedByte}
-use native.Mathlib.Omega.{arith}
 use borrow.Author.Needs.{needs}
 use Rattle.gage.proofs.cells.substituted_byte.Statement.{statement}
 use Rattle.gage.proofs.cells.substituted_byte.Tie as tie
-use Rattle.gage.proofs.cells.substituted_byte.Reads as reads
-use Rattle.gage.proofs.cells.substituted_byte.Lts as lts
-use Rattle.gage.proofs.cells.star.Reads as star-reads
 
--- src/cells.rt:37:5
 star-requires : tie.Need-star-requires
 star-requires c κs = search needs
 
--- src/cells.rt:37:5
 mul-result : tie.Need-mul-result
 mul-result c = search needs
 
--- src/cells.rt:37:26
 star-requires-2 : tie.Need-star-requires-2
 star-requires-2 c κs = search needs
 
--- src/cells.rt:37:26
 mul-result-2 : tie.Need-mul-result-2
 mul-result-2 c = search needs
 
--- src/cells.rt:37:5
 add-result : tie.Need-add-result
 add-result c = search needs
 
--- src/cells.rt:37:47
 star-requires-3 : tie.Need-star-requires-3
 star-requires-3 c κs = search needs
 
--- src/cells.rt:37:47
 mul-result-3 : tie.Need-mul-result-3
 mul-result-3 c = search needs
 
--- src/cells.rt:37:5
 add-result-2 : tie.Need-add-result-2
 add-result-2 c = search needs
 
--- src/cells.rt:37:67
 star-requires-4 : tie.Need-star-requires-4
 star-requires-4 c κs = search needs
 
--- src/cells.rt:37:5
 add-result-3 : tie.Need-add-result-3
 add-result-3 c = search needs
 
--- src/cells.rt:27:1
 returns : tie.Need-returns
 unfolding substitutedByte
 returns c = search needs

@@ -1,104 +1,79 @@
+-- `gather` meets its promise: with the definition's weights every sum is one of linear arithmetic. Assumes nothing.
 use Rattle.gage.specs.Shuffling.{gathered, weighed}
 use native.Mathlib.Omega.{arith}
 use borrow.Author.Needs.{needs}
 use Rattle.gage.proofs.shuffling.gather.Statement.{statement}
 use Rattle.gage.proofs.shuffling.gather.Tie as tie
-use Rattle.gage.proofs.shuffling.gather.Reads as reads
-use Rattle.gage.proofs.shuffling.gather.Lts as lts
 
--- src/shuffling.rt:43:13
 array-read-result : tie.Need-array-read-result
 array-read-result c = search needs
 
--- src/shuffling.rt:43:5
 mul-result : tie.Need-mul-result
-mul-result c = rw (c .pre) (search needs)
+mul-result c = record { fits = rw (c .pre) (omega arith) }
 
--- src/shuffling.rt:44:23
 array-read-result-2 : tie.Need-array-read-result-2
 array-read-result-2 c = search needs
 
--- src/shuffling.rt:44:11
 mul-result-2 : tie.Need-mul-result-2
-mul-result-2 c = rw (c .pre) (search needs)
+mul-result-2 c = record { fits = rw (c .pre) (omega arith) }
 
--- src/shuffling.rt:43:5
 add-result : tie.Need-add-result
-add-result c = rw (c .pre) (search needs)
+add-result c = record { fits = rw (c .pre) (omega arith) }
 
--- src/shuffling.rt:45:23
 array-read-result-3 : tie.Need-array-read-result-3
 array-read-result-3 c = search needs
 
--- src/shuffling.rt:45:11
 mul-result-3 : tie.Need-mul-result-3
-mul-result-3 c = rw (c .pre) (search needs)
+mul-result-3 c = record { fits = rw (c .pre) (omega arith) }
 
--- src/shuffling.rt:43:5
 add-result-2 : tie.Need-add-result-2
-add-result-2 c = rw (c .pre) (search needs)
+add-result-2 c = record { fits = rw (c .pre) (omega arith) }
 
--- src/shuffling.rt:46:23
 array-read-result-4 : tie.Need-array-read-result-4
 array-read-result-4 c = search needs
 
--- src/shuffling.rt:46:11
 mul-result-4 : tie.Need-mul-result-4
-mul-result-4 c = rw (c .pre) (search needs)
+mul-result-4 c = record { fits = rw (c .pre) (omega arith) }
 
--- src/shuffling.rt:43:5
 add-result-3 : tie.Need-add-result-3
-add-result-3 c = rw (c .pre) (search needs)
+add-result-3 c = record { fits = rw (c .pre) (omega arith) }
 
--- src/shuffling.rt:47:24
 array-read-result-5 : tie.Need-array-read-result-5
 array-read-result-5 c = search needs
 
--- src/shuffling.rt:47:11
 mul-result-5 : tie.Need-mul-result-5
-mul-result-5 c = rw (c .pre) (search needs)
+mul-result-5 c = record { fits = rw (c .pre) (omega arith) }
 
--- src/shuffling.rt:43:5
 add-result-4 : tie.Need-add-result-4
-add-result-4 c = rw (c .pre) (search needs)
+add-result-4 c = record { fits = rw (c .pre) (omega arith) }
 
--- src/shuffling.rt:48:24
 array-read-result-6 : tie.Need-array-read-result-6
 array-read-result-6 c = search needs
 
--- src/shuffling.rt:48:11
 mul-result-6 : tie.Need-mul-result-6
-mul-result-6 c = rw (c .pre) (search needs)
+mul-result-6 c = record { fits = rw (c .pre) (omega arith) }
 
--- src/shuffling.rt:43:5
 add-result-5 : tie.Need-add-result-5
-add-result-5 c = rw (c .pre) (search needs)
+add-result-5 c = record { fits = rw (c .pre) (omega arith) }
 
--- src/shuffling.rt:49:24
 array-read-result-7 : tie.Need-array-read-result-7
 array-read-result-7 c = search needs
 
--- src/shuffling.rt:49:11
 mul-result-7 : tie.Need-mul-result-7
-mul-result-7 c = rw (c .pre) (search needs)
+mul-result-7 c = record { fits = rw (c .pre) (omega arith) }
 
--- src/shuffling.rt:43:5
 add-result-6 : tie.Need-add-result-6
-add-result-6 c = rw (c .pre) (search needs)
+add-result-6 c = record { fits = rw (c .pre) (omega arith) }
 
--- src/shuffling.rt:50:21
 array-read-result-8 : tie.Need-array-read-result-8
 array-read-result-8 c = search needs
 
--- src/shuffling.rt:50:11
 mul-result-8 : tie.Need-mul-result-8
-mul-result-8 c = rw (c .pre) (search needs)
+mul-result-8 c = record { fits = rw (c .pre) (omega arith) }
 
--- src/shuffling.rt:43:5
 add-result-7 : tie.Need-add-result-7
-add-result-7 c = rw (c .pre) (search needs)
+add-result-7 c = record { fits = rw (c .pre) (omega arith) }
 
--- src/shuffling.rt:39:1
 returns : tie.Need-returns
 unfolding gathered weighed
 returns c = rw (c .pre) (search needs)

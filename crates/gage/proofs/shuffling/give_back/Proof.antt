@@ -1,132 +1,100 @@
+-- `give_back` meets its promise: with the definition's weights every sum is one of linear arithmetic. Assumes nothing.
 use Rattle.gage.specs.Shuffling.{returned, weighed}
 use native.Mathlib.Omega.{arith}
 use borrow.Author.Needs.{needs}
 use Rattle.gage.proofs.shuffling.give_back.Statement.{statement}
 use Rattle.gage.proofs.shuffling.give_back.Tie as tie
-use Rattle.gage.proofs.shuffling.give_back.Reads as reads
-use Rattle.gage.proofs.shuffling.give_back.Lts as lts
 
--- src/shuffling.rt:58:9
 array-read-result : tie.Need-array-read-result
 array-read-result c = search needs
 
--- src/shuffling.rt:58:5
 div-result : tie.Need-div-result
 div-result c = rw (c .pre) (search needs)
 
--- src/shuffling.rt:59:15
 array-read-result-2 : tie.Need-array-read-result-2
 array-read-result-2 c = search needs
 
--- src/shuffling.rt:59:11
 div-result-2 : tie.Need-div-result-2
 div-result-2 c = rw (c .pre) (search needs)
 
--- src/shuffling.rt:59:11
 mul-result : tie.Need-mul-result
 mul-result c = rw (c .pre) (search needs)
 
--- src/shuffling.rt:58:5
 add-result : tie.Need-add-result
 add-result c = rw (c .pre) (search needs)
 
--- src/shuffling.rt:60:15
 array-read-result-3 : tie.Need-array-read-result-3
 array-read-result-3 c = search needs
 
--- src/shuffling.rt:60:11
 div-result-3 : tie.Need-div-result-3
 div-result-3 c = rw (c .pre) (search needs)
 
--- src/shuffling.rt:60:11
 mul-result-2 : tie.Need-mul-result-2
 mul-result-2 c = rw (c .pre) (search needs)
 
--- src/shuffling.rt:58:5
 add-result-2 : tie.Need-add-result-2
 add-result-2 c = rw (c .pre) (search needs)
 
--- src/shuffling.rt:61:15
 array-read-result-4 : tie.Need-array-read-result-4
 array-read-result-4 c = search needs
 
--- src/shuffling.rt:61:11
 div-result-4 : tie.Need-div-result-4
 div-result-4 c = rw (c .pre) (search needs)
 
--- src/shuffling.rt:61:11
 mul-result-3 : tie.Need-mul-result-3
 mul-result-3 c = rw (c .pre) (search needs)
 
--- src/shuffling.rt:58:5
 add-result-3 : tie.Need-add-result-3
 add-result-3 c = rw (c .pre) (search needs)
 
--- src/shuffling.rt:62:15
 array-read-result-5 : tie.Need-array-read-result-5
 array-read-result-5 c = search needs
 
--- src/shuffling.rt:62:11
 div-result-5 : tie.Need-div-result-5
 div-result-5 c = rw (c .pre) (search needs)
 
--- src/shuffling.rt:62:11
 mul-result-4 : tie.Need-mul-result-4
 mul-result-4 c = rw (c .pre) (search needs)
 
--- src/shuffling.rt:58:5
 add-result-4 : tie.Need-add-result-4
 add-result-4 c = rw (c .pre) (search needs)
 
--- src/shuffling.rt:63:15
 array-read-result-6 : tie.Need-array-read-result-6
 array-read-result-6 c = search needs
 
--- src/shuffling.rt:63:11
 div-result-6 : tie.Need-div-result-6
 div-result-6 c = rw (c .pre) (search needs)
 
--- src/shuffling.rt:63:11
 mul-result-5 : tie.Need-mul-result-5
 mul-result-5 c = rw (c .pre) (search needs)
 
--- src/shuffling.rt:58:5
 add-result-5 : tie.Need-add-result-5
 add-result-5 c = rw (c .pre) (search needs)
 
--- src/shuffling.rt:64:15
 array-read-result-7 : tie.Need-array-read-result-7
 array-read-result-7 c = search needs
 
--- src/shuffling.rt:64:11
 div-result-7 : tie.Need-div-result-7
 div-result-7 c = rw (c .pre) (search needs)
 
--- src/shuffling.rt:64:11
 mul-result-6 : tie.Need-mul-result-6
 mul-result-6 c = rw (c .pre) (search needs)
 
--- src/shuffling.rt:58:5
 add-result-6 : tie.Need-add-result-6
 add-result-6 c = rw (c .pre) (search needs)
 
--- src/shuffling.rt:65:15
 array-read-result-8 : tie.Need-array-read-result-8
 array-read-result-8 c = search needs
 
--- src/shuffling.rt:65:11
 div-result-8 : tie.Need-div-result-8
 div-result-8 c = rw (c .pre) (search needs)
 
--- src/shuffling.rt:65:11
 mul-result-7 : tie.Need-mul-result-7
 mul-result-7 c = rw (c .pre) (search needs)
 
--- src/shuffling.rt:58:5
 add-result-7 : tie.Need-add-result-7
 add-result-7 c = rw (c .pre) (search needs)
 
--- src/shuffling.rt:54:1
 returns : tie.Need-returns
 unfolding returned weighed
 returns c = rw (c .pre) (search needs)

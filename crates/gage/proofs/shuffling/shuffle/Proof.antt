@@ -1,18 +1,14 @@
+-- `shuffle` meets its promise. The invariant: the first i bytes of the shuffled state stand in out (`Filled`); the measure is
+-- what is left. Assumes nothing.
 use Rattle.gage.proofs.Wrapping.{shuffle-long, shuffle-more, shuffle-all}
 use Rattle.gage.specs.Shuffling.{shuffle}
 use Rattle.lists.specs.Fill.{Filled, filled-none}
-use lib.ListN.{length, take}
-use Prim.Native.Nat.{ℕ, _+_, _-_, _*_, _/_, _%_, _≤_, _<_}
-use mathlib.Core.Path.{_≡_, refl, sym, ap, _∙_}
+use lib.ListN.{take}
+use Prim.Native.Nat.{_-_}
 use native.Mathlib.Omega.{arith}
 use borrow.Author.Needs.{needs}
 use Rattle.gage.proofs.shuffling.shuffle.Statement.{statement}
 use Rattle.gage.proofs.shuffling.shuffle.Tie as tie
-use Rattle.gage.proofs.shuffling.shuffle.Reads as reads
-use Rattle.gage.proofs.shuffling.shuffle.Lts as lts
-use Rattle.gage.proofs.shuffling.gather.Reads as gather-reads
-use Rattle.gage.proofs.shuffling.weights.Reads as weights-reads
-use Rattle.gage.proofs.shuffling.wrapped.Reads as wrapped-reads
 
 abbrev Inv-loop : tie.InvT-loop
 Inv-loop n w e out₀ i₀ out i = Filled (shuffle (take n out₀)) out₀ out i
@@ -20,99 +16,75 @@ Inv-loop n w e out₀ i₀ out i = Filled (shuffle (take n out₀)) out₀ out i
 abbrev μ-loop : tie.MeasureT-loop
 μ-loop n w e out₀ i₀ out i = n - i
 
--- src/shuffling.rt:96:9
 weights-requires : tie.Need-weights-requires Inv-loop μ-loop
 weights-requires c κs = search needs
 
--- src/shuffling.rt:97:13
 wrapped-requires : tie.Need-wrapped-requires Inv-loop μ-loop
 wrapped-requires c κs = search needs
 
--- src/shuffling.rt:100:5
 loop-holds : tie.Need-loop-holds Inv-loop μ-loop
 loop-holds c = filled-none _ _ (omega (arith, shuffle-long (c .before .before .args .s) (c .before .before .args .n) (search needs) (search needs)))
 
--- src/shuffling.rt:103:13
 array-read-gather : tie.Need-array-read-gather Inv-loop μ-loop
 array-read-gather c = search needs
 
--- src/shuffling.rt:104:15
 add-gather : tie.Need-add-gather Inv-loop μ-loop
 add-gather c = search needs
 
--- src/shuffling.rt:104:13
 array-read-gather-2 : tie.Need-array-read-gather-2 Inv-loop μ-loop
 array-read-gather-2 c = search needs
 
--- src/shuffling.rt:105:15
 add-gather-2 : tie.Need-add-gather-2 Inv-loop μ-loop
 add-gather-2 c = search needs
 
--- src/shuffling.rt:105:13
 array-read-gather-3 : tie.Need-array-read-gather-3 Inv-loop μ-loop
 array-read-gather-3 c = search needs
 
--- src/shuffling.rt:106:15
 add-gather-3 : tie.Need-add-gather-3 Inv-loop μ-loop
 add-gather-3 c = search needs
 
--- src/shuffling.rt:106:13
 array-read-gather-4 : tie.Need-array-read-gather-4 Inv-loop μ-loop
 array-read-gather-4 c = search needs
 
--- src/shuffling.rt:107:15
 add-gather-4 : tie.Need-add-gather-4 Inv-loop μ-loop
 add-gather-4 c = search needs
 
--- src/shuffling.rt:107:13
 array-read-gather-5 : tie.Need-array-read-gather-5 Inv-loop μ-loop
 array-read-gather-5 c = search needs
 
--- src/shuffling.rt:108:15
 add-gather-5 : tie.Need-add-gather-5 Inv-loop μ-loop
 add-gather-5 c = search needs
 
--- src/shuffling.rt:108:13
 array-read-gather-6 : tie.Need-array-read-gather-6 Inv-loop μ-loop
 array-read-gather-6 c = search needs
 
--- src/shuffling.rt:109:15
 add-gather-6 : tie.Need-add-gather-6 Inv-loop μ-loop
 add-gather-6 c = search needs
 
--- src/shuffling.rt:109:13
 array-read-gather-7 : tie.Need-array-read-gather-7 Inv-loop μ-loop
 array-read-gather-7 c = search needs
 
--- src/shuffling.rt:110:15
 add-gather-7 : tie.Need-add-gather-7 Inv-loop μ-loop
 add-gather-7 c = search needs
 
--- src/shuffling.rt:110:13
 array-read-gather-8 : tie.Need-array-read-gather-8 Inv-loop μ-loop
 array-read-gather-8 c = search needs
 
--- src/shuffling.rt:101:18
 gather-requires : tie.Need-gather-requires Inv-loop μ-loop
 gather-requires c κs = c .before .before .before .weights .ensures
 
--- src/shuffling.rt:101:9
 array-write-out : tie.Need-array-write-out Inv-loop μ-loop
 array-write-out c = search needs
 
--- src/shuffling.rt:112:9
 add-i : tie.Need-add-i Inv-loop μ-loop
 add-i c = search needs
 
--- src/shuffling.rt:100:5
 loop-less : tie.Need-loop-less Inv-loop μ-loop
 loop-less c = search needs
 
--- src/shuffling.rt:100:5
 loop-again : tie.Need-loop-again Inv-loop μ-loop
 loop-again c = shuffle-more _ _ (search needs) (search needs) _ _ _ _ (c .before .before .before .wrapped .ensures) (c .before .before .loop .inv) (search needs) (c .gather .ensures)
 
--- src/shuffling.rt:92:1
 returns : tie.Need-returns Inv-loop μ-loop
 returns c = shuffle-all (c .before .before .before .before .args .s) (c .before .before .before .before .args .n) (search needs) (search needs) _ _ (c .before .loop .inv) (search needs)
 

@@ -1,18 +1,14 @@
+-- `unshuffle` meets its promise. The invariant: the first i bytes of the unshuffled state stand in out (`Filled`); the measure
+-- is what is left. Assumes nothing.
 use Rattle.gage.proofs.Wrapping.{unshuffle-long, unshuffle-more, unshuffle-all}
 use Rattle.gage.specs.Shuffling.{unshuffle}
 use Rattle.lists.specs.Fill.{Filled, filled-none}
-use lib.ListN.{length, take}
-use Prim.Native.Nat.{ℕ, _+_, _-_, _*_, _/_, _%_, _≤_, _<_}
-use mathlib.Core.Path.{_≡_, refl, sym, ap, _∙_}
+use lib.ListN.{take}
+use Prim.Native.Nat.{_-_}
 use native.Mathlib.Omega.{arith}
 use borrow.Author.Needs.{needs}
 use Rattle.gage.proofs.shuffling.unshuffle.Statement.{statement}
 use Rattle.gage.proofs.shuffling.unshuffle.Tie as tie
-use Rattle.gage.proofs.shuffling.unshuffle.Reads as reads
-use Rattle.gage.proofs.shuffling.unshuffle.Lts as lts
-use Rattle.gage.proofs.shuffling.give_back.Reads as give-back-reads
-use Rattle.gage.proofs.shuffling.weights.Reads as weights-reads
-use Rattle.gage.proofs.shuffling.wrapped.Reads as wrapped-reads
 
 abbrev Inv-loop : tie.InvT-loop
 Inv-loop n w e out₀ i₀ out i = Filled (unshuffle (take n out₀)) out₀ out i
@@ -20,103 +16,78 @@ Inv-loop n w e out₀ i₀ out i = Filled (unshuffle (take n out₀)) out₀ out
 abbrev μ-loop : tie.MeasureT-loop
 μ-loop n w e out₀ i₀ out i = n - i
 
--- src/shuffling.rt:122:9
 weights-requires : tie.Need-weights-requires Inv-loop μ-loop
 weights-requires c κs = search needs
 
--- src/shuffling.rt:123:27
 sub-wrapped : tie.Need-sub-wrapped Inv-loop μ-loop
 sub-wrapped c = search needs
 
--- src/shuffling.rt:123:13
 wrapped-requires : tie.Need-wrapped-requires Inv-loop μ-loop
 wrapped-requires c κs = search needs
 
--- src/shuffling.rt:126:5
 loop-holds : tie.Need-loop-holds Inv-loop μ-loop
 loop-holds c = filled-none _ _ (omega (arith, unshuffle-long (c .before .before .args .s) (c .before .before .args .n) (search needs) (search needs)))
 
--- src/shuffling.rt:129:15
 add-give-back : tie.Need-add-give-back Inv-loop μ-loop
 add-give-back c = search needs
 
--- src/shuffling.rt:129:13
 array-read-give-back : tie.Need-array-read-give-back Inv-loop μ-loop
 array-read-give-back c = search needs
 
--- src/shuffling.rt:130:15
 add-give-back-2 : tie.Need-add-give-back-2 Inv-loop μ-loop
 add-give-back-2 c = search needs
 
--- src/shuffling.rt:130:13
 array-read-give-back-2 : tie.Need-array-read-give-back-2 Inv-loop μ-loop
 array-read-give-back-2 c = search needs
 
--- src/shuffling.rt:131:15
 add-give-back-3 : tie.Need-add-give-back-3 Inv-loop μ-loop
 add-give-back-3 c = search needs
 
--- src/shuffling.rt:131:13
 array-read-give-back-3 : tie.Need-array-read-give-back-3 Inv-loop μ-loop
 array-read-give-back-3 c = search needs
 
--- src/shuffling.rt:132:15
 add-give-back-4 : tie.Need-add-give-back-4 Inv-loop μ-loop
 add-give-back-4 c = search needs
 
--- src/shuffling.rt:132:13
 array-read-give-back-4 : tie.Need-array-read-give-back-4 Inv-loop μ-loop
 array-read-give-back-4 c = search needs
 
--- src/shuffling.rt:133:15
 add-give-back-5 : tie.Need-add-give-back-5 Inv-loop μ-loop
 add-give-back-5 c = search needs
 
--- src/shuffling.rt:133:13
 array-read-give-back-5 : tie.Need-array-read-give-back-5 Inv-loop μ-loop
 array-read-give-back-5 c = search needs
 
--- src/shuffling.rt:134:15
 add-give-back-6 : tie.Need-add-give-back-6 Inv-loop μ-loop
 add-give-back-6 c = search needs
 
--- src/shuffling.rt:134:13
 array-read-give-back-6 : tie.Need-array-read-give-back-6 Inv-loop μ-loop
 array-read-give-back-6 c = search needs
 
--- src/shuffling.rt:135:15
 add-give-back-7 : tie.Need-add-give-back-7 Inv-loop μ-loop
 add-give-back-7 c = search needs
 
--- src/shuffling.rt:135:13
 array-read-give-back-7 : tie.Need-array-read-give-back-7 Inv-loop μ-loop
 array-read-give-back-7 c = search needs
 
--- src/shuffling.rt:136:13
 array-read-give-back-8 : tie.Need-array-read-give-back-8 Inv-loop μ-loop
 array-read-give-back-8 c = search needs
 
--- src/shuffling.rt:127:18
 give-back-requires : tie.Need-give-back-requires Inv-loop μ-loop
 give-back-requires c κs = c .before .before .before .weights .ensures
 
--- src/shuffling.rt:127:9
 array-write-out : tie.Need-array-write-out Inv-loop μ-loop
 array-write-out c = search needs
 
--- src/shuffling.rt:138:9
 add-i : tie.Need-add-i Inv-loop μ-loop
 add-i c = search needs
 
--- src/shuffling.rt:126:5
 loop-less : tie.Need-loop-less Inv-loop μ-loop
 loop-less c = search needs
 
--- src/shuffling.rt:126:5
 loop-again : tie.Need-loop-again Inv-loop μ-loop
 loop-again c = unshuffle-more _ _ (search needs) (search needs) _ _ _ _ (c .before .before .before .wrapped .ensures) (c .before .before .loop .inv) (search needs) (c .give-back .ensures)
 
--- src/shuffling.rt:118:1
 returns : tie.Need-returns Inv-loop μ-loop
 returns c = unshuffle-all (c .before .before .before .before .args .s) (c .before .before .before .before .args .n) (search needs) (search needs) _ _ (c .before .loop .inv) (search needs)
 

@@ -1,33 +1,24 @@
+-- `wrapped` meets its promise: two joins make the state and seven bytes around (`wrapped-is`). Assumes nothing.
 use Rattle.gage.proofs.Wrapping.{wrapped-is}
-use native.Mathlib.Omega.{arith}
 use borrow.Author.Needs.{needs}
 use Rattle.gage.proofs.shuffling.wrapped.Statement.{statement}
 use Rattle.gage.proofs.shuffling.wrapped.Tie as tie
-use Rattle.gage.proofs.shuffling.wrapped.Reads as reads
-use Rattle.gage.proofs.shuffling.wrapped.Lts as lts
-use Rattle.gage.proofs.shuffling.join.Reads as join-reads
 
--- src/shuffling.rt:87:41
 sub-join : tie.Need-sub-join
 sub-join c = search needs
 
--- src/shuffling.rt:87:9
 join-requires : tie.Need-join-requires
 join-requires c κs = search needs
 
--- src/shuffling.rt:88:13
 sub-join-2 : tie.Need-sub-join-2
 sub-join-2 c = search needs
 
--- src/shuffling.rt:88:29
 add-join : tie.Need-add-join
 add-join c = search needs
 
--- src/shuffling.rt:88:5
 join-requires-2 : tie.Need-join-requires-2
 join-requires-2 c κs = search needs
 
--- src/shuffling.rt:83:1
 returns : tie.Need-returns
 returns c = wrapped-is _ _ _ _ _ _ (c .before .before .pre .0) (c .before .join .ensures) (c .join2 .ensures)
 
