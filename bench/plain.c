@@ -1,0 +1,106 @@
+/* The same work in plain C, as a careful programmer writes it from the papers: two-bit cells by look-up, one byte at a time.
+   Compiled twice: with PLAIN_WRAPPED the shuffle reads a copy with seven bytes wrapped around, without it it takes the index
+   modulo the size, as a reference implementation does. */
+#include "plain.h"
+#include <string.h>
+
+static const uint8_t product[4][4] = {{1, 0, 3, 2}, {0, 2, 1, 3}, {2, 3, 0, 1}, {3, 1, 2, 0}};
+static const uint8_t leader[32] = {0, 3, 0, 3, 0, 1, 2, 3, 2, 1, 2, 3, 2, 1, 2, 3,
+                                   0, 1, 2, 3, 2, 3, 0, 3, 2, 3, 2, 3, 2, 1, 2, 1};
+static const uint8_t place[8] = {1, 3, 5, 8, 7, 6, 2, 4};
+static const uint16_t instance[10][2] = {{232, 8},  {240, 16}, {256, 32},  {288, 64}, {272, 16},
+                                         {288, 32}, {320, 64}, {384, 128}, {544, 32}, {576, 64}};
+
+static void substitute(uint8_t *s, size_t n, uint8_t l)
+{
+    for (size_t i = 0; i < n; i++) {
+        uint8_t b = s[i];
+        uint8_t a0 = b >> 6, a1 = b >> 4 & 3, a2 = b >> 2 & 3, a3 = b & 3;
+        s[i] = (uint8_t)(product[l][a0] << 6 | product[a0][a1] << 4 | product[a1][a2] << 2 | product[a2][a3]);
+        l = a3;
+    }
+}
+
+#ifdef PLAIN_WRAPPED
+static void shuffle(uint8_t *s, size_t n)
+{
+    uint8_t e[72 + 7];
+    memcpy(e, s, n);
+    memcpy(e + n, s, 7);
+    for (size_t i = 0; i < n; i++) {
+        unsigned out = 0;
+        for (unsigned j = 0; j < 8; j++)
+            out |= (e[i + j] >> j & 1u) << (8 - place[j]);
+        s[i] = (uint8_t)out;
+    }
+}
+#else
+static void shuffle(uint8_t *s, size_t n)
+{
+    uint8_t e[72];
+    memcpy(e, s, n);
+    for (size_t i = 0; i < n; i++) {
+        unsigned out = 0;
+        for (unsigned j = 0; j < 8; j++)
+            out |= (e[(i + j) % n] >> j & 1u) << (8 - place[j]);
+        s[i] = (uint8_t)out;
+    }
+}
+#endif
+
+static void rounds(uint8_t *s, size_t n, unsigned k)
+{
+    substitute(s, n, leader[0]);
+    for (unsigned i = 1; i < k; i++) {
+        shuffle(s, n);
+        substitute(s, n, leader[i]);
+    }
+}
+
+void PLAIN(permute)(uint8_t *s, size_t n) { rounds(s, n, 32); }
+
+void PLAIN(digest)(unsigned number, const uint8_t *m, size_t length, uint8_t *out)
+{
+    size_t n = instance[number - 1][0] / 8, R = instance[number - 1][1] / 8;
+    uint8_t s[72] = {0};
+    for (; length >= R; m += R, length -= R) {
+        for (size_t i = 0; i < R; i++)
+            s[i] ^= m[i];
+        rounds(s, n, 32);
+    }
+    for (size_t i = 0; i < length; i++)
+        s[i] ^= m[i];
+    s[length] ^= 0x80;
+    rounds(s, n, 32);
+    for (size_t i = 0; i < 32; i += R) {
+        rounds(s, n, 32);
+        memcpy(out + i, s, R);
+    }
+}
+
+void PLAIN(seal)(const uint8_t key[16], const uint8_t nonce[12], const uint8_t *a, size_t alen, const uint8_t *m, size_t mlen,
+                 uint8_t *out, uint8_t seal[16])
+{
+    uint8_t s[72] = {0};
+    memcpy(s, nonce, 12);
+    memcpy(s + 12, key, 16);
+    rounds(s, 29, 32);
+    for (size_t i = 0; i < 16; i++)
+        s[12 + i] ^= key[i];
+    for (size_t i = 0; i < alen; i++) {
+        s[0] ^= a[i];
+        rounds(s, 29, 16);
+    }
+    s[0] ^= 0x81;
+    rounds(s, 29, 16);
+    s[28] ^= 0x01;
+    for (size_t i = 0; i < mlen; i++) {
+        out[i] = s[0] ^= m[i];
+        rounds(s, 29, 16);
+    }
+    s[0] ^= 0x80;
+    rounds(s, 29, 16);
+    s[28] ^= 0x02;
+    rounds(s, 29, 32);
+    memcpy(seal, s + 1, 16);
+}
