@@ -1,0 +1,49 @@
+// Hexadecimal text in lent buffers, for the programs: bytes to upper-case digits, and digits of either case to bytes.
+// The promises cite specs/Hex.antt.
+ghost use mathlib.Core.Path.{_≡_};
+ghost use Prim.Native.Nat.{_<_};
+ghost use Rattle.text.specs.Hex.{digit, hexLength, hexOut, valueOf};
+
+// What a character is as a hexadecimal digit.
+pub enum Digit {
+    Value(u8),
+    Not,
+}
+
+// The upper-case digit of a number below 16.
+fn digit_of(n: u8) -> u8
+    requires { ⌜ n < 16 ⌝ }
+    ensures { λ r. ⌜ r ≡ digit n ⌝ }
+{
+    if n < 10 { 0x30 + n } else { 0x37 + n }
+}
+
+// Two digits for each byte at the start of out, for as many bytes as there is room; the number of digits.
+pub fn put_hex(bytes: &[u8], out: &mut [u8]) -> usize
+    ensures { λ r. ⌜ r ≡ hexLength (now (bytes .entry)) (now (out .entry)) ⌝ }
+    ensures { λ _. ⌜ now (out .exit) ≡ hexOut (now (bytes .entry)) (now (out .entry)) ⌝ }
+{
+    let mut i = 0;
+    while i < bytes.len() {
+        if i >= out.len() / 2 {
+            return 2 * i;
+        }
+        let b = bytes[i];
+        out[2 * i] = digit_of(b / 16);
+        out[2 * i + 1] = digit_of(b % 16);
+        i += 1;
+    }
+    2 * i
+}
+
+// The value of a hexadecimal digit of either case.
+pub fn value(c: u8) -> Digit
+    ensures { λ r. ⌜ r ≡ valueOf c ⌝ }
+{
+    match c {
+        0x30..=0x39 => Digit::Value(c - 0x30),
+        0x41..=0x46 => Digit::Value(c - 0x37),
+        0x61..=0x66 => Digit::Value(c - 0x57),
+        _ => Digit::Not,
+    }
+}
