@@ -1,4 +1,4 @@
--- Laws of bytes XORed into a state: what stays, what comes back, one byte more. Assumes nothing.
+-- Laws of bytes XORed into a state: what stays, one byte more, and no more bytes than the state has. Assumes nothing.
 use mathlib.Core.Path.{_≡_, refl, ap}
 use mathlib.Core.List.{List, [], _∷_}
 use Prim.Native.Nat.{ℕ, zero, suc, _≤_, _<_}
