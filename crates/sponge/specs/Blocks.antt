@@ -3,7 +3,7 @@
 use mathlib.Core.Path.{_≡_, refl, sym, ap, _∙_}
 use mathlib.Core.List.{List, _∷_, _++_}
 use Prim.Native.Nat.{ℕ, zero, suc, _+_, _-_, _*_, _/_, _%_, _≤_, _<_}
-use native.Mathlib.Nat.{mod-lt, mod-eq-of-lt, div-eq-of-lt, div-add-mod', suc-mul, mul-le-mul-right, not-suc-le-zero, le-of-suc-le-suc}
+use native.Mathlib.Nat.{mod-lt, mod-eq-of-lt, div-eq-of-lt, div-add-mod', suc-mul, mul-le-mul-right, div-mul-le-self, le-trans, not-suc-le-zero, le-of-suc-le-suc}
 use native.Mathlib.Numerals.{add-one}
 use native.Mathlib.Decide.{decLe}
 use native.Mathlib.Omega.{arith}
@@ -19,6 +19,10 @@ blocks-suc i R = ap (λ (n : ℕ). n * R) (add-one i) ∙ suc-mul i R
 -- a message is its whole blocks and a rest shorter than a block
 pub whole-rest : (R n : ℕ) → 0 < R → (n / R * R + n % R ≡ n) × (n % R < R)
 whole-rest R n pos = (div-add-mod' n R, mod-lt n pos)
+
+-- a whole block ends no later than the message
+pub whole-ends : (R n i : ℕ) → i < n / R → (i + 1) * R ≤ n
+whole-ends R n i h = le-trans (mul-le-mul-right R (omega arith)) (div-mul-le-self n R)
 
 -- Algorithm 3's block count
 pub length-padded : (R : ℕ) (m : List ℕ) → 0 < R → length (padded R m) ≡ blockCount R m * R
@@ -79,7 +83,7 @@ block-take R m i = elim (decLe ((i + 1) * R) (length m)) [
   | no h ↦ rw (take-all ((i + 1) * R) m (omega (arith, h)))
 ]
 
-take-replicate : (k n a : ℕ) → k ≤ n → take k (replicate n a) ≡ replicate k a
+pub take-replicate : (k n a : ℕ) → k ≤ n → take k (replicate n a) ≡ replicate k a
 take-replicate zero n a h = refl
 take-replicate (suc k) zero a h = absurd (not-suc-le-zero h)
 take-replicate (suc k) (suc n) a h = ap (λ (l : List ℕ). a ∷ l) (take-replicate k n a (le-of-suc-le-suc h))
