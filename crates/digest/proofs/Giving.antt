@@ -15,7 +15,7 @@ use Rattle.sponge.specs.Blocks.{blocks-suc}
 use Rattle.digest.specs.Instances.{DIGEST}
 use Rattle.digest.specs.Shapes.{Fits}
 use Rattle.digest.specs.Hashing.{begun, squeezed}
-use Rattle.digest.proofs.Taking.{size-room}
+use Rattle.digest.proofs.Taking.{LARGEST, size-room}
 
 -- after j of k outputs from the state s, at bytes
 pub record Given (n R k : ℕ) (s hash t : List ℕ) (at j : ℕ) : Type 0 where
@@ -23,17 +23,19 @@ pub record Given (n R k : ℕ) (s hash t : List ℕ) (at j : ℕ) : Type 0 where
   pub makes : k * R ≡ DIGEST
   pub turns : j ≤ k
   pub place : at ≡ j * R
+  pub long : length t ≡ LARGEST
   pub room : length hash ≡ DIGEST
   pub state : take n t ≡ squeezed R (begun (take n s)) j .run .state
   pub put : take at hash ≡ squeezed R (begun (take n s)) j .hash
 
-pub given-none : {n R k : ℕ} (s : List ℕ) → Fits n R → k * R ≡ DIGEST → Given n R k s (replicate DIGEST 0) s 0 0
+pub given-none : {n R k : ℕ} (s : List ℕ) → length s ≡ LARGEST → Fits n R → k * R ≡ DIGEST → Given n R k s (replicate DIGEST 0) s 0 0
 unfolding squeezed
-given-none {n} {R} {k} s f e = record {
+given-none {n} {R} {k} s l f e = record {
   fits = f;
   makes = e;
   turns = omega arith;
   place = sym (zero-mul R);
+  long = l;
   room = refl;
   state = refl;
   put = refl;
@@ -80,7 +82,7 @@ module _ (hash x : List ℕ) (at R : ℕ) (room : length hash ≡ DIGEST) (long 
       ∙ take-append-add (take at hash) (x ++ d) R
       ∙ ap (λ (l : List ℕ). take at hash ++ l) (take-at x d R long)
 
-pub given-more : {n R k : ℕ} {s hash t u : List ℕ} {at j : ℕ} → Given n R k s hash t at j → j < k → length u ≡ 72
+pub given-more : {n R k : ℕ} {s hash t u : List ℕ} {at j : ℕ} → Given n R k s hash t at j → j < k → length u ≡ LARGEST
     → take n u ≡ permute ROUNDS (take n t) → (w : List ℕ) → w ≡ copied (take (R - 0) (drop 0 u)) (take (DIGEST - at) (drop at hash))
     → Given n R k s (putMid at (DIGEST - at) hash w) u (at + R) (j + 1)
 unfolding squeezed
@@ -98,6 +100,7 @@ given-more {n} {R} {k} {s} {hash} {t} {u} {at} {j} g h l p w e =
       makes = g .makes;
       turns = omega arith;
       place = let place : at ≡ j * R = g .place in omega (arith, blocks-suc j R);
+      long = l;
       room = rw v (length-copied hash (take R u) at R (g .room) long ends);
       state = rw (add-one j) st;
       put = rw (v, add-one j) (first-copied hash (take R u) at R (g .room) long ends ∙ rw (g .put, first));

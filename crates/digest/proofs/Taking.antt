@@ -17,6 +17,10 @@ use Rattle.sponge.specs.Xor.{take-xored}
 use Rattle.digest.specs.Shapes.{Fits}
 use Rattle.digest.specs.Hashing.{absorbed}
 
+-- the bytes that a state by value holds, as many as the largest permitted size
+abbrev pub LARGEST : ℕ
+LARGEST = 72
+
 -- after i whole blocks, at bytes of the message
 pub record Taken (n R : ℕ) (m s : List ℕ) (at i : ℕ) : Type 0 where
   pub fits : Fits n R
@@ -25,16 +29,16 @@ pub record Taken (n R : ℕ) (m s : List ℕ) (at i : ℕ) : Type 0 where
   pub state : take n s ≡ absorbed n R m i .state
 
 -- a size has room for every block
-pub size-room : {n R : ℕ} → Fits n R → (R ≤ n) × (n ≤ 72)
+pub size-room : {n R : ℕ} → Fits n R → (R ≤ n) × (n ≤ LARGEST)
 size-room f = let s = permitted-size _ (f .permits) in let l = f .least in (omega arith, s .1)
 
-pub taken-none : {n R : ℕ} (m : List ℕ) → Fits n R → Taken n R m (replicate 72 0) 0 0
+pub taken-none : {n R : ℕ} (m : List ℕ) → Fits n R → Taken n R m (replicate LARGEST 0) 0 0
 unfolding absorbed
 taken-none {n} {R} m f = record {
   fits = f;
   turns = omega arith;
   place = sym (zero-mul R);
-  state = take-replicate n 72 0 (size-room f .1);
+  state = take-replicate n LARGEST 0 (size-room f .1);
 }
 
 -- one block, then the permutation

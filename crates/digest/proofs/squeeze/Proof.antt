@@ -14,7 +14,7 @@ abbrev μ-loop : tie.MeasureT-loop
 μ-loop size rate outputs hash₀ t₀ at₀ k₀ hash t at k = outputs - k
 
 loop-holds : tie.Need-loop-holds Inv-loop μ-loop
-loop-holds c = given-none (c .args .s) (c .pre .0) (c .pre .1)
+loop-holds c = given-none (c .args .s) (search needs) (c .pre .0) (c .pre .1)
 
 turned-requires : tie.Need-turned-requires Inv-loop μ-loop
 turned-requires c κs = search needs
