@@ -58,22 +58,43 @@ fn number_of(answer: Digested) -> usize {
     }
 }
 
-// One row: instance, length, calls of the permutation, digest.
-fn row(instance: usize, message: &mut [u8], length: usize) {
+// A number and the blank behind it.
+fn cell(n: usize) {
+    number(n);
+    say(b" ");
+}
+
+fn show(instance: usize, length: usize, count: usize, out: &[u8]) {
+    cell(instance);
+    cell(length);
+    cell(count);
+    hex(out);
+    say(b"\n");
+}
+
+fn show_refused(instance: usize, length: usize, room: usize, answer: Digested) {
+    say(b"refused ");
+    cell(instance);
+    cell(length);
+    cell(room);
+    number(number_of(answer));
+    say(b"\n");
+}
+
+// The digest of the message of that length.
+fn tried(instance: usize, message: &mut [u8], length: usize, out: &mut [u8]) -> Digested {
     if length > message.len() {
-        return;
+        return Digested::TooLong;
     }
     fill(message, length);
+    digest::digest(instance, &message[0..length], out)
+}
+
+// One row: instance, length, calls of the permutation, digest.
+fn row(instance: usize, message: &mut [u8], length: usize) {
     let mut out = [0u8; DIGEST];
-    let answer = digest::digest(instance, &message[0..length], &mut out);
-    number(instance);
-    say(b" ");
-    number(length);
-    say(b" ");
-    number(count_of(answer));
-    say(b" ");
-    hex(&out);
-    say(b"\n");
+    let answer = tried(instance, message, length, &mut out);
+    show(instance, length, count_of(answer), &out);
 }
 
 // All lengths from 0 to two blocks and two bytes.
@@ -109,23 +130,11 @@ fn all_rows(message: &mut [u8]) {
 // A call that is refused: instance, length, room, number.
 fn refused(instance: usize, message: &mut [u8], length: usize, room: usize) {
     let mut out = [0u8; DIGEST];
-    if length > message.len() {
-        return;
-    }
     if room > DIGEST {
         return;
     }
-    fill(message, length);
-    let answer = digest::digest(instance, &message[0..length], &mut out[0..room]);
-    say(b"refused ");
-    number(instance);
-    say(b" ");
-    number(length);
-    say(b" ");
-    number(room);
-    say(b" ");
-    number(number_of(answer));
-    say(b"\n");
+    let answer = tried(instance, message, length, &mut out[0..room]);
+    show_refused(instance, length, room, answer);
 }
 
 fn refused_rows(message: &mut [u8]) {
@@ -142,13 +151,10 @@ fn refused_rows(message: &mut [u8]) {
 // A buffer longer than the digest: its rest stays.
 fn rest_row(message: &mut [u8]) {
     let mut out = [0xA5u8; 40];
-    if 3 <= message.len() {
-        fill(message, 3);
-        digest::digest(1, &message[0..3], &mut out);
-        say(b"rest 1 3 40 ");
-        hex(&out);
-        say(b"\n");
-    }
+    tried(1, message, 3, &mut out);
+    say(b"rest 1 3 40 ");
+    hex(&out);
+    say(b"\n");
 }
 
 fn main() {
