@@ -1,0 +1,52 @@
+// The C interface: each proved call under its C name, thin. include/lubdhvani.h is its manual; numbers are document 01's, and
+// counts, lengths and places go out through references to numbers. The promises cite specs/Calls.antt.
+ghost use mathlib.Core.Path.{_≡_};
+ghost use lib.ListN.{length, replicate};
+ghost use Rattle.lists.specs.Buffers.{copied};
+ghost use Rattle.gage.specs.Permutation.{ROUNDS, permute, unpermute};
+ghost use Rattle.lubdhvani.specs.Calls.{permuteNumber, permuteState};
+use gage::Answer;
+use gage::LARGEST;
+
+// A state of at most LARGEST bytes at the start of a whole one.
+fn widened(state: &[u8]) -> [u8; LARGEST]
+    ensures { λ r. ⌜ r ≡ copied (now (state .entry)) (replicate 72 0) ⌝ }
+{
+    let mut s = [0u8; LARGEST];
+    lists::copy(state, &mut s);
+    s
+}
+
+// The permutation on a state where it stands.
+#[no_mangle]
+pub extern "C" fn lubdhvani_permute(state: &mut [u8]) -> u32
+    ensures { λ r. ⌜ r ≡ permuteNumber (length (now (state .entry))) ⌝ }
+    ensures { λ _. ⌜ now (state .exit) ≡ permuteState (permute ROUNDS) (now (state .entry)) ⌝ }
+{
+    let n = state.len();
+    if n > LARGEST {
+        return gage::number(Answer::Size);
+    }
+    let r = gage::permute(widened(state), n);
+    let permuted = r.state;
+    let answer = r.answer;
+    lists::copy(&permuted, state);
+    gage::number(answer)
+}
+
+// Its inverse.
+#[no_mangle]
+pub extern "C" fn lubdhvani_unpermute(state: &mut [u8]) -> u32
+    ensures { λ r. ⌜ r ≡ permuteNumber (length (now (state .entry))) ⌝ }
+    ensures { λ _. ⌜ now (state .exit) ≡ permuteState (unpermute ROUNDS) (now (state .entry)) ⌝ }
+{
+    let n = state.len();
+    if n > LARGEST {
+        return gage::number(Answer::Size);
+    }
+    let r = gage::unpermute(widened(state), n);
+    let permuted = r.state;
+    let answer = r.answer;
+    lists::copy(&permuted, state);
+    gage::number(answer)
+}
