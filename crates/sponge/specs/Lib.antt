@@ -1,3 +1,5 @@
 pub mod Padding
+pub mod Blocks
 pub mod Absorbing
 pub mod Xor
+pub mod Turns
