@@ -1,11 +1,11 @@
 -- A permutation of a whole state of 72 bytes, seen on the bytes that a caller lent. Assumes nothing.
-use mathlib.Core.Path.{_≡_, refl, sym, ap, _∙_}
+use mathlib.Core.Path.{_≡_, refl}
 use mathlib.Core.Bool.{Bool, true, false}
 use mathlib.Core.List.{List, _++_, append-nil}
 use Prim.Native.Nat.{ℕ, _≤_, _<_}
 use native.Mathlib.Omega.{arith}
-use lib.ListN.{length, take, drop, replicate, length-replicate, drop-of-length-le}
-use lib.Seq.{take-all, take-at, drop-length}
+use lib.ListN.{length, take, drop, replicate, drop-of-length-le}
+use lib.Seq.{take-all, take-at}
 use Rattle.lists.specs.Buffers.{copied}
 use Rattle.gage.specs.Permutation.{permitted, numberOf, answered}
 use Rattle.gage.specs.Answers.{answered-done, answered-size}

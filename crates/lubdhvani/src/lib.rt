@@ -3,8 +3,11 @@
 ghost use mathlib.Core.Path.{_≡_};
 ghost use lib.ListN.{length, replicate};
 ghost use Rattle.lists.specs.Buffers.{copied};
+ghost use Rattle.digest.specs.Answers.{digestAnswer, digestOut};
+ghost use Rattle.digest.specs.Answers as hashing;
 ghost use Rattle.gage.specs.Permutation.{ROUNDS, permute, unpermute};
 ghost use Rattle.lubdhvani.specs.Calls.{permuteNumber, permuteState};
+use digest::Digested;
 use gage::Answer;
 use gage::LARGEST;
 
@@ -49,4 +52,44 @@ pub extern "C" fn lubdhvani_unpermute(state: &mut [u8]) -> u32
     let answer = r.answer;
     lists::copy(&permuted, state);
     gage::number(answer)
+}
+
+// Document 01's number and the count of a digest's answer.
+fn digest_number(answer: Digested) -> u32
+    ensures { λ r. ⌜ r ≡ hashing.numberOf answer ⌝ }
+{
+    match answer {
+        Digested::Done(_) => 0,
+        Digested::Instance => 1,
+        Digested::TooLong => 3,
+        Digested::NoRoom => 4,
+    }
+}
+
+fn digest_count(answer: Digested) -> usize
+    ensures { λ r. ⌜ r ≡ hashing.countOf answer ⌝ }
+{
+    match answer {
+        Digested::Done(calls) => calls,
+        Digested::Instance => 0,
+        Digested::TooLong => 0,
+        Digested::NoRoom => 0,
+    }
+}
+
+// The digest of a message.
+#[no_mangle]
+pub extern "C" fn lubdhvani_digest(
+    instance: usize,
+    message: &[u8],
+    out: &mut [u8],
+    calls: &mut usize,
+) -> u32
+    ensures { λ r. ⌜ r ≡ hashing.numberOf (digestAnswer instance (now (message .entry)) (now (out .entry))) ⌝ }
+    ensures { λ _. ⌜ now (out .exit) ≡ digestOut instance (now (message .entry)) (now (out .entry)) ⌝ }
+    ensures { λ _. ⌜ now (calls .exit) ≡ hashing.countOf (digestAnswer instance (now (message .entry)) (now (out .entry))) ⌝ }
+{
+    let answer = digest::digest(instance, message, out);
+    *calls = digest_count(answer);
+    digest_number(answer)
 }

@@ -1,55 +1,41 @@
+-- `lubdhvani_unpermute` meets its promise: a state larger than any permitted one is refused, and the others are unpermuted in a whole state of
+-- their own (`in-place`). Assumes nothing.
 use Rattle.lubdhvani.specs.InPlace.{in-place, too-large-refused}
-use Rattle.gage.specs.States.{length-permute, length-unpermute}
-use Rattle.gage.specs.Permutation.{ROUNDS, permute, unpermute}
+use Rattle.gage.specs.States.{length-unpermute}
+use Rattle.gage.specs.Permutation.{ROUNDS, unpermute}
 use mathlib.Core.Path.{_∙_}
-use native.Mathlib.Omega.{arith}
 use borrow.Author.Needs.{needs}
 use Rattle.lubdhvani.proofs.lubdhvani_unpermute.Statement.{statement}
 use Rattle.lubdhvani.proofs.lubdhvani_unpermute.Tie as tie
-use Rattle.lubdhvani.proofs.lubdhvani_unpermute.Reads as reads
-use Rattle.lubdhvani.proofs.lubdhvani_unpermute.Lts as lts
-use Rattle.gage.proofs.number.Reads as number-reads
-use Rattle.gage.proofs.unpermute.Reads as unpermute-reads
-use Rattle.lists.proofs.copy.Reads as copy-reads
-use Rattle.lubdhvani.proofs.widened.Reads as widened-reads
 
--- src/lib.rt:45:9
 number-requires : tie.Need-number-requires
 number-requires c κs = search needs
 
--- src/lib.rt:45:9
 returns : tie.Need-returns
-returns c = 
+returns c =
     let refused = too-large-refused (unpermute ROUNDS) (c .before .before .before .args .state .now) (c .before .if1 .taken) in
     (c .number .ensures ∙ refused .0, refused .1)
 
--- src/lib.rt:47:29
 widened-requires : tie.Need-widened-requires
 widened-requires c κs = search needs
 
--- src/lib.rt:47:9
 unpermute-requires : tie.Need-unpermute-requires
 unpermute-requires c κs = search needs
 
--- src/lib.rt:50:17
 slice-aggregate-copy : tie.Need-slice-aggregate-copy
 slice-aggregate-copy c = search needs
 
--- src/lib.rt:50:5
 copy-requires : tie.Need-copy-requires
 copy-requires c κs = search needs
 
--- src/lib.rt:51:5
 number-requires-2 : tie.Need-number-requires-2
 number-requires-2 c κs = search needs
 
--- src/lib.rt:38:1
 same-length : tie.Need-same-length
 same-length c = search needs
 
--- src/lib.rt:38:1
 returns-2 : tie.Need-returns-2
-returns-2 c = 
+returns-2 c =
     let done =
     in-place (unpermute ROUNDS) (length-unpermute ROUNDS) (c .before .before .before .before .before .before .before .before .before .before .before .before .args .state .now) (search needs) (c .before .before .before .before .before .before .before .unpermute .result)
     (c .before .before .before .before .before .before .before .unpermute .ensures ∙ rw (c .before .before .before .before .before .before .before .before .widened .ensures)) in
