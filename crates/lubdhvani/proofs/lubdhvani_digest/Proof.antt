@@ -20,7 +20,7 @@ same-length c = search needs
 returns : tie.Need-returns
 returns c =
     let done = c .before .before .before .before .digest .ensures in
-    (c .digest-number .ensures ∙ ap numberOf (done .0), done .1, c .before .digest-count .ensures ∙ ap countOf (done .0))
+    (c .digest-number .ensures ∙ ap numberOf (done .0), (done .1, c .before .digest-count .ensures ∙ ap countOf (done .0)))
 
 pub lubdhvani-digest-spec : {M : Type 1} → statement M
 lubdhvani-digest-spec =
