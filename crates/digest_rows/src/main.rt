@@ -12,6 +12,10 @@ fn say(text: &[u8]) {
     io::write_all(STDOUT_FILENO, text);
 }
 
+fn byte(x: u8) {
+    io::print_hex(STDOUT_FILENO, x as u64, 2);
+}
+
 fn number(n: usize) {
     io::print_decimal(STDOUT_FILENO, n as u64);
 }
@@ -19,16 +23,16 @@ fn number(n: usize) {
 fn hex(bytes: &[u8]) {
     let mut i = 0;
     while i < bytes.len() {
-        io::print_hex(STDOUT_FILENO, bytes[i] as u64, 2);
+        byte(bytes[i]);
         i += 1;
     }
 }
 
-// Message byte i is 7*i + length, mod 256.
-fn fill(message: &mut [u8], length: usize) {
-    let mut x = (length % 256) as u8;
+// Byte i of a message of n bytes is 7*i + n, mod 256.
+fn fill(message: &mut [u8], n: usize) {
+    let mut x = (n % 256) as u8;
     let mut i = 0;
-    while i < length {
+    while i < n {
         if i >= message.len() {
             return;
         }
@@ -74,11 +78,11 @@ fn row(instance: usize, message: &mut [u8], length: usize) {
 
 // All lengths from 0 to two blocks and two bytes.
 fn short_rows(instance: usize, rate: usize, message: &mut [u8]) {
-    let last = std::num::wrapping_add_usize(std::num::wrapping_add_usize(rate, rate), 2);
-    let mut length = 0;
-    while length <= last {
-        row(instance, message, length);
-        length += 1;
+    let end = std::num::wrapping_add_usize(std::num::wrapping_add_usize(rate, rate), 3);
+    let mut n = 0;
+    while n < end {
+        row(instance, message, n);
+        n += 1;
     }
 }
 
