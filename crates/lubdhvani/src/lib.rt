@@ -6,6 +6,7 @@ ghost use Rattle.lists.specs.Buffers.{copied};
 ghost use Rattle.digest.specs.Answers.{digestAnswer, digestOut};
 ghost use Rattle.digest.specs.Answers as hashing;
 ghost use Rattle.gage.specs.Permutation.{ROUNDS, permute, unpermute};
+ghost use Rattle.stream.specs.Stretches.{nextSpan};
 ghost use Rattle.lubdhvani.specs.Calls.{permuteNumber, permuteState};
 use digest::Digested;
 use gage::Answer;
@@ -92,4 +93,20 @@ pub extern "C" fn lubdhvani_digest(
     let answer = digest::digest(instance, message, out);
     *calls = digest_count(answer);
     digest_number(answer)
+}
+
+// The places of the next stretch.
+#[no_mangle]
+pub extern "C" fn lubdhvani_next_stretch(
+    stream: &[u8],
+    from: usize,
+    first: &mut usize,
+    closing: &mut usize,
+)
+    ensures { λ _. ⌜ now (first .exit) ≡ nextSpan (now (stream .entry)) from .first ⌝ }
+    ensures { λ _. ⌜ now (closing .exit) ≡ nextSpan (now (stream .entry)) from .closing ⌝ }
+{
+    let span = stream::next_span(stream, from);
+    *first = span.first;
+    *closing = span.closing;
 }
