@@ -1,10 +1,13 @@
--- The promises of `permute`, `permute_half` and `unpermute`, as the check reads them (`Post`), admit a single answer.
+-- The promises of `permute`, `permute_half`, `unpermute` and `number`, as the check reads them (`Post`), admit a single answer.
 -- Assumes nothing.
 use mathlib.Core.Path.{_≡_, sym, _∙_}
 use contract.Lifetimes.{Lfts}
 use denote.Triple.Clauses.{AtExit}
 use borrow.Fn.Kinds.{Dens, endedOf}
 use Rattle.gage.specs.declared.Permuted.{Permuted}
+use Prim.Native.Nat.{ℕ}
+use Rattle.gage.proofs.number.Kinds as number-kinds
+use Rattle.gage.proofs.number.Reads as number-reads
 use Rattle.gage.proofs.permute.Kinds as permute-kinds
 use Rattle.gage.proofs.permute.Reads as permute-reads
 use Rattle.gage.proofs.permute_half.Kinds as permute-half-kinds
@@ -25,3 +28,7 @@ pub unpermute-single : (κs : Lfts 0) (a : Dens κs unpermute-kinds.ps) (r r′ 
     (x x′ : AtExit (endedOf 0 unpermute-kinds.ps unpermute-kinds.r) κs)
     → unpermute-reads.Post κs a r x → unpermute-reads.Post κs a r′ x′ → r ≡ r′
 unpermute-single κs a r r′ x x′ p q = p ∙ sym q
+
+pub number-single : (κs : Lfts 0) (a : Dens κs number-kinds.ps) (r r′ : ℕ) (x x′ : AtExit (endedOf 0 number-kinds.ps number-kinds.r) κs)
+    → number-reads.Post κs a r x → number-reads.Post κs a r′ x′ → r ≡ r′
+number-single κs a r r′ x x′ p q = p ∙ sym q

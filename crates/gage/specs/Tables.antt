@@ -58,3 +58,11 @@ pub permitted-size : (n : ℕ) → permitted n ≡ true → (29 ≤ n) × (n ≤
 unfolding permitted
 permitted-size n e =
     (leb→le 29 n (among-rule (λ x. leb 29 x) sizes 0 n tt e), leb→le n 72 (among-rule (λ x. leb x 72) sizes 0 n tt e))
+
+-- a state of more than 72 bytes is not
+pub too-large : (n : ℕ) → 72 < n → permitted n ≡ false
+too-large n h = decided (permitted n) refl
+  where
+    decided : (b : Bool) → permitted n ≡ b → permitted n ≡ false
+    decided true e = absurd (omega (arith, permitted-size n e .1))
+    decided false e = e

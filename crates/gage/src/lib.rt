@@ -7,7 +7,7 @@ ghost use mathlib.Core.Path.{_≡_};
 ghost use mathlib.Core.List.{_++_};
 ghost use Prim.Native.Nat.{_/_, _<_, _≤_};
 ghost use lib.ListN.{getD, length, take, drop};
-ghost use Rattle.gage.specs.Permutation.{ROUNDS, leaders, permitted, permuteBy, permute, unpermuteBy, unpermute, answered};
+ghost use Rattle.gage.specs.Permutation.{ROUNDS, leaders, numberOf, permitted, permuteBy, permute, unpermuteBy, unpermute, answered};
 
 // The largest permitted state, in bytes.
 pub const LARGEST: usize = 72;
@@ -64,6 +64,17 @@ pub struct Permuted {
     pub state: [u8; LARGEST],
 }
 
+// Document 01's number of an answer.
+pub fn number(answer: Answer) -> u32
+    ensures { λ r. ⌜ r ≡ numberOf answer ⌝ }
+{
+    match answer {
+        Answer::Done => 0,
+        Answer::Size => 1,
+    }
+}
+
+// The leader of round i, counted from 0.
 fn leader(i: usize) -> u8
     requires { ⌜ i < 32 ⌝ }
     ensures { λ r. ⌜ (r ≡ getD leaders i 0) × (r < 4) ⌝ }

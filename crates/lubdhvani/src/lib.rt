@@ -1,0 +1,112 @@
+// The C interface: each proved call under its C name, thin. include/lubdhvani.h is its manual; numbers are document 01's, and
+// counts, lengths and places go out through references to numbers. The promises cite specs/Calls.antt.
+ghost use mathlib.Core.Path.{_≡_};
+ghost use lib.ListN.{length, replicate};
+ghost use Rattle.lists.specs.Buffers.{copied};
+ghost use Rattle.digest.specs.Answers.{digestAnswer, digestOut};
+ghost use Rattle.digest.specs.Answers as hashing;
+ghost use Rattle.gage.specs.Permutation.{ROUNDS, permute, unpermute};
+ghost use Rattle.stream.specs.Stretches.{nextSpan};
+ghost use Rattle.lubdhvani.specs.Calls.{permuteNumber, permuteState};
+use digest::Digested;
+use gage::Answer;
+use gage::LARGEST;
+
+// A state of at most LARGEST bytes at the start of a whole one.
+fn widened(state: &[u8]) -> [u8; LARGEST]
+    ensures { λ r. ⌜ r ≡ copied (now (state .entry)) (replicate 72 0) ⌝ }
+{
+    let mut s = [0u8; LARGEST];
+    lists::copy(state, &mut s);
+    s
+}
+
+// The permutation on a state where it stands.
+#[no_mangle]
+pub extern "C" fn lubdhvani_permute(state: &mut [u8]) -> u32
+    ensures { λ r. ⌜ r ≡ permuteNumber (length (now (state .entry))) ⌝ }
+    ensures { λ _. ⌜ now (state .exit) ≡ permuteState (permute ROUNDS) (now (state .entry)) ⌝ }
+{
+    let n = state.len();
+    if n > LARGEST {
+        return gage::number(Answer::Size);
+    }
+    let r = gage::permute(widened(state), n);
+    let permuted = r.state;
+    let answer = r.answer;
+    lists::copy(&permuted, state);
+    gage::number(answer)
+}
+
+// Its inverse.
+#[no_mangle]
+pub extern "C" fn lubdhvani_unpermute(state: &mut [u8]) -> u32
+    ensures { λ r. ⌜ r ≡ permuteNumber (length (now (state .entry))) ⌝ }
+    ensures { λ _. ⌜ now (state .exit) ≡ permuteState (unpermute ROUNDS) (now (state .entry)) ⌝ }
+{
+    let n = state.len();
+    if n > LARGEST {
+        return gage::number(Answer::Size);
+    }
+    let r = gage::unpermute(widened(state), n);
+    let permuted = r.state;
+    let answer = r.answer;
+    lists::copy(&permuted, state);
+    gage::number(answer)
+}
+
+// Document 01's number and the count of a digest's answer.
+fn digest_number(answer: Digested) -> u32
+    ensures { λ r. ⌜ r ≡ hashing.numberOf answer ⌝ }
+{
+    match answer {
+        Digested::Done(_) => 0,
+        Digested::Instance => 1,
+        Digested::TooLong => 3,
+        Digested::NoRoom => 4,
+    }
+}
+
+fn digest_count(answer: Digested) -> usize
+    ensures { λ r. ⌜ r ≡ hashing.countOf answer ⌝ }
+{
+    match answer {
+        Digested::Done(calls) => calls,
+        Digested::Instance => 0,
+        Digested::TooLong => 0,
+        Digested::NoRoom => 0,
+    }
+}
+
+// The digest of a message.
+#[no_mangle]
+pub extern "C" fn lubdhvani_digest(
+    instance: usize,
+    message: &[u8],
+    out: &mut [u8],
+    calls: &mut usize,
+) -> u32
+    ensures { λ r. ⌜ r ≡ hashing.numberOf (digestAnswer instance (now (message .entry)) (now (out .entry))) ⌝ }
+    ensures { λ _. ⌜ now (out .exit) ≡ digestOut instance (now (message .entry)) (now (out .entry)) ⌝ }
+    ensures { λ _. ⌜ now (calls .exit) ≡ hashing.countOf (digestAnswer instance (now (message .entry)) (now (out .entry))) ⌝ }
+{
+    let answer = digest::digest(instance, message, out);
+    *calls = digest_count(answer);
+    digest_number(answer)
+}
+
+// The places of the next stretch.
+#[no_mangle]
+pub extern "C" fn lubdhvani_next_stretch(
+    stream: &[u8],
+    from: usize,
+    first: &mut usize,
+    closing: &mut usize,
+)
+    ensures { λ _. ⌜ now (first .exit) ≡ nextSpan (now (stream .entry)) from .first ⌝ }
+    ensures { λ _. ⌜ now (closing .exit) ≡ nextSpan (now (stream .entry)) from .closing ⌝ }
+{
+    let span = stream::next_span(stream, from);
+    *first = span.first;
+    *closing = span.closing;
+}

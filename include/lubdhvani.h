@@ -1,0 +1,107 @@
+/* Lubdhvani: the seal software of a cheque composer, for C.
+ *
+ * GAGE digests the font, InGAGE seals each magnetic-ink line to that digest, and a framed job stream brings sealed lines to the
+ * press. Every call takes every input and returns: nothing traps, allocates or keeps a pointer. Each call is proved to do what
+ * is said here (docs/PROMISES.md); the numbers, their order and the sizes are the paper's.
+ *
+ * Rules for every call
+ *  - A pointer is to as many bytes as the length behind it says, readable, or writable where it is not const. With a length of 0 the
+ *    pointer may be anything, NULL included.
+ *  - Buffers that are written overlap no other argument of the call.
+ *  - The return value is one of the numbers below. They are tested in the order 1, 2, 3, 9, 4, 10; the first that holds is given.
+ *  - `calls` (and `length`, `first`, `closing`) are always written: counts of calls of the permutation, lengths, places.
+ *  - Nothing is written but what is named; the rest of a longer buffer stays as it was.
+ *
+ * Link with target/staticlib/liblubdhvani.a, which `rt staticlib lubdhvani` makes.
+ */
+#ifndef LUBDHVANI_H
+#define LUBDHVANI_H
+
+#include <stddef.h>
+#include <stdint.h>
+
+#ifdef __cplusplus
+extern "C" {
+#endif
+
+/* Sizes in bytes. */
+enum {
+    LUBDHVANI_LARGEST_STATE = 72,      /* permitted states: 29 30 32 34 36 40 48 68 72 */
+    LUBDHVANI_DIGEST = 32,             /* a digest, and the least room for one */
+    LUBDHVANI_LONGEST_INPUT = 65536,   /* a message to digest, and a stream to read */
+    LUBDHVANI_KEY = 16,
+    LUBDHVANI_NONCE = 12,
+    LUBDHVANI_SEAL = 16,
+    LUBDHVANI_LONGEST_ASSOCIATED = 1024,
+    LUBDHVANI_LONGEST_TEXT = 4096,     /* a message to seal, and a ciphertext to open */
+    LUBDHVANI_LONGEST_LINE = 65,       /* a line has 1 to 65 bytes; also the least room for a line */
+    LUBDHVANI_FRAME = 276,             /* the least room for a frame */
+    LUBDHVANI_LONGEST_STRETCH = 274,   /* a longer one is refused with 7 */
+    LUBDHVANI_INSTANCES = 10           /* hash instances are 1 to 10; fonts are digested with 1 */
+};
+
+/* Numbers returned. */
+enum {
+    LUBDHVANI_DONE = 0,        /* done, or the end of the stream */
+    LUBDHVANI_INSTANCE = 1,    /* unknown hash instance, or state size not permitted */
+    LUBDHVANI_SIZES = 2,       /* key, nonce, digest, seal or seal buffer not 16, 12, 32, 16, 16 bytes */
+    LUBDHVANI_TOO_LONG = 3,    /* an input over its limit, or the writer's line not 1 to 65 bytes */
+    LUBDHVANI_NO_ROOM = 4,     /* a buffer too small */
+    LUBDHVANI_BAD_SEAL = 5,    /* the seal is not the one worked out */
+    LUBDHVANI_BAD_STUFFING = 6,
+    LUBDHVANI_BAD_SHAPE = 7,   /* a stretch over 274 bytes, or fields not as they must be */
+    LUBDHVANI_OTHER_FONT = 8,  /* the font digest differs from the one asked for */
+    LUBDHVANI_UNLISTED = 9,    /* the line holds a byte that is not listed */
+    LUBDHVANI_BEYOND = 10      /* the place is beyond the stream's end */
+};
+
+/* The permutation of 32 rounds on a state of `size` bytes, where it stands, and its inverse.
+ * 0: the state is permuted. 1: `size` is not permitted, and nothing is written. */
+uint32_t lubdhvani_permute(uint8_t *state, size_t size);
+uint32_t lubdhvani_unpermute(uint8_t *state, size_t size);
+
+/* The digest of a message with hash instance 1 to 10.
+ * 0: out[0..32] is the digest, *calls the count. 1, 3 (over 65,536 bytes), 4 (room under 32): out is untouched, *calls is 0. */
+uint32_t lubdhvani_digest(size_t instance, const uint8_t *message, size_t message_length, uint8_t *out, size_t room,
+                          size_t *calls);
+
+/* Seals a message. `seal` is the buffer for the seal, of exactly 16 bytes.
+ * 0: out[0..message_length] is the ciphertext, seal the seal, *calls = associated_length + message_length + 4.
+ * 2, 3 (associated data over 1,024 or message over 4,096), 4 (room under the message's length): out and seal are untouched, *calls
+ * is 0. A nonce must never be used twice with one key; none is made here. */
+uint32_t lubdhvani_seal(const uint8_t *key, size_t key_length, const uint8_t *nonce, size_t nonce_length,
+                        const uint8_t *associated, size_t associated_length, const uint8_t *message, size_t message_length,
+                        uint8_t *out, size_t room, uint8_t *seal, size_t seal_length, size_t *calls);
+
+/* Opens a ciphertext. All sixteen bytes of the seal are compared.
+ * 0: out[0..cipher_length] is the message, *calls the count. 2, 3, 4 as above: out is untouched, *calls is 0.
+ * 5: out[0..cipher_length] is zero, the rest stays, *calls is the count of the finished work. */
+uint32_t lubdhvani_open(const uint8_t *key, size_t key_length, const uint8_t *nonce, size_t nonce_length,
+                        const uint8_t *associated, size_t associated_length, const uint8_t *cipher, size_t cipher_length,
+                        const uint8_t *seal, size_t seal_length, uint8_t *out, size_t room, size_t *calls);
+
+/* Writes the frame of a line, sealed to a font's digest.
+ * 0: frame[0..*length] is the frame with both its marks, *calls = line_length + 39.
+ * 2, 3 (line not 1 to 65 bytes), 9, 4 (room under 276): frame is untouched, *length and *calls are 0. */
+uint32_t lubdhvani_write(const uint8_t *key, size_t key_length, const uint8_t *nonce, size_t nonce_length, const uint8_t *font,
+                         size_t font_length, const uint8_t *line, size_t line_length, uint8_t *frame, size_t room,
+                         size_t *length, size_t *calls);
+
+/* The next stretch of a stream of any length: the first whose opening mark stands at `from` or later.
+ * *first is the place of its first byte, *closing that of its closing mark. Where there is none both are stream_length. */
+void lubdhvani_next_stretch(const uint8_t *stream, size_t stream_length, size_t from, size_t *first, size_t *closing);
+
+/* Judges the next stretch from a place and gives out its line.
+ * 0 with *length > 0: line[0..*length] is the line. 0 with *length = 0: the end of the stream, *first = *closing = stream_length.
+ * 5, 6, 7, 8, 9: the stretch from *first up to *closing is refused; line is untouched. Reading goes on from *closing in each of
+ * these cases. 2, 3, 4, 10: the call is refused, *first = *closing = from, line is untouched.
+ * *calls is line length + 39 for a line, 5 and 9, else 0. */
+uint32_t lubdhvani_read(const uint8_t *stream, size_t stream_length, size_t from, const uint8_t *key, size_t key_length,
+                        const uint8_t *font, size_t font_length, uint8_t *line, size_t room, size_t *first, size_t *closing,
+                        size_t *length, size_t *calls);
+
+#ifdef __cplusplus
+}
+#endif
+
+#endif
