@@ -1,11 +1,14 @@
 // The substitution over two-bit cells, a byte at a time, and its inverse (specs/Cells.antt).
 // The table of products is four rows of four, passed whole.
+use crate::LARGEST;
 ghost use mathlib.Core.Path.{_≡_};
 ghost use mathlib.Core.List.{_++_};
 ghost use Prim.Native.Nat.{_<_, _≤_};
 ghost use lib.ListN.{take, drop};
+ghost use Rattle.gage.specs.Sizes.{LARGEST};
 ghost use Rattle.gage.specs.Cells.{Closed, table, star, substitutedByte, substitute, restore};
 
+// The table x * y (document 000, expression 1.1), rows first.
 const TABLE: [[u8; 4]; 4] = [[1, 0, 3, 2], [0, 2, 1, 3], [2, 3, 0, 1], [3, 1, 2, 0]];
 
 // The table x * y.
@@ -38,8 +41,8 @@ fn substituted_byte(t: [[u8; 4]; 4], p: u8, b: u8) -> u8
 }
 
 // The first n bytes of s substituted with a leader.
-pub fn substitute(t: [[u8; 4]; 4], s: [u8; 72], n: usize, leader: u8) -> [u8; 72]
-    requires { ⌜ (n ≤ 72) × (leader < 4) × Closed t ⌝ }
+pub fn substitute(t: [[u8; 4]; 4], s: [u8; LARGEST], n: usize, leader: u8) -> [u8; LARGEST]
+    requires { ⌜ (n ≤ LARGEST) × (leader < 4) × Closed t ⌝ }
     ensures { λ r. ⌜ r ≡ substitute t leader (take n s) ++ drop n s ⌝ }
 {
     let mut out = s;
@@ -55,8 +58,8 @@ pub fn substitute(t: [[u8; 4]; 4], s: [u8; 72], n: usize, leader: u8) -> [u8; 72
 }
 
 // The first n bytes of s before a substitution with a leader: each cell from the one just recovered.
-pub fn restore(t: [[u8; 4]; 4], s: [u8; 72], n: usize, leader: u8) -> [u8; 72]
-    requires { ⌜ (n ≤ 72) × (leader < 4) × Closed t ⌝ }
+pub fn restore(t: [[u8; 4]; 4], s: [u8; LARGEST], n: usize, leader: u8) -> [u8; LARGEST]
+    requires { ⌜ (n ≤ LARGEST) × (leader < 4) × Closed t ⌝ }
     ensures { λ r. ⌜ r ≡ restore t leader (take n s) ++ drop n s ⌝ }
 {
     let mut out = s;

@@ -5,6 +5,7 @@ ghost use lib.ListN.{length, replicate};
 ghost use Rattle.lists.specs.Buffers.{copied};
 ghost use Rattle.digest.specs.Answers.{digestAnswer, digestOut};
 ghost use Rattle.digest.specs.Answers as hashing;
+ghost use Rattle.gage.specs.Sizes.{LARGEST};
 ghost use Rattle.gage.specs.Permutation.{ROUNDS, permute, unpermute};
 ghost use Rattle.stream.specs.Stretches.{nextSpan};
 ghost use Rattle.lubdhvani.specs.Calls.{permuteNumber, permuteState};
@@ -14,7 +15,7 @@ use gage::LARGEST;
 
 // A state of at most LARGEST bytes at the start of a whole one.
 fn widened(state: &[u8]) -> [u8; LARGEST]
-    ensures { λ r. ⌜ r ≡ copied (now (state .entry)) (replicate 72 0) ⌝ }
+    ensures { λ r. ⌜ r ≡ copied (now (state .entry)) (replicate LARGEST 0) ⌝ }
 {
     let mut s = [0u8; LARGEST];
     lists::copy(state, &mut s);
