@@ -26,7 +26,7 @@ fn star(t: [[u8; 4]; 4], x: usize, y: usize) -> u8
     t[x][y]
 }
 
-// One byte of the substitution, after the cell p.
+// One byte of the substitution, after the cell p. The table is read where it stands: a call for each product would copy it.
 fn substituted_byte(t: [[u8; 4]; 4], p: u8, b: u8) -> u8
     requires { ⌜ (p < 4) × Closed t ⌝ }
     ensures { λ r. ⌜ r ≡ substitutedByte t p b ⌝ }
@@ -37,7 +37,7 @@ fn substituted_byte(t: [[u8; 4]; 4], p: u8, b: u8) -> u8
     let c = w / 16 % 4;
     let d = w / 4 % 4;
     let e = w % 4;
-    star(t, l, a) * 64 + star(t, a, c) * 16 + star(t, c, d) * 4 + star(t, d, e)
+    t[l][a] * 64 + t[a][c] * 16 + t[c][d] * 4 + t[d][e]
 }
 
 // The first n bytes of s substituted with a leader.
