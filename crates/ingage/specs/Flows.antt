@@ -109,7 +109,7 @@ module _ (R : ℕ) (pos : 0 < R) (r : Run) (wide : R ≤ length (r .state)) (C :
   abbrev openState : ℕ → List ℕ
   openState i = decrypting R r C i .run .state
 
-  length-found : (i : ℕ) → length (decrypting R r C i .text) ≡ min (i * R) (length C)
+  pub length-found : (i : ℕ) → length (decrypting R r C i .text) ≡ min (i * R) (length C)
   unfolding decrypting
   length-found zero = rw zero-mul (omega arith)
   length-found (suc i) =

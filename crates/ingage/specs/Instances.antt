@@ -24,6 +24,7 @@ instances = first ∷ []
 -- largest that `last_block` pads; and behind the rate there is room for the seal
 pub record Fitting (z : Instance) : Type 0 where
   pub allowed : permitted (z .state) ≡ true
+  pub held : z .state ≤ 72
   pub begins : z .nonce + z .key ≤ z .state
   pub moves : 1 ≤ z .rate
   pub small : z .rate < LARGEST-RATE
@@ -37,16 +38,17 @@ Tested z =
 
 fitting : (z : Instance) → Tested z → Fitting z
 fitting z (a, b, c, d, e) = record {
-  allowed = held (permitted (z .state)) a;
+  allowed = is-true (permitted (z .state)) a;
+  held = permitted-size (z .state) (is-true (permitted (z .state)) a) .1;
   begins = leb→le (z .nonce + z .key) (z .state) b;
   moves = leb→le 1 (z .rate) c;
   small = ltb→lt (z .rate) LARGEST-RATE d;
   ends = leb→le (z .rate + z .seal) (z .state) e;
 }
   where
-    held : (b : Bool) → T b → b ≡ true
-    held true h = refl
-    held false h = absurd h
+    is-true : (b : Bool) → T b → b ≡ true
+    is-true true h = refl
+    is-true false h = absurd h
 
 abbrev AllTested : List Instance → Type 0
 AllTested [] = Unit {0}
@@ -64,7 +66,3 @@ instance-fits = each instances ((tt, tt, tt, tt, tt), tt)
 
 pub first-fits : Fitting first
 first-fits = instance-fits 0 (omega arith)
-
--- a state is no smaller than a block, and no larger than the largest that is permitted
-pub state-size : (z : Instance) → Fitting z → (29 ≤ z .state) × (z .state ≤ 72)
-state-size z f = permitted-size (z .state) (f .allowed)

@@ -40,7 +40,7 @@ piece-is R m i x h e =
     ∙ drop-at (take (i * R) m) x (i * R) (length-take-le (i * R) m h)
 
 -- no more bytes than there are
-cut : (n : ℕ) (d : List ℕ) → take (min n (length d)) d ≡ take n d
+pub cut : (n : ℕ) (d : List ℕ) → take (min n (length d)) d ≡ take n d
 cut n d = elim (decLe n (length d)) [
   | yes h ↦ rw (min-eq-left h)
   | no h ↦

@@ -10,7 +10,7 @@ use Rattle.gage.specs.States.{length-permute}
 use Rattle.sponge.specs.Padding.{block, blockCount}
 use Rattle.sponge.specs.Absorbing.{xored, Run}
 use Rattle.sponge.specs.Xor.{length-xored}
-use Rattle.ingage.specs.Cipher.{passed, keyed, started, associatedBlock, absorbing, absorbed, begun, encrypting, decrypting, finished, marked, AFTER-ASSOCIATED, AFTER-MESSAGE}
+use Rattle.ingage.specs.Cipher.{from, passed, keyed, started, associatedBlock, absorbing, absorbed, begun, encrypting, decrypting, finished, marked, AFTER-ASSOCIATED, AFTER-MESSAGE}
 use Rattle.ingage.specs.Masking.{length-marked}
 use Rattle.ingage.specs.declared.Instance.{Instance}
 
@@ -80,3 +80,25 @@ module _ (z : Instance) where
 pub length-finished : (r : Run) → length (finished r .state) ≡ length (r .state)
 unfolding finished
 length-finished r = length-permute ROUNDS (marked AFTER-MESSAGE (r .state)) ∙ length-marked AFTER-MESSAGE (r .state)
+
+-- what is worked out depends on the state a run starts in, not on its count
+pub encrypting-from : (R : ℕ) (r : Run) (P : List ℕ) (i : ℕ)
+    → (encrypting R (from (r .state)) P i .run .state ≡ encrypting R r P i .run .state) × (encrypting R (from (r .state)) P i .text ≡ encrypting R r P i .text)
+unfolding encrypting
+encrypting-from R r P zero = (refl, refl)
+encrypting-from R r P (suc i) = let before = encrypting-from R r P i in (rw (before .0), rw (before .0, before .1))
+
+pub decrypting-from : (R : ℕ) (r : Run) (C : List ℕ) (i : ℕ)
+    → (decrypting R (from (r .state)) C i .run .state ≡ decrypting R r C i .run .state) × (decrypting R (from (r .state)) C i .text ≡ decrypting R r C i .text)
+unfolding decrypting
+decrypting-from R r C zero = (refl, refl)
+decrypting-from R r C (suc i) = let before = decrypting-from R r C i in (rw (before .0, before .1), rw (before .0, before .1))
+
+absorbing-from : (z : Instance) (r : Run) (A : List ℕ) (i : ℕ) → absorbing z (from (r .state)) A i .state ≡ absorbing z r A i .state
+unfolding absorbing
+absorbing-from z r A zero = refl
+absorbing-from z r A (suc i) = rw (absorbing-from z r A i)
+
+pub absorbed-from : (z : Instance) (r : Run) (A : List ℕ) → absorbed z (from (r .state)) A .state ≡ absorbed z r A .state
+unfolding absorbed
+absorbed-from z r A = rw (absorbing-from z r A (blockCount (z .rate) A))
