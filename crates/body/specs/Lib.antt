@@ -1,0 +1,6 @@
+pub mod Fields
+pub mod Answers
+pub mod Lengths
+pub mod OneToOne
+pub mod Places
+pub mod Bytes
