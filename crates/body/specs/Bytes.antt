@@ -1,6 +1,6 @@
 -- A body of bytes: where its values are bytes, so is every byte of it. Assumes nothing.
 use mathlib.Core.List.{List, _++_}
-use Prim.Native.Nat.{ℕ, _*_, _<_, _≤_}
+use Prim.Native.Nat.{ℕ, _*_, _<_}
 use native.Mathlib.Omega.{arith}
 use lib.ListN.{length}
 use Rattle.lists.specs.Below.{Below, below-append}

@@ -1,6 +1,6 @@
 -- A frame's body (document 01, 'A frame and a stream'): its fields put together and taken apart. A field has a one-byte tag, a
 -- two-byte length, high byte first, and the value. Assumes nothing: these are definitions.
-use mathlib.Core.Bool.{Bool, true, false, cond}
+use mathlib.Core.Bool.{Bool, false, cond}
 use mathlib.Core.List.{List, [], _∷_, _++_}
 use Prim.Native.Nat.{ℕ, _+_, _*_, _/_, _%_}
 use lib.Dec.{eqb, leb}

@@ -3,14 +3,14 @@
 use mathlib.Core.Path.{_≡_, refl, sym, ap, _∙_}
 use mathlib.Core.Bool.{Bool, true, false, cond}
 use mathlib.Core.List.{List, [], _∷_, _++_, append-assoc, append-nil}
-use Prim.Native.Nat.{ℕ, _+_, _*_, _/_, _%_, _≤_, _<_}
+use Prim.Native.Nat.{ℕ, _+_, _*_, _/_, _%_, _<_}
 use native.Mathlib.Nat.{div-add-mod'}
 use native.Mathlib.Omega.{arith}
 use lib.Dec.{eqb, leb}
 use lib.ListN.{length, take, drop, length-append, take-append-drop}
 use lib.Seq.{take-append-seam, drop-append-seam, length-take-le}
 use borrow.Author.Tests.{eq-eqb, le-leb, eqb-true, leb-true}
-use Rattle.lists.specs.Below.{Below, below-drop}
+use Rattle.lists.specs.Below.{Below}
 use Rattle.body.specs.Fields.{nonceTag, digestTag, cipherTag, sealTag, highByte, field, body, takes, Front, value, no-field, valueOf, front, Fields, fields, no-body, next, afterNonce, afterDigest, afterCipher, afterSeal, fieldsOf}
 use Rattle.body.specs.Lengths.{Sized, takes-nonce, takes-digest, takes-cipher, takes-seal, nonce-taken, digest-taken, cipher-taken, seal-taken}
 

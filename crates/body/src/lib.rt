@@ -5,7 +5,7 @@ ghost use Prim.Native.Nat.{_+_, _*_, _≤_, _<_};
 ghost use lib.ListN.{length, drop};
 ghost use lib.Seq.{sets};
 ghost use Rattle.body.specs.Fields.{highByte, field, takes, front, fieldsOf};
-ghost use Rattle.body.specs.Answers.{behind, judged, putAnswer, putOut};
+ghost use Rattle.body.specs.Answers.{behind, judged, fitting, putAnswer, putOut};
 use lists::copy;
 
 // The fields' tags (document 01; tags are hexadecimal): nonce, font digest, line ciphertext, seal.
@@ -143,6 +143,22 @@ pub fn judge_body(b: &[u8]) -> Judged
     Judged::Fields(seal - cipher - HEAD_LENGTH)
 }
 
+// Whether each value has a length that its tag's rule takes.
+fn fit(nonce: &[u8], digest: &[u8], cipher: &[u8], seal: &[u8]) -> bool
+    ensures { λ r. ⌜ r ≡ fitting (now (nonce .entry)) (now (digest .entry)) (now (cipher .entry)) (now (seal .entry)) ⌝ }
+{
+    if !rule_takes(NONCE_TAG, nonce.len()) {
+        return false;
+    }
+    if !rule_takes(DIGEST_TAG, digest.len()) {
+        return false;
+    }
+    if !rule_takes(CIPHER_TAG, cipher.len()) {
+        return false;
+    }
+    rule_takes(SEAL_TAG, seal.len())
+}
+
 // Writes the field at a place of out, which has room for it, and gives the place behind it.
 fn put_field(out: &mut [u8], at: usize, tag: u8, value: &[u8]) -> usize
     requires { ⌜ at + length (field tag (now value)) ≤ length (now out) ⌝ }
@@ -163,16 +179,7 @@ pub fn put_body(nonce: &[u8], digest: &[u8], cipher: &[u8], seal: &[u8], out: &m
     ensures { λ r. ⌜ r ≡ putAnswer (now (nonce .entry)) (now (digest .entry)) (now (cipher .entry)) (now (seal .entry)) (now (out .entry)) ⌝ }
     ensures { λ _. ⌜ now (out .exit) ≡ putOut (now (nonce .entry)) (now (digest .entry)) (now (cipher .entry)) (now (seal .entry)) (now (out .entry)) ⌝ }
 {
-    if !rule_takes(NONCE_TAG, nonce.len()) {
-        return Put::Shape;
-    }
-    if !rule_takes(DIGEST_TAG, digest.len()) {
-        return Put::Shape;
-    }
-    if !rule_takes(CIPHER_TAG, cipher.len()) {
-        return Put::Shape;
-    }
-    if !rule_takes(SEAL_TAG, seal.len()) {
+    if !fit(nonce, digest, cipher, seal) {
         return Put::Shape;
     }
     if out.len() < BESIDE_CIPHER + cipher.len() {
