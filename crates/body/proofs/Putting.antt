@@ -1,19 +1,18 @@
 -- Fields written one behind the other from the start of a buffer, as `put_field` and `put_body` go. Assumes nothing.
-use mathlib.Core.Path.{_≡_, refl, ap, _∙_}
-use mathlib.Core.Bool.{false}
+use mathlib.Core.Path.{_≡_, refl, sym, ap, _∙_}
 use mathlib.Core.List.{List, [], _++_}
-use Prim.Native.Nat.{ℕ, suc, _+_, _-_, _/_, _%_, _≤_, _<_}
+use Prim.Native.Nat.{ℕ, suc, _+_, _-_, _/_, _%_, _≤_}
 use native.Mathlib.Omega.{arith}
 use lib.ListN.{length, set, take, drop, length-set, length-append, length-take, length-drop}
 use lib.Seq.{sets}
-use borrow.Author.Tests.{lt-ltb, le-ltb}
 use borrow.Rule.Slice.PartMut.{putMid}
 use Rattle.lists.specs.Buffers.{over, copied}
 use Rattle.lists.specs.Over.{copied-all, over-part, over-more, over-length}
-use Rattle.body.specs.Fields.{nonceTag, digestTag, cipherTag, sealTag, nonceLength, digestLength, sealLength, headLength, highByte, field, body}
-use Rattle.body.specs.Lengths.{Sized, besideCipher, length-field, length-body, sized-fitting}
-use Rattle.body.specs.Answers.{fitting, putAnswer, putOut}
-use Rattle.body.specs.declared.Put.the-variants.{Done, Shape, NoRoom}
+use Rattle.body.specs.Fields.{nonceTag, digestTag, cipherTag, sealTag, nonceLength, digestLength, sealLength, headLength, highByte, field, body, associated}
+use Rattle.body.specs.Lengths.{Sized, associatedLength, besideCipher, length-field}
+use Rattle.body.specs.Answers.{putAnswer, putOut, associatedAnswer, associatedOut}
+use Rattle.body.specs.Outcomes.{put-done, associated-done}
+use Rattle.body.specs.declared.Put.the-variants.{Done}
 
 -- a value copied to the part of a buffer that begins at a place
 behind : (p : List ℕ) (at : ℕ) (v w : List ℕ) → at + length v ≤ length p → w ≡ copied v (take (length p - at) (drop at p))
@@ -99,22 +98,20 @@ module _ {nonce digest cipher seal o : List ℕ} (r : Ready nonce digest cipher 
   pub room-seal : Space (n ++ d ++ c) s o
   room-seal = record { both = simp length-append (omega (arith, lengths, r .room)) }
 
--- the answers of `put_body`
-module _ (nonce digest cipher seal o : List ℕ) where
-  pub not-fit : fitting nonce digest cipher seal ≡ false → (Shape ≡ putAnswer nonce digest cipher seal o) × (o ≡ putOut nonce digest cipher seal o)
-  unfolding putAnswer putOut
-  not-fit h = (rw h, rw h)
+-- what is laid whole is what the answers speak of
+pub put-whole : {nonce digest cipher seal o out : List ℕ} {k : ℕ} → Sized nonce digest cipher seal
+    → Laid o out (field nonceTag nonce ++ field digestTag digest ++ field cipherTag cipher ++ field sealTag seal) k
+    → (Done k ≡ putAnswer nonce digest cipher seal o) × (out ≡ putOut nonce digest cipher seal o)
+unfolding body
+put-whole {nonce} {digest} {cipher} {seal} {o} z l =
+    let told = put-done nonce digest cipher seal o z (l .fits) in (ap Done (l .end) ∙ sym (told .0), l .held ∙ sym (told .1))
 
-  module _ (z : Sized nonce digest cipher seal) where
-    pub small : length o < besideCipher + length cipher → (NoRoom ≡ putAnswer nonce digest cipher seal o) × (o ≡ putOut nonce digest cipher seal o)
-    unfolding putAnswer putOut
-    small h =
-        let e = lt-ltb (length o) (length (body nonce digest cipher seal)) (omega (arith, length-body z)) in
-        (rw (sized-fitting z, e), rw (sized-fitting z, e))
+pub associated-whole : (digest : List ℕ) {o out : List ℕ} {k : ℕ} → length digest ≡ digestLength → Laid o out (field digestTag digest) k
+    → (Done k ≡ associatedAnswer digest o) × (out ≡ associatedOut digest o)
+unfolding associated
+associated-whole digest {o} e l =
+    let told = associated-done digest o e (l .fits) in (ap Done (l .end) ∙ sym (told .0), l .held ∙ sym (told .1))
 
-    pub done : (out : List ℕ) (k : ℕ) → Laid o out (field nonceTag nonce ++ field digestTag digest ++ field cipherTag cipher ++ field sealTag seal) k
-        → (Done k ≡ putAnswer nonce digest cipher seal o) × (out ≡ putOut nonce digest cipher seal o)
-    unfolding putAnswer putOut body
-    done out k l =
-        let e = le-ltb (length o) (length (body nonce digest cipher seal)) (l .fits) in
-        (ap Done (l .end) ∙ rw (sized-fitting z, e), l .held ∙ rw (sized-fitting z, e))
+-- room for field 02 from the start
+pub room-associated : (digest o : List ℕ) → length digest ≡ digestLength → associatedLength ≤ length o → Space [] (field digestTag digest) o
+room-associated digest o e h = record { both = omega (arith, length-field digestTag digest) }

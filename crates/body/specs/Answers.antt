@@ -11,7 +11,7 @@ use Rattle.body.specs.declared.Judged.{Judged}
 use Rattle.body.specs.declared.Judged.the-variants as judged-is
 use Rattle.body.specs.declared.Put.{Put}
 use Rattle.body.specs.declared.Put.the-variants as put-is
-use Rattle.body.specs.Fields.{Front, value, no-field, Fields, fields, no-body, headLength, nonceTag, digestTag, cipherTag, sealTag, takes, body}
+use Rattle.body.specs.Fields.{Front, value, no-field, Fields, fields, no-body, headLength, nonceTag, digestTag, cipherTag, sealTag, takes, body, associated}
 
 -- the place behind a field that stands at a place
 abbrev pub behind : ℕ → Front → Found
@@ -31,22 +31,25 @@ fitting nonce digest cipher seal =
     (cond (takes cipherTag (length cipher))
     (takes sealTag (length seal)) false) false) false
 
-module _ (nonce digest cipher seal : List ℕ) where
-  -- values that fit, then room
-  unfoldable pub putAnswer : List ℕ → Put
-  putAnswer out =
-      cond (fitting nonce digest cipher seal)
-      (cond (ltb (length out) (length (body nonce digest cipher seal))) put-is.NoRoom
-      (put-is.Done (length (body nonce digest cipher seal))))
-      put-is.Shape
+-- bytes w written to the start of a buffer: values that fit, then room; only where w is written does anything change
+abbrev pub written : Bool → List ℕ → List ℕ → Put
+written fit w out = cond fit (cond (ltb (length out) (length w)) put-is.NoRoom (put-is.Done (length w))) put-is.Shape
 
-  -- only where the body is written does anything change
-  unfoldable pub putOut : List ℕ → List ℕ
-  putOut out =
-      cond (fitting nonce digest cipher seal)
-      (cond (ltb (length out) (length (body nonce digest cipher seal))) out
-      (over (body nonce digest cipher seal) out))
-      out
+abbrev pub writtenOut : Bool → List ℕ → List ℕ → List ℕ
+writtenOut fit w out = cond fit (cond (ltb (length out) (length w)) out (over w out)) out
+
+unfoldable pub putAnswer : List ℕ → List ℕ → List ℕ → List ℕ → List ℕ → Put
+putAnswer nonce digest cipher seal out = written (fitting nonce digest cipher seal) (body nonce digest cipher seal) out
+
+unfoldable pub putOut : List ℕ → List ℕ → List ℕ → List ℕ → List ℕ → List ℕ
+putOut nonce digest cipher seal out = writtenOut (fitting nonce digest cipher seal) (body nonce digest cipher seal) out
+
+-- the same of the associated data alone
+unfoldable pub associatedAnswer : List ℕ → List ℕ → Put
+associatedAnswer digest out = written (takes digestTag (length digest)) (associated digest) out
+
+unfoldable pub associatedOut : List ℕ → List ℕ → List ℕ
+associatedOut digest out = writtenOut (takes digestTag (length digest)) (associated digest) out
 
 -- document 01's number of each answer ('Numbers returned')
 abbrev pub judgeNumber : Judged → ℕ

@@ -5,7 +5,7 @@ ghost use Prim.Native.Nat.{_+_, _*_, _≤_, _<_};
 ghost use lib.ListN.{length, drop};
 ghost use lib.Seq.{sets};
 ghost use Rattle.body.specs.Fields.{highByte, field, takes, front, fieldsOf};
-ghost use Rattle.body.specs.Answers.{behind, judged, fitting, putAnswer, putOut};
+ghost use Rattle.body.specs.Answers.{behind, judged, fitting, putAnswer, putOut, associatedAnswer, associatedOut};
 use lists::copy;
 
 // The fields' tags (document 01; tags are hexadecimal): nonce, font digest, line ciphertext, seal.
@@ -42,6 +42,9 @@ pub const ASSOCIATED_AT: usize = NONCE_AT + NONCE_LENGTH;
 pub const DIGEST_AT: usize = ASSOCIATED_AT + HEAD_LENGTH;
 
 pub const CIPHER_AT: usize = DIGEST_AT + DIGEST_LENGTH + HEAD_LENGTH;
+
+// How long the associated data is, field 02 whole.
+pub const ASSOCIATED_LENGTH: usize = HEAD_LENGTH + DIGEST_LENGTH;
 
 // How many bytes a body has beside the line ciphertext; and the longest body.
 pub const BESIDE_CIPHER: usize = CIPHER_AT + HEAD_LENGTH + SEAL_LENGTH;
@@ -190,4 +193,18 @@ pub fn put_body(nonce: &[u8], digest: &[u8], cipher: &[u8], seal: &[u8], out: &m
     let seal_at = put_field(out, cipher_at, CIPHER_TAG, cipher);
     let end = put_field(out, seal_at, SEAL_TAG, seal);
     Put::Done(end)
+}
+
+// Writes the associated data, field 02 whole, to the start of out; the rest of out stays. A refusal leaves out as it was.
+pub fn put_associated(digest: &[u8], out: &mut [u8]) -> Put
+    ensures { λ r. ⌜ r ≡ associatedAnswer (now (digest .entry)) (now (out .entry)) ⌝ }
+    ensures { λ _. ⌜ now (out .exit) ≡ associatedOut (now (digest .entry)) (now (out .entry)) ⌝ }
+{
+    if !rule_takes(DIGEST_TAG, digest.len()) {
+        return Put::Shape;
+    }
+    if out.len() < ASSOCIATED_LENGTH {
+        return Put::NoRoom;
+    }
+    Put::Done(put_field(out, 0, DIGEST_TAG, digest))
 }

@@ -4,8 +4,9 @@ use Prim.Native.Nat.{ℕ}
 use native.Mathlib.Omega.{arith}
 use borrow.Author.Tests.{not-true, not-false}
 use borrow.Author.Needs.{needs}
-use Rattle.body.proofs.Putting.{Ready, Laid, laid-none, laid-more, laid-room, room-nonce, room-digest, room-cipher, room-seal, not-fit, small, done}
-use Rattle.body.specs.Lengths.{fitting-sized}
+use Rattle.body.specs.Outcomes.{put-refused, put-small}
+use Rattle.body.proofs.Putting.{Ready, Laid, laid-none, laid-more, laid-room, room-nonce, room-digest, room-cipher, room-seal, put-whole}
+use Rattle.body.specs.Lengths.{Sized, length-body, fitting-sized}
 use Rattle.body.specs.Fields.{nonceTag, digestTag, cipherTag, sealTag, field}
 use Rattle.body.proofs.put_body.Statement.{statement}
 use Rattle.body.proofs.put_body.Tie as tie
@@ -45,11 +46,13 @@ fourth s = third s ++ field sealTag (s .args .seal .now)
 abbrev Good : tie.Start → Type 0
 Good s = Ready (s .args .nonce .now) (s .args .digest .now) (s .args .cipher .now) (s .args .seal .now) (s .args .out .now)
 
+sized : (c : tie.Else1) →
+    let s = c .before .before .before .before .before .before .before in
+    Sized (s .args .nonce .now) (s .args .digest .now) (s .args .cipher .now) (s .args .seal .now)
+sized c = fitting-sized _ _ _ _ (sym (c .before .fit .ensures) ∙ not-false _ (c .if1 .left))
+
 ready : (c : tie.Else2) → Good (start c)
-ready c = record {
-  sized = fitting-sized _ _ _ _ (sym (c .before .before .fit .ensures) ∙ not-false _ (c .before .if1 .left));
-  room = omega arith;
-}
+ready c = record { sized = sized (c .before); room = omega arith }
 
 -- the fields written so far
 laid1 : (c : tie.After-put-field) →
@@ -75,14 +78,18 @@ fit-requires : tie.Need-fit-requires
 fit-requires c κs = search needs
 
 returns : tie.Need-returns
-returns c = not-fit _ _ _ _ _ (sym (c .before .fit .ensures) ∙ not-true _ (c .if1 .taken))
+returns c =
+    let told = put-refused _ _ _ _ _ (sym (c .before .fit .ensures) ∙ not-true _ (c .if1 .taken)) in (sym (told .0), sym (told .1))
 
 add-if2 : tie.Need-add-if2
 add-if2 c = search needs
 
 returns-2 : tie.Need-returns-2
 returns-2 c =
-    small _ _ _ _ _ (fitting-sized _ _ _ _ (sym (c .before .before .fit .ensures) ∙ not-false _ (c .before .if1 .left))) (omega arith)
+    let s = c .before .before .before .before .before .before .before .before in
+    let z = sized (c .before) in
+    let told = put-small _ _ _ _ (s .args .out .now) z (omega (arith, length-body z)) in
+    (sym (told .0), sym (told .1))
 
 put-field-requires : tie.Need-put-field-requires
 put-field-requires c κs = let r = ready (c .before) in (laid-room (laid-none _) (room-nonce r), omega (arith, r .sized))
@@ -109,7 +116,7 @@ same-length : tie.Need-same-length
 same-length c = search needs
 
 returns-3 : tie.Need-returns-3
-returns-3 c = let d = c .before .before in done _ _ _ _ _ (ready (from4 d) .sized) _ _ (laid4 d)
+returns-3 c = let d = c .before .before in put-whole (ready (from4 d) .sized) (laid4 d)
 
 pub put-body-spec : {M : Type 1} → statement M
 put-body-spec =
