@@ -1,3 +1,4 @@
 pub mod Padding
+pub mod Blocks
 pub mod Absorbing
 pub mod Xor

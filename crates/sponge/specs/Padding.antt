@@ -15,3 +15,11 @@ blockCount R m = length m / R + 1
 -- block i, counted from 0
 unfoldable pub block : ℕ → List ℕ → ℕ → List ℕ
 block R m i = take R (drop (i * R) (padded R m))
+
+-- the largest rate in bytes (document 000, Table 1.4: r = 128 bits in instance 8)
+abbrev pub LARGEST-RATE : ℕ
+LARGEST-RATE = 16
+
+-- what is left of a message, padded at the largest rate: its first R bytes are the last block at a smaller rate R
+unfoldable pub lastBlock : List ℕ → List ℕ
+lastBlock rest = padded LARGEST-RATE (take (LARGEST-RATE - 1) rest)

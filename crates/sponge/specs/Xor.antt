@@ -1,10 +1,9 @@
 -- Laws of bytes XORed into a state: what stays, what comes back, one byte more. Assumes nothing.
-use mathlib.Core.Path.{_≡_, refl, sym, ap, ap₂, _∙_}
-use mathlib.Core.List.{List, [], _∷_, _++_}
-use Prim.Native.Nat.{ℕ, zero, suc, _+_, _^_, _≤_, _<_}
+use mathlib.Core.Path.{_≡_, refl, ap}
+use mathlib.Core.List.{List, [], _∷_}
+use Prim.Native.Nat.{ℕ, zero, suc, _≤_, _<_}
 use native.Mathlib.Nat.{not-suc-le-zero, le-of-suc-le-suc}
-use native.Mathlib.Omega.{arith}
-use lib.Bits.{bitXor, xor-lt, xor-comm}
+use lib.Bits.{bitXor, xor-lt}
 use lib.ListN.{length, getD, take, drop, set}
 use Rattle.lists.specs.Below.{Below}
 use Rattle.sponge.specs.Absorbing.{xored}

@@ -1,16 +1,15 @@
+-- `mix` meets its promise. The invariant: the first i bytes of the block are XORed into the state; the measure is what is left of
+-- the block. Assumes nothing.
 use Rattle.sponge.specs.Xor.{xored-more, xored-past}
 use Rattle.sponge.specs.Absorbing.{xored}
 use lib.Seq.{take-all}
 use lib.ListN.{length, take}
 use native.Mathlib.Numerals.{add-one}
 use Prim.Native.Nat.{_-_, _≤_}
-use mathlib.Core.Path.{_≡_, refl, sym, _∙_}
-use native.Mathlib.Omega.{arith}
+use mathlib.Core.Path.{_≡_, refl, _∙_}
 use borrow.Author.Needs.{needs}
 use Rattle.sponge.proofs.mix.Statement.{statement}
 use Rattle.sponge.proofs.mix.Tie as tie
-use Rattle.sponge.proofs.mix.Reads as reads
-use Rattle.sponge.proofs.mix.Lts as lts
 
 abbrev Inv-loop : tie.InvT-loop
 Inv-loop block out₀ i₀ out i = (i ≤ length block) × (i ≤ 72) × (out ≡ xored (take i block) out₀)
@@ -18,36 +17,28 @@ Inv-loop block out₀ i₀ out i = (i ≤ length block) × (i ≤ 72) × (out �
 abbrev μ-loop : tie.MeasureT-loop
 μ-loop block out₀ i₀ out i = length block - i
 
--- src/lib.rt:12:5
 loop-holds : tie.Need-loop-holds Inv-loop μ-loop
 unfolding xored
 loop-holds c = (search needs, search needs, refl)
 
--- src/lib.rt:14:13
 returns : tie.Need-returns Inv-loop μ-loop
 returns c = c .before .before .loop .inv .2 ∙ xored-past _ _ (c .before .before .loop .i) (search needs)
 
--- src/lib.rt:16:18
 shared-slice-read-out : tie.Need-shared-slice-read-out Inv-loop μ-loop
 shared-slice-read-out c = search needs
 
--- src/lib.rt:16:29
 array-read-out : tie.Need-array-read-out Inv-loop μ-loop
 array-read-out c = search needs
 
--- src/lib.rt:16:9
 array-write-out : tie.Need-array-write-out Inv-loop μ-loop
 array-write-out c = search needs
 
--- src/lib.rt:17:9
 add-i : tie.Need-add-i Inv-loop μ-loop
 add-i c = search needs
 
--- src/lib.rt:12:5
 loop-less : tie.Need-loop-less Inv-loop μ-loop
 loop-less c = search needs
 
--- src/lib.rt:12:5
 loop-again : tie.Need-loop-again Inv-loop μ-loop
 loop-again c = (
   search needs,
@@ -56,7 +47,6 @@ loop-again c = (
       (xored-more _ _ (c .before .before .before .loop .i) (search needs) (search needs)),
 )
 
--- src/lib.rt:7:1
 returns-2 : tie.Need-returns-2 Inv-loop μ-loop
 returns-2 c = c .before .loop .inv .2 ∙ rw (take-all (c .before .loop .i) (c .before .before .args .block .now) (search needs))
 
