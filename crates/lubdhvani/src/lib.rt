@@ -9,13 +9,21 @@ ghost use Rattle.gage.specs.Sizes.{LARGEST};
 ghost use Rattle.gage.specs.Permutation.{ROUNDS, permute, unpermute};
 ghost use Rattle.ingage.specs.Instances.{first};
 ghost use Rattle.ingage.specs.Answers.{sealCall, openCall, sealNumber, sealCount, openNumber, openCount};
+ghost use Rattle.frame.specs.Answers.{writeCall};
+ghost use Rattle.frame.specs.Answers as writing;
+ghost use Rattle.frame.specs.Told.{told};
+ghost use Rattle.reader.specs.Answers.{readAnswer, readOut};
+ghost use Rattle.reader.specs.Answers as reading;
+ghost use Rattle.reader.specs.Sizes as reader-told;
 ghost use Rattle.stream.specs.Stretches.{nextSpan};
 ghost use Rattle.lubdhvani.specs.Calls.{permuteNumber, permuteState};
 use digest::Digested;
+use frame::Written;
 use gage::Answer;
 use gage::LARGEST;
 use ingage::Opened;
 use ingage::Sealed;
+use reader::Answer as Reading;
 
 // A state of at most LARGEST bytes at the start of a whole one.
 fn widened(state: &[u8]) -> [u8; LARGEST]
@@ -203,4 +211,220 @@ pub extern "C" fn lubdhvani_open(
     let answer = ingage::open(key, nonce, associated, cipher, seal, out);
     *calls = open_count(answer);
     open_number(answer)
+}
+
+// The frame's length and the count of a writing's answer.
+fn write_length(answer: Written) -> usize
+    ensures { λ r. ⌜ r ≡ writing.lengthOf answer ⌝ }
+{
+    match answer {
+        Written::Done { length, calls: _ } => length,
+        Written::Sizes => 0,
+        Written::TooLong => 0,
+        Written::Unlisted => 0,
+        Written::NoRoom => 0,
+    }
+}
+
+fn write_count(answer: Written) -> usize
+    ensures { λ r. ⌜ r ≡ writing.countOf answer ⌝ }
+{
+    match answer {
+        Written::Done { length: _, calls } => calls,
+        Written::Sizes => 0,
+        Written::TooLong => 0,
+        Written::Unlisted => 0,
+        Written::NoRoom => 0,
+    }
+}
+
+// Writes the frame of a line.
+#[no_mangle]
+pub extern "C" fn lubdhvani_write(
+    key: &[u8],
+    nonce: &[u8],
+    font: &[u8],
+    line: &[u8],
+    frame: &mut [u8],
+    length: &mut usize,
+    calls: &mut usize,
+) -> u32
+    ensures { λ r. ⌜ r ≡ writing.numberOf (writeCall (told (now (key .entry)) (now (font .entry))) (now (nonce .entry)) (now (line .entry)) (now (frame .entry)) .answer) ⌝ }
+    ensures { λ _. ⌜ now (frame .exit) ≡ writeCall (told (now (key .entry)) (now (font .entry))) (now (nonce .entry)) (now (line .entry)) (now (frame .entry)) .frame ⌝ }
+    ensures { λ _. ⌜ now (length .exit) ≡ writing.lengthOf (writeCall (told (now (key .entry)) (now (font .entry))) (now (nonce .entry)) (now (line .entry)) (now (frame .entry)) .answer) ⌝ }
+    ensures { λ _. ⌜ now (calls .exit) ≡ writing.countOf (writeCall (told (now (key .entry)) (now (font .entry))) (now (nonce .entry)) (now (line .entry)) (now (frame .entry)) .answer) ⌝ }
+{
+    let answer = frame::write(key, nonce, font, line, frame);
+    *length = write_length(answer);
+    *calls = write_count(answer);
+    frame::number(answer)
+}
+
+// The places, the line's length and the count of a reading's answer.
+fn read_first(answer: Reading) -> usize
+    ensures { λ r. ⌜ r ≡ reading.firstOf answer ⌝ }
+{
+    match answer {
+        Reading::Sizes(at) => at,
+        Reading::TooLong(at) => at,
+        Reading::NoRoom(at) => at,
+        Reading::Beyond(at) => at,
+        Reading::End(at) => at,
+        Reading::Shape { first, closing: _ } => first,
+        Reading::Stuffing { first, closing: _ } => first,
+        Reading::Font { first, closing: _ } => first,
+        Reading::Seal {
+            first,
+            closing: _,
+            calls: _,
+        } => first,
+        Reading::Unlisted {
+            first,
+            closing: _,
+            calls: _,
+        } => first,
+        Reading::Line {
+            first,
+            closing: _,
+            length: _,
+            calls: _,
+        } => first,
+    }
+}
+
+fn read_closing(answer: Reading) -> usize
+    ensures { λ r. ⌜ r ≡ reading.closingOf answer ⌝ }
+{
+    match answer {
+        Reading::Sizes(at) => at,
+        Reading::TooLong(at) => at,
+        Reading::NoRoom(at) => at,
+        Reading::Beyond(at) => at,
+        Reading::End(at) => at,
+        Reading::Shape { first: _, closing } => closing,
+        Reading::Stuffing { first: _, closing } => closing,
+        Reading::Font { first: _, closing } => closing,
+        Reading::Seal {
+            first: _,
+            closing,
+            calls: _,
+        } => closing,
+        Reading::Unlisted {
+            first: _,
+            closing,
+            calls: _,
+        } => closing,
+        Reading::Line {
+            first: _,
+            closing,
+            length: _,
+            calls: _,
+        } => closing,
+    }
+}
+
+fn read_length(answer: Reading) -> usize
+    ensures { λ r. ⌜ r ≡ reading.lengthOf answer ⌝ }
+{
+    match answer {
+        Reading::Sizes(_) => 0,
+        Reading::TooLong(_) => 0,
+        Reading::NoRoom(_) => 0,
+        Reading::Beyond(_) => 0,
+        Reading::End(_) => 0,
+        Reading::Shape {
+            first: _,
+            closing: _,
+        } => 0,
+        Reading::Stuffing {
+            first: _,
+            closing: _,
+        } => 0,
+        Reading::Font {
+            first: _,
+            closing: _,
+        } => 0,
+        Reading::Seal {
+            first: _,
+            closing: _,
+            calls: _,
+        } => 0,
+        Reading::Unlisted {
+            first: _,
+            closing: _,
+            calls: _,
+        } => 0,
+        Reading::Line {
+            first: _,
+            closing: _,
+            length,
+            calls: _,
+        } => length,
+    }
+}
+
+fn read_count(answer: Reading) -> usize
+    ensures { λ r. ⌜ r ≡ reading.callsOf answer ⌝ }
+{
+    match answer {
+        Reading::Sizes(_) => 0,
+        Reading::TooLong(_) => 0,
+        Reading::NoRoom(_) => 0,
+        Reading::Beyond(_) => 0,
+        Reading::End(_) => 0,
+        Reading::Shape {
+            first: _,
+            closing: _,
+        } => 0,
+        Reading::Stuffing {
+            first: _,
+            closing: _,
+        } => 0,
+        Reading::Font {
+            first: _,
+            closing: _,
+        } => 0,
+        Reading::Seal {
+            first: _,
+            closing: _,
+            calls,
+        } => calls,
+        Reading::Unlisted {
+            first: _,
+            closing: _,
+            calls,
+        } => calls,
+        Reading::Line {
+            first: _,
+            closing: _,
+            length: _,
+            calls,
+        } => calls,
+    }
+}
+
+// Judges the next stretch from a place, and gives out its line.
+#[no_mangle]
+pub extern "C" fn lubdhvani_read(
+    stream: &[u8],
+    from: usize,
+    key: &[u8],
+    font: &[u8],
+    line: &mut [u8],
+    first: &mut usize,
+    closing: &mut usize,
+    length: &mut usize,
+    calls: &mut usize,
+) -> u32
+    ensures { λ r. ⌜ r ≡ reading.numberOf (readAnswer (reader-told.told (now (key .entry)) (now (font .entry))) (now (stream .entry)) from (now (line .entry))) ⌝ }
+    ensures { λ _. ⌜ now (line .exit) ≡ readOut (reader-told.told (now (key .entry)) (now (font .entry))) (now (stream .entry)) from (now (line .entry)) ⌝ }
+    ensures { λ _. ⌜ (now (first .exit) ≡ reading.firstOf (readAnswer (reader-told.told (now (key .entry)) (now (font .entry))) (now (stream .entry)) from (now (line .entry)))) × (now (closing .exit) ≡ reading.closingOf (readAnswer (reader-told.told (now (key .entry)) (now (font .entry))) (now (stream .entry)) from (now (line .entry)))) ⌝ }
+    ensures { λ _. ⌜ (now (length .exit) ≡ reading.lengthOf (readAnswer (reader-told.told (now (key .entry)) (now (font .entry))) (now (stream .entry)) from (now (line .entry)))) × (now (calls .exit) ≡ reading.callsOf (readAnswer (reader-told.told (now (key .entry)) (now (font .entry))) (now (stream .entry)) from (now (line .entry)))) ⌝ }
+{
+    let answer = reader::read(stream, from, key, font, line);
+    *first = read_first(answer);
+    *closing = read_closing(answer);
+    *length = read_length(answer);
+    *calls = read_count(answer);
+    reader::number(answer)
 }
