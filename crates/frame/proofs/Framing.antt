@@ -1,11 +1,10 @@
 -- A frame written from the start of a buffer as `put_frame` goes: a mark, the stuffed body in the part behind it, a mark. Assumes nothing.
-use mathlib.Core.Path.{_≡_, refl, sym, ap, _∙_}
-use mathlib.Core.List.{List, [], _∷_, _++_}
-use Prim.Native.Nat.{ℕ, _+_, _-_, _*_, _≤_, _<_}
+use mathlib.Core.Path.{_≡_, ap, _∙_}
+use mathlib.Core.List.{List, [], _∷_}
+use Prim.Native.Nat.{ℕ, _+_, _-_, _*_, _≤_}
 use native.Mathlib.Numerals.{add-one}
 use native.Mathlib.Omega.{arith}
-use lib.ListN.{length, set, take, drop, length-set, length-append, length-take, length-drop}
-use lib.Seq.{sets}
+use lib.ListN.{length, set, take, drop, length-set, length-take, length-drop}
 use borrow.Rule.Slice.PartMut.{putMid}
 use Rattle.lists.specs.Buffers.{over}
 use Rattle.lists.specs.Over.{over-part, over-more, over-length}
@@ -16,7 +15,6 @@ use Rattle.stuffing.specs.Lengths.{stuffed-at-most}
 use Rattle.stuffing.specs.Answers.{stuffAnswer, stuffOut}
 use Rattle.stuffing.specs.Outcomes.{stuff-done}
 use Rattle.frame.specs.Frames.{framed}
-use Rattle.frame.specs.Lengths.{length-framed}
 
 module _ (b o : List ℕ) (room : 2 * length b + 2 ≤ length o) where
   -- the buffer with its first mark, and the part behind that
@@ -49,8 +47,8 @@ module _ (b o : List ℕ) (room : 2 * length b + 2 ≤ length o) where
     pub length-filled : length filled ≡ length o
     length-filled = ap length filled-is ∙ over-length (mark ∷ stuffed b) o (omega (arith, stuffed-at-most b))
 
-    pub length-closed : (n : ℕ) → length (set filled n mark) ≡ length o
-    length-closed n = length-set filled n mark ∙ length-filled
+    pub length-closed : (n v : ℕ) → length (set filled n v) ≡ length o
+    length-closed n v = length-set filled n v ∙ length-filled
 
     -- and with the closing mark it is the frame
     pub closed : (n : ℕ) → n ≡ length (stuffed b) → set filled (n + 1) mark ≡ over (framed b) o

@@ -1,19 +1,18 @@
 -- The steps of `seal_body` on plain lists: the associated data, the sealed line and the body, each in its scratch. Assumes nothing.
-use mathlib.Core.Path.{_≡_, refl, sym, ap, _∙_}
+use mathlib.Core.Path.{_≡_, _∙_}
 use mathlib.Core.Logic.{⊎-elim}
 use mathlib.Core.List.{List, [], _∷_}
 use Prim.Native.Nat.{ℕ, _-_, _≤_}
 use native.Mathlib.Omega.{arith}
 use lib.ListN.{length, take, drop}
 use denote.Enum.Declared.{tagOf}
-use types.Run.{OneOf}
 use Rattle.lists.specs.Buffers.{over}
 use Rattle.lists.specs.Over.{over-whole, take-over}
 use Rattle.ingage.specs.declared.Sealed.{Sealed}
 use Rattle.ingage.proofs.Sealed as sealed-type
 use Rattle.ingage.specs.declared.Sealed.the-variants as sealed-is
 use Rattle.ingage.specs.Instances.{first}
-use Rattle.ingage.specs.Answers.{SealCall, sealCall}
+use Rattle.ingage.specs.Answers.{sealCall}
 use Rattle.ingage.specs.Exactly.{sealed-within}
 use Rattle.body.specs.declared.Put.{Put}
 use Rattle.body.proofs.Put as put-type
@@ -25,6 +24,7 @@ use Rattle.body.specs.Outcomes.{associated-done, put-done}
 use Rattle.frame.specs.Told.{Told}
 use Rattle.frame.specs.Frames.{sealedLine, sealedBody}
 use Rattle.frame.specs.Lengths.{Sealable, length-cipher, sealed-sized, sealed-body-lengths}
+use types.Run.{OneOf}
 
 -- an answer that is done is no refusal
 pub seal-not-refused : (r : Sealed) (n : ℕ) → r ≡ sealed-is.Done n → OneOf (1 ∷ 2 ∷ 3 ∷ []) (tagOf sealed-type.the-type r) → ⊥

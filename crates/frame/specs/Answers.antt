@@ -1,6 +1,6 @@
 -- What `write` answers, and what the lent buffer then holds: document 01's order of refusals (2, 3, 9, 4), one line each.
 -- Assumes nothing: these are definitions.
-use mathlib.Core.Bool.{Bool, true, false, not, cond}
+use mathlib.Core.Bool.{Bool, false, not, cond}
 use mathlib.Core.List.{List}
 use Prim.Native.Nat.{ℕ}
 use lib.Dec.{eqb, leb, ltb}
@@ -46,6 +46,10 @@ abbrev pub byRule : Judged → WriteCall → List ℕ → WriteCall
 byRule line-is.Accepted go frame = go
 byRule line-is.Unlisted go frame = refused written-is.Unlisted frame
 
+-- number 4
+abbrev pub byRoom : List ℕ → WriteCall → WriteCall
+byRoom frame go = cond (ltb (length frame) frameRoom) (refused written-is.NoRoom frame) go
+
 -- the frame over the start of the buffer, its length and the calls of the permutation
 unfoldable pub framedCall : Told → List ℕ → List ℕ → List ℕ → WriteCall
 framedCall t nonce line frame = record {
@@ -57,9 +61,7 @@ unfoldable pub writeCall : Told → List ℕ → List ℕ → List ℕ → Write
 writeCall t nonce line frame =
     cond (not (sizesRight t nonce)) (refused written-is.Sizes frame)
     (cond (not (lengthRight line)) (refused written-is.TooLong frame)
-    (byRule (lineRule line)
-    (cond (ltb (length frame) frameRoom) (refused written-is.NoRoom frame)
-    (framedCall t nonce line frame)) frame))
+    (byRule (lineRule line) (byRoom frame (framedCall t nonce line frame)) frame))
 
 -- document 01's number of each answer ('Numbers returned')
 abbrev pub numberOf : Written → ℕ

@@ -1,7 +1,7 @@
 -- What the writer can seal, how long bodies, stretches and frames then are (document 01, 'A frame and a stream'), and what it counts.
 -- Assumes nothing.
 use mathlib.Core.Path.{_≡_, _∙_}
-use mathlib.Core.List.{List, [], _∷_, _++_}
+use mathlib.Core.List.{List}
 use Prim.Native.Nat.{ℕ, _+_, _≤_, _<_}
 use native.Mathlib.Omega.{arith}
 use lib.ListN.{length, length-append}
@@ -9,8 +9,8 @@ use Rattle.line.specs.Lines.{longest}
 use Rattle.ingage.specs.Instances.{first, first-fits}
 use Rattle.ingage.specs.Results.{seal-calls-first, length-encrypted, length-seal}
 use Rattle.body.specs.Fields.{nonceLength, digestLength, shortest, associated}
-use Rattle.body.specs.Lengths.{Sized, length-associated, length-body, body-lengths, besideCipher, shortestBody, longestBody}
-use Rattle.stuffing.specs.Stuffing.{mark, longestStretch, stuffed}
+use Rattle.body.specs.Lengths.{Sized, length-associated, length-body, besideCipher, shortestBody, longestBody}
+use Rattle.stuffing.specs.Stuffing.{longestStretch, stuffed}
 use Rattle.stuffing.specs.Lengths.{stuffed-at-most, stuffed-at-least}
 use Rattle.frame.specs.Told.{Told}
 use Rattle.frame.specs.Frames.{sealedLine, sealedBody, framed, frameOf}
@@ -39,11 +39,11 @@ length-framed b = rw length-append (omega arith)
 module _ {t : Told} {nonce line : List ℕ} (z : Sealable t nonce line) where
   pub length-cipher : length (sealedLine t nonce line .text) ≡ length line
   unfolding sealedLine
-  length-cipher = length-encrypted first first-fits (t .key) nonce (associated (t .font)) (z .key-is) (z .nonce-is) line
+  length-cipher = length-encrypted first first-fits (t .key) nonce _ (z .key-is) (z .nonce-is) line
 
   pub length-sealed : length (sealedLine t nonce line .seal) ≡ first .seal
   unfolding sealedLine
-  length-sealed = length-seal first first-fits (t .key) nonce (associated (t .font)) (z .key-is) (z .nonce-is) line
+  length-sealed = length-seal first first-fits (t .key) nonce _ (z .key-is) (z .nonce-is) line
 
   -- the body's values have their lengths
   pub sealed-sized : Sized nonce (t .font) (sealedLine t nonce line .text) (sealedLine t nonce line .seal)
