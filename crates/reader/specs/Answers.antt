@@ -74,7 +74,7 @@ abbrev pub readOut : Told → List ℕ → ℕ → List ℕ → List ℕ
 readOut t s from o = buffer (found t s from (length o)) o
 
 -- document 01's number of each answer
-pub numberOf : Answer → ℕ
+abbrev pub numberOf : Answer → ℕ
 numberOf (answer-is.Sizes at) = 2
 numberOf (answer-is.TooLong at) = 3
 numberOf (answer-is.NoRoom at) = 4
@@ -88,7 +88,7 @@ numberOf (answer-is.Unlisted a e n) = 9
 numberOf (answer-is.Line a e k n) = 0
 
 -- the place of the stretch's first byte
-pub firstOf : Answer → ℕ
+abbrev pub firstOf : Answer → ℕ
 firstOf (answer-is.Sizes at) = at
 firstOf (answer-is.TooLong at) = at
 firstOf (answer-is.NoRoom at) = at
@@ -102,7 +102,7 @@ firstOf (answer-is.Unlisted a e n) = a
 firstOf (answer-is.Line a e k n) = a
 
 -- the place of its closing mark, where the next call starts
-pub closingOf : Answer → ℕ
+abbrev pub closingOf : Answer → ℕ
 closingOf (answer-is.Sizes at) = at
 closingOf (answer-is.TooLong at) = at
 closingOf (answer-is.NoRoom at) = at
@@ -116,7 +116,7 @@ closingOf (answer-is.Unlisted a e n) = e
 closingOf (answer-is.Line a e k n) = e
 
 -- the line's length, 0 where none is given
-pub lengthOf : Answer → ℕ
+abbrev pub lengthOf : Answer → ℕ
 lengthOf (answer-is.Sizes at) = 0
 lengthOf (answer-is.TooLong at) = 0
 lengthOf (answer-is.NoRoom at) = 0
@@ -130,7 +130,7 @@ lengthOf (answer-is.Unlisted a e n) = 0
 lengthOf (answer-is.Line a e k n) = k
 
 -- the count of the calls of the permutation
-pub callsOf : Answer → ℕ
+abbrev pub callsOf : Answer → ℕ
 callsOf (answer-is.Sizes at) = 0
 callsOf (answer-is.TooLong at) = 0
 callsOf (answer-is.NoRoom at) = 0
