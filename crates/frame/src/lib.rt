@@ -78,11 +78,17 @@ fn seal_body(key: &[u8], nonce: &[u8], font: &[u8], line: &[u8], out: &mut [u8])
     let mut cipher = [0u8; body::LONGEST];
     let mut seal = [0u8; body::SEAL_LENGTH];
     let Sealed::Done(calls) = ingage::seal(key, nonce, &assoc, line, &mut cipher, &mut seal) else {
-        return Work { length: 0, calls: 0 };
+        return Work {
+            length: 0,
+            calls: 0,
+        };
     };
     let n = line.len();
     let Put::Done(length) = body::put_body(nonce, font, &cipher[0..n], &seal, out) else {
-        return Work { length: 0, calls: 0 };
+        return Work {
+            length: 0,
+            calls: 0,
+        };
     };
     Work { length, calls }
 }

@@ -9,11 +9,11 @@ use Rattle.lists.specs.Buffers.{over}
 use Rattle.stream.specs.declared.Span.{Span}
 use Rattle.stream.specs.Stretches.{nextSpan, nextStretch}
 use Rattle.line.specs.Lines.{longest}
-use Rattle.ingage.specs.Instances.{first}
+use Rattle.frame.specs.Answers.{keyLength}
 use Rattle.body.specs.Fields.{digestLength}
 use Rattle.reader.specs.declared.Answer.{Answer}
 use Rattle.reader.specs.declared.Answer.the-variants as answer-is
-use Rattle.reader.specs.Told.{Told}
+use Rattle.frame.specs.Told.{Told}
 use Rattle.reader.specs.Judged.{Judged, shape, stuffing, font, seal, unlisted, line}
 use Rattle.reader.specs.Readings.{ends}
 use Rattle.reader.specs.Judging.{judge}
@@ -24,7 +24,7 @@ longestStream = 65536
 
 -- key and font digest have their sizes (number 2)
 unfoldable pub sizedTold : Told → Bool
-sizedTold t = cond (eqb (length (t .key)) (first .key)) (eqb (length (t .font)) digestLength) false
+sizedTold t = cond (eqb (length (t .key)) keyLength) (eqb (length (t .font)) digestLength) false
 
 -- what a call finds: the call refused or the end of the stream, or a stretch
 pub data Found : Type 0 where
