@@ -9,12 +9,13 @@ use Rattle.stream.specs.declared.Span.{Span}
 use Rattle.stream.specs.Stretches.{bytesAt, nextSpan, nextStretch}
 use Rattle.stream.specs.Places.{Within, next-within, next-equal}
 use Rattle.line.specs.Lines.{longest}
-use Rattle.ingage.specs.Instances.{first}
+use Rattle.frame.specs.Answers.{keyLength}
 use Rattle.body.specs.Fields.{digestLength}
 use Rattle.reader.specs.declared.Answer.{Answer}
 use Rattle.reader.specs.declared.Answer.the-variants as answer-is
-use Rattle.reader.specs.Told.{Told}
-use Rattle.reader.specs.Sizes.{told, Sizes}
+use Rattle.frame.specs.Told.{Told}
+use Rattle.frame.specs.Told.{told}
+use Rattle.reader.specs.Sizes.{Sizes}
 use Rattle.reader.specs.Judging.{judge}
 use Rattle.reader.specs.Answers.{longestStream, sizedTold, Found, call, stretch, found, answer, buffer, answerAt, lineOver, readAnswer, readOut}
 
@@ -33,19 +34,19 @@ module _ (key font s : List ℕ) (from : ℕ) (o : List ℕ) where
   met : (f : Found) → found t s from (length o) ≡ f → Met (answer f) (buffer f o)
   met f e = (ap answer (sym e), ap (λ (x : Found). buffer x o) (sym e))
 
-  pub bad-key : (length key ≡ first .key → ⊥) → Met (answer-is.Sizes from) o
+  pub bad-key : (length key ≡ keyLength → ⊥) → Met (answer-is.Sizes from) o
   unfolding found sizedTold
-  bad-key k = met (call (answer-is.Sizes from)) (rw (ne-eqb (length key) (first .key) k))
+  bad-key k = met (call (answer-is.Sizes from)) (rw (ne-eqb (length key) keyLength k))
 
-  pub bad-font : length key ≡ first .key → (length font ≡ digestLength → ⊥) → Met (answer-is.Sizes from) o
+  pub bad-font : length key ≡ keyLength → (length font ≡ digestLength → ⊥) → Met (answer-is.Sizes from) o
   unfolding found sizedTold
   bad-font k d =
-      met (call (answer-is.Sizes from)) (rw (eq-eqb (length key) (first .key) k, ne-eqb (length font) digestLength d))
+      met (call (answer-is.Sizes from)) (rw (eq-eqb (length key) keyLength k, ne-eqb (length font) digestLength d))
 
-  module _ (k : length key ≡ first .key) (d : length font ≡ digestLength) where
+  module _ (k : length key ≡ keyLength) (d : length font ≡ digestLength) where
     sized : sizedTold t ≡ true
     unfolding sizedTold
-    sized = rw (eq-eqb (length key) (first .key) k) (eq-eqb (length font) digestLength d)
+    sized = rw (eq-eqb (length key) keyLength k) (eq-eqb (length font) digestLength d)
 
     pub too-long : longestStream < length s → Met (answer-is.TooLong from) o
     unfolding found

@@ -16,7 +16,7 @@ use Rattle.body.specs.Answers.{judged}
 use Rattle.body.specs.Lengths.{Sized, besideCipher, length-body, length-associated}
 use Rattle.body.specs.Places.{nonceAt, associatedAt, digestAt, cipherAt, sealAt, nonce-at, associated-at, digest-at, cipher-at, seal-at}
 use Rattle.body.specs.OneToOne.{body-fields}
-use Rattle.reader.specs.Told.{Told}
+use Rattle.frame.specs.Told.{Told}
 use Rattle.reader.specs.Sizes.{Sizes}
 use Rattle.reader.specs.Judged.{shape, font}
 use Rattle.reader.specs.Judging.{judgeSealed, judgeFields}

@@ -9,11 +9,11 @@ use Rattle.lists.specs.Buffers.{over}
 use Rattle.stream.specs.declared.Span.{Span}
 use Rattle.stream.specs.Stretches.{nextSpan, nextStretch}
 use Rattle.line.specs.Lines.{longest}
-use Rattle.ingage.specs.Instances.{first}
+use Rattle.frame.specs.Answers.{keyLength}
 use Rattle.body.specs.Fields.{digestLength}
 use Rattle.reader.specs.declared.Answer.{Answer}
 use Rattle.reader.specs.declared.Answer.the-variants as answer-is
-use Rattle.reader.specs.Told.{Told}
+use Rattle.frame.specs.Told.{Told}
 use Rattle.reader.specs.Judged.{Judged, shape, stuffing, font, seal, unlisted, line}
 use Rattle.reader.specs.Readings.{ends}
 use Rattle.reader.specs.Judging.{judge}
@@ -24,7 +24,7 @@ longestStream = 65536
 
 -- key and font digest have their sizes (number 2)
 unfoldable pub sizedTold : Told → Bool
-sizedTold t = cond (eqb (length (t .key)) (first .key)) (eqb (length (t .font)) digestLength) false
+sizedTold t = cond (eqb (length (t .key)) keyLength) (eqb (length (t .font)) digestLength) false
 
 -- what a call finds: the call refused or the end of the stream, or a stretch
 pub data Found : Type 0 where
@@ -74,7 +74,7 @@ abbrev pub readOut : Told → List ℕ → ℕ → List ℕ → List ℕ
 readOut t s from o = buffer (found t s from (length o)) o
 
 -- document 01's number of each answer
-pub numberOf : Answer → ℕ
+abbrev pub numberOf : Answer → ℕ
 numberOf (answer-is.Sizes at) = 2
 numberOf (answer-is.TooLong at) = 3
 numberOf (answer-is.NoRoom at) = 4
@@ -88,7 +88,7 @@ numberOf (answer-is.Unlisted a e n) = 9
 numberOf (answer-is.Line a e k n) = 0
 
 -- the place of the stretch's first byte
-pub firstOf : Answer → ℕ
+abbrev pub firstOf : Answer → ℕ
 firstOf (answer-is.Sizes at) = at
 firstOf (answer-is.TooLong at) = at
 firstOf (answer-is.NoRoom at) = at
@@ -102,7 +102,7 @@ firstOf (answer-is.Unlisted a e n) = a
 firstOf (answer-is.Line a e k n) = a
 
 -- the place of its closing mark, where the next call starts
-pub closingOf : Answer → ℕ
+abbrev pub closingOf : Answer → ℕ
 closingOf (answer-is.Sizes at) = at
 closingOf (answer-is.TooLong at) = at
 closingOf (answer-is.NoRoom at) = at
@@ -116,7 +116,7 @@ closingOf (answer-is.Unlisted a e n) = e
 closingOf (answer-is.Line a e k n) = e
 
 -- the line's length, 0 where none is given
-pub lengthOf : Answer → ℕ
+abbrev pub lengthOf : Answer → ℕ
 lengthOf (answer-is.Sizes at) = 0
 lengthOf (answer-is.TooLong at) = 0
 lengthOf (answer-is.NoRoom at) = 0
@@ -130,7 +130,7 @@ lengthOf (answer-is.Unlisted a e n) = 0
 lengthOf (answer-is.Line a e k n) = k
 
 -- the count of the calls of the permutation
-pub callsOf : Answer → ℕ
+abbrev pub callsOf : Answer → ℕ
 callsOf (answer-is.Sizes at) = 0
 callsOf (answer-is.TooLong at) = 0
 callsOf (answer-is.NoRoom at) = 0

@@ -19,7 +19,7 @@ use Rattle.line.specs.Lines.{lineRule}
 use Rattle.ingage.specs.Instances.{first}
 use Rattle.ingage.specs.Cipher.{Work, decrypted}
 use Rattle.body.specs.Fields.{Fields, fields, no-body, fieldsOf, associated}
-use Rattle.reader.specs.Told.{Told}
+use Rattle.frame.specs.Told.{Told}
 use Rattle.reader.specs.Judged.{Judged, shape, stuffing, font, seal, unlisted, line}
 use Rattle.reader.specs.Judging.{byRule, judgeSealed, judgeFields, judge}
 

@@ -1,4 +1,3 @@
-pub mod Told
 pub mod Sizes
 pub mod Judged
 pub mod Readings
@@ -6,4 +5,3 @@ pub mod Resync
 pub mod Judging
 pub mod Answers
 pub mod Cases
-pub mod Written

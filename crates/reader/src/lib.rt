@@ -10,7 +10,8 @@ ghost use Rattle.ingage.specs.Exactly.{Within};
 ghost use Rattle.body.specs.Fields.{fieldsOf};
 ghost use Rattle.reader.specs.Judging.{judgeSealed, judgeFields, judge};
 ghost use Rattle.reader.specs.Answers.{answerAt, lineOver, readAnswer, readOut};
-ghost use Rattle.reader.specs.Sizes.{told, Sizes};
+ghost use Rattle.frame.specs.Told.{told};
+ghost use Rattle.reader.specs.Sizes.{Sizes};
 use body::ASSOCIATED_AT;
 use body::CIPHER_AT;
 use body::DIGEST_AT;
@@ -21,6 +22,7 @@ use body::NONCE_AT;
 use body::NONCE_LENGTH;
 use body::SEAL_LENGTH;
 use body::judge_body;
+use frame::KEY_LENGTH;
 use ingage::Opened;
 use ingage::open;
 use line::judge_line;
@@ -33,9 +35,6 @@ use stuffing::unstuff;
 
 // The longest stream in bytes (document 01, number 3).
 pub const LONGEST_STREAM: usize = 65536;
-
-// The length of a key in bytes (document 01, number 2).
-pub const KEY_LENGTH: usize = 16;
 
 // What one read call answers. Each answer carries its places: that of the stretch's first byte and that of its closing mark.
 pub enum Answer {
