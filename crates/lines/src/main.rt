@@ -65,7 +65,7 @@ fn ended(t: Tally) -> Tally {
 fn one(stream: &[u8], key: &[u8], font: &[u8], line: &mut [u8], t: Tally) -> Tally {
     let from = t.next;
     let answer = reader::read(stream, from, key, font, line);
-    let number = reader::number(answer) as u64;
+    let number = values::number_of(answer) as u64;
     match answer {
         Answer::Line {
             first,

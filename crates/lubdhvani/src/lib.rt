@@ -1,6 +1,7 @@
 // The C interface: each proved call under its C name, thin. include/lubdhvani.h is its manual; numbers are document 01's, and
 // counts, lengths and places go out through references to numbers. The promises cite specs/Calls.antt.
 ghost use mathlib.Core.Path.{_≡_};
+ghost use Prim.Native.Nat.{_≤_};
 ghost use lib.ListN.{length, replicate};
 ghost use Rattle.lists.specs.Buffers.{copied};
 ghost use Rattle.digest.specs.Answers.{digestAnswer, digestOut};
@@ -14,16 +15,13 @@ ghost use Rattle.frame.specs.Answers as writing;
 ghost use Rattle.frame.specs.Told.{told};
 ghost use Rattle.reader.specs.Answers.{readAnswer, readOut};
 ghost use Rattle.reader.specs.Answers as reading;
-ghost use Rattle.reader.specs.Sizes as reader-told;
 ghost use Rattle.stream.specs.Stretches.{nextSpan};
-ghost use Rattle.lubdhvani.specs.Calls.{permuteNumber, permuteState};
+ghost use Rattle.lubdhvani.specs.Calls.{LARGEST-NUMBER, permuteNumber, permuteState};
 use digest::Digested;
-use frame::Written;
 use gage::Answer;
 use gage::LARGEST;
 use ingage::Opened;
 use ingage::Sealed;
-use reader::Answer as Reading;
 
 // A state of at most LARGEST bytes at the start of a whole one.
 fn widened(state: &[u8]) -> [u8; LARGEST]
@@ -213,29 +211,12 @@ pub extern "C" fn lubdhvani_open(
     open_number(answer)
 }
 
-// The frame's length and the count of a writing's answer.
-fn write_length(answer: Written) -> usize
-    ensures { λ r. ⌜ r ≡ writing.lengthOf answer ⌝ }
+// One of document 01's numbers, as C takes it.
+fn number(n: usize) -> u32
+    requires { ⌜ n ≤ LARGEST-NUMBER ⌝ }
+    ensures { λ r. ⌜ r ≡ n ⌝ }
 {
-    match answer {
-        Written::Done { length, calls: _ } => length,
-        Written::Sizes => 0,
-        Written::TooLong => 0,
-        Written::Unlisted => 0,
-        Written::NoRoom => 0,
-    }
-}
-
-fn write_count(answer: Written) -> usize
-    ensures { λ r. ⌜ r ≡ writing.countOf answer ⌝ }
-{
-    match answer {
-        Written::Done { length: _, calls } => calls,
-        Written::Sizes => 0,
-        Written::TooLong => 0,
-        Written::Unlisted => 0,
-        Written::NoRoom => 0,
-    }
+    n as u32
 }
 
 // Writes the frame of a line.
@@ -255,152 +236,9 @@ pub extern "C" fn lubdhvani_write(
     ensures { λ _. ⌜ now (calls .exit) ≡ writing.countOf (writeCall (told (now (key .entry)) (now (font .entry))) (now (nonce .entry)) (now (line .entry)) (now (frame .entry)) .answer) ⌝ }
 {
     let answer = frame::write(key, nonce, font, line, frame);
-    *length = write_length(answer);
-    *calls = write_count(answer);
-    frame::number(answer)
-}
-
-// The places, the line's length and the count of a reading's answer.
-fn read_first(answer: Reading) -> usize
-    ensures { λ r. ⌜ r ≡ reading.firstOf answer ⌝ }
-{
-    match answer {
-        Reading::Sizes(at) => at,
-        Reading::TooLong(at) => at,
-        Reading::NoRoom(at) => at,
-        Reading::Beyond(at) => at,
-        Reading::End(at) => at,
-        Reading::Shape { first, closing: _ } => first,
-        Reading::Stuffing { first, closing: _ } => first,
-        Reading::Font { first, closing: _ } => first,
-        Reading::Seal {
-            first,
-            closing: _,
-            calls: _,
-        } => first,
-        Reading::Unlisted {
-            first,
-            closing: _,
-            calls: _,
-        } => first,
-        Reading::Line {
-            first,
-            closing: _,
-            length: _,
-            calls: _,
-        } => first,
-    }
-}
-
-fn read_closing(answer: Reading) -> usize
-    ensures { λ r. ⌜ r ≡ reading.closingOf answer ⌝ }
-{
-    match answer {
-        Reading::Sizes(at) => at,
-        Reading::TooLong(at) => at,
-        Reading::NoRoom(at) => at,
-        Reading::Beyond(at) => at,
-        Reading::End(at) => at,
-        Reading::Shape { first: _, closing } => closing,
-        Reading::Stuffing { first: _, closing } => closing,
-        Reading::Font { first: _, closing } => closing,
-        Reading::Seal {
-            first: _,
-            closing,
-            calls: _,
-        } => closing,
-        Reading::Unlisted {
-            first: _,
-            closing,
-            calls: _,
-        } => closing,
-        Reading::Line {
-            first: _,
-            closing,
-            length: _,
-            calls: _,
-        } => closing,
-    }
-}
-
-fn read_length(answer: Reading) -> usize
-    ensures { λ r. ⌜ r ≡ reading.lengthOf answer ⌝ }
-{
-    match answer {
-        Reading::Sizes(_) => 0,
-        Reading::TooLong(_) => 0,
-        Reading::NoRoom(_) => 0,
-        Reading::Beyond(_) => 0,
-        Reading::End(_) => 0,
-        Reading::Shape {
-            first: _,
-            closing: _,
-        } => 0,
-        Reading::Stuffing {
-            first: _,
-            closing: _,
-        } => 0,
-        Reading::Font {
-            first: _,
-            closing: _,
-        } => 0,
-        Reading::Seal {
-            first: _,
-            closing: _,
-            calls: _,
-        } => 0,
-        Reading::Unlisted {
-            first: _,
-            closing: _,
-            calls: _,
-        } => 0,
-        Reading::Line {
-            first: _,
-            closing: _,
-            length,
-            calls: _,
-        } => length,
-    }
-}
-
-fn read_count(answer: Reading) -> usize
-    ensures { λ r. ⌜ r ≡ reading.callsOf answer ⌝ }
-{
-    match answer {
-        Reading::Sizes(_) => 0,
-        Reading::TooLong(_) => 0,
-        Reading::NoRoom(_) => 0,
-        Reading::Beyond(_) => 0,
-        Reading::End(_) => 0,
-        Reading::Shape {
-            first: _,
-            closing: _,
-        } => 0,
-        Reading::Stuffing {
-            first: _,
-            closing: _,
-        } => 0,
-        Reading::Font {
-            first: _,
-            closing: _,
-        } => 0,
-        Reading::Seal {
-            first: _,
-            closing: _,
-            calls,
-        } => calls,
-        Reading::Unlisted {
-            first: _,
-            closing: _,
-            calls,
-        } => calls,
-        Reading::Line {
-            first: _,
-            closing: _,
-            length: _,
-            calls,
-        } => calls,
-    }
+    *length = values::written_length(answer);
+    *calls = values::written_calls(answer);
+    number(values::written_number(answer))
 }
 
 // Judges the next stretch from a place, and gives out its line.
@@ -416,15 +254,15 @@ pub extern "C" fn lubdhvani_read(
     length: &mut usize,
     calls: &mut usize,
 ) -> u32
-    ensures { λ r. ⌜ r ≡ reading.numberOf (readAnswer (reader-told.told (now (key .entry)) (now (font .entry))) (now (stream .entry)) from (now (line .entry))) ⌝ }
-    ensures { λ _. ⌜ now (line .exit) ≡ readOut (reader-told.told (now (key .entry)) (now (font .entry))) (now (stream .entry)) from (now (line .entry)) ⌝ }
-    ensures { λ _. ⌜ (now (first .exit) ≡ reading.firstOf (readAnswer (reader-told.told (now (key .entry)) (now (font .entry))) (now (stream .entry)) from (now (line .entry)))) × (now (closing .exit) ≡ reading.closingOf (readAnswer (reader-told.told (now (key .entry)) (now (font .entry))) (now (stream .entry)) from (now (line .entry)))) ⌝ }
-    ensures { λ _. ⌜ (now (length .exit) ≡ reading.lengthOf (readAnswer (reader-told.told (now (key .entry)) (now (font .entry))) (now (stream .entry)) from (now (line .entry)))) × (now (calls .exit) ≡ reading.callsOf (readAnswer (reader-told.told (now (key .entry)) (now (font .entry))) (now (stream .entry)) from (now (line .entry)))) ⌝ }
+    ensures { λ r. ⌜ r ≡ reading.numberOf (readAnswer (told (now (key .entry)) (now (font .entry))) (now (stream .entry)) from (now (line .entry))) ⌝ }
+    ensures { λ _. ⌜ now (line .exit) ≡ readOut (told (now (key .entry)) (now (font .entry))) (now (stream .entry)) from (now (line .entry)) ⌝ }
+    ensures { λ _. ⌜ (now (first .exit) ≡ reading.firstOf (readAnswer (told (now (key .entry)) (now (font .entry))) (now (stream .entry)) from (now (line .entry)))) × (now (closing .exit) ≡ reading.closingOf (readAnswer (told (now (key .entry)) (now (font .entry))) (now (stream .entry)) from (now (line .entry)))) ⌝ }
+    ensures { λ _. ⌜ (now (length .exit) ≡ reading.lengthOf (readAnswer (told (now (key .entry)) (now (font .entry))) (now (stream .entry)) from (now (line .entry)))) × (now (calls .exit) ≡ reading.callsOf (readAnswer (told (now (key .entry)) (now (font .entry))) (now (stream .entry)) from (now (line .entry)))) ⌝ }
 {
     let answer = reader::read(stream, from, key, font, line);
-    *first = read_first(answer);
-    *closing = read_closing(answer);
-    *length = read_length(answer);
-    *calls = read_count(answer);
-    reader::number(answer)
+    *first = values::first_of(answer);
+    *closing = values::closing_of(answer);
+    *length = values::length_of(answer);
+    *calls = values::calls_of(answer);
+    number(values::number_of(answer))
 }

@@ -1,7 +1,9 @@
-// Document 01's number and values of an answer of the reader ('Numbers returned'), for callers that report them.
-// The promises cite reader's specs/Answers.antt.
+// Document 01's number and values of an answer of the reader and of the writer ('Numbers returned'), for callers that report them.
+// The promises cite specs/Answers.antt of reader and of frame.
 ghost use mathlib.Core.Path.{_≡_};
 ghost use Rattle.reader.specs.Answers.{numberOf, firstOf, closingOf, lengthOf, callsOf};
+ghost use Rattle.frame.specs.Answers as writing;
+use frame::Written;
 use reader::Answer;
 
 // The number returned; the end of the stream has 0, as a line has.
@@ -188,5 +190,47 @@ pub fn calls_of(answer: Answer) -> usize
             length: _,
             calls,
         } => calls,
+    }
+}
+
+// The number of the writer's answer.
+pub fn written_number(answer: Written) -> usize
+    ensures { λ r. ⌜ r ≡ writing.numberOf answer ⌝ }
+{
+    match answer {
+        Written::Done {
+            length: _,
+            calls: _,
+        } => 0,
+        Written::Sizes => 2,
+        Written::TooLong => 3,
+        Written::Unlisted => 9,
+        Written::NoRoom => 4,
+    }
+}
+
+// The frame's length, 0 on a refusal.
+pub fn written_length(answer: Written) -> usize
+    ensures { λ r. ⌜ r ≡ writing.lengthOf answer ⌝ }
+{
+    match answer {
+        Written::Done { length, calls: _ } => length,
+        Written::Sizes => 0,
+        Written::TooLong => 0,
+        Written::Unlisted => 0,
+        Written::NoRoom => 0,
+    }
+}
+
+// The calls of the permutation, 0 on a refusal.
+pub fn written_calls(answer: Written) -> usize
+    ensures { λ r. ⌜ r ≡ writing.countOf answer ⌝ }
+{
+    match answer {
+        Written::Done { length: _, calls } => calls,
+        Written::Sizes => 0,
+        Written::TooLong => 0,
+        Written::Unlisted => 0,
+        Written::NoRoom => 0,
     }
 }
