@@ -1,0 +1,208 @@
+// Composes a job stream: key.bin, font.bin, then orders on standard input, one a row: the nonce as 24 hexadecimal digits, a blank, the
+// line. The frames go to standard output; a row that can't be sealed is reported on standard error with document 01's number, and the
+// others are still written. Nonces come from the caller; none is made here.
+ghost use Prim.Native.Nat.{_≤_};
+ghost use lib.ListN.{length};
+use digest::Digested;
+use files::Loaded;
+use frame::Written;
+use libc::STDERR_FILENO;
+use libc::STDIN_FILENO;
+use libc::STDOUT_FILENO;
+use text::Digit;
+
+// The nonce in bytes, and the most of a row that is kept: nonce, blank and longest line fit with room to spare, and a longer row
+// keeps a line that is too long.
+const NONCE: usize = 12;
+
+const ROW: usize = 128;
+
+// A row being gathered: its number, from 1, how much of it is kept, and whether anything of it came.
+pub struct Orders {
+    pub number: u64,
+    pub length: usize,
+    pub begun: bool,
+}
+
+fn complain(text: &[u8]) {
+    io::write_all(STDERR_FILENO, text);
+}
+
+fn report(row: u64, number: u64) {
+    complain(b"row ");
+    io::print_decimal(STDERR_FILENO, row);
+    complain(b" refused ");
+    io::print_decimal(STDERR_FILENO, number);
+    complain(b"\n");
+}
+
+// The place of the first blank, or the length where there is none.
+fn first_blank(row: &[u8]) -> usize
+    ensures { λ r. ⌜ r ≤ length (now (row .entry)) ⌝ }
+{
+    let mut i = 0;
+    while i < row.len() {
+        if row[i] == b' ' {
+            return i;
+        }
+        i += 1;
+    }
+    i
+}
+
+// The value of two digits, or 256 where one is none.
+fn pair(high: u8, low: u8) -> u32 {
+    let Digit::Value(h) = text::value(high) else {
+        return 256;
+    };
+    let Digit::Value(l) = text::value(low) else {
+        return 256;
+    };
+    (h as u32) % 16 * 16 + (l as u32) % 16
+}
+
+// Whether the text is exactly a nonce in digits; then it stands in nonce.
+fn nonce_of(text: &[u8], nonce: &mut [u8]) -> bool {
+    if text.len() != 2 * NONCE {
+        return false;
+    }
+    if nonce.len() < NONCE {
+        return false;
+    }
+    let mut i = 0;
+    while i < NONCE {
+        let v = pair(text[2 * i], text[2 * i + 1]);
+        if v > 255 {
+            return false;
+        }
+        nonce[i] = (v % 256) as u8;
+        i += 1;
+    }
+    true
+}
+
+// One line under its nonce: its frame on standard output, or its refusal on standard error.
+fn seal_line(line: &[u8], nonce: &[u8], which: u64, key: &[u8], font: &[u8]) {
+    let mut frame = [0u8; frame::FRAME_ROOM];
+    let written = frame::write(key, nonce, font, line, &mut frame);
+    match written {
+        Written::Done { length, calls: _ } => {
+            if length <= frame.len() {
+                io::write_all(STDOUT_FILENO, &frame[0..length]);
+            }
+        }
+        _ => report(which, values::written_number(written) as u64),
+    }
+}
+
+// One order. A row with no blank has no line.
+fn order(row: &[u8], which: u64, key: &[u8], font: &[u8]) {
+    let mut nonce = [0u8; NONCE];
+    let at = first_blank(row);
+    if !nonce_of(&row[0..at], &mut nonce) {
+        report(which, 2);
+        return;
+    }
+    if at < row.len() {
+        let from = at + 1;
+        seal_line(&row[from..], &nonce, which, key, font);
+    } else {
+        seal_line(&row[at..], &nonce, which, key, font);
+    }
+}
+
+// The next byte of the orders: it ends a row, or is kept while there is room for it.
+fn fed(b: u8, row: &mut [u8], o: Orders, key: &[u8], font: &[u8]) -> Orders {
+    let at = o.length;
+    if b == b'\n' {
+        if at <= row.len() {
+            order(&row[0..at], o.number, key, font);
+        }
+        return Orders {
+            number: std::num::wrapping_add_u64(o.number, 1),
+            length: 0,
+            begun: false,
+        };
+    }
+    if at < row.len() {
+        row[at] = b;
+        return Orders {
+            number: o.number,
+            length: at + 1,
+            begun: true,
+        };
+    }
+    Orders {
+        number: o.number,
+        length: at,
+        begun: true,
+    }
+}
+
+fn fed_all(bytes: &[u8], row: &mut [u8], o: Orders, key: &[u8], font: &[u8]) -> Orders {
+    let mut next = o;
+    let mut i = 0;
+    while i < bytes.len() {
+        next = fed(bytes[i], row, next, key, font);
+        i += 1;
+    }
+    next
+}
+
+// All orders of standard input. The last row may lack its newline.
+fn compose(key: &[u8], font: &[u8]) {
+    let mut chunk = io::buffer();
+    let mut row = [0u8; ROW];
+    let mut o = Orders {
+        number: 1,
+        length: 0,
+        begun: false,
+    };
+    let mut turns: u64 = 0xFFFF_FFFF_FFFF_FFFF;
+    while turns > 0 {
+        let got = io::count(libc::read(STDIN_FILENO, &mut chunk), &chunk);
+        if got == 0 {
+            turns = 0;
+        } else {
+            o = fed_all(&chunk[0..got], &mut row, o, key, font);
+            turns -= 1;
+        }
+    }
+    let begun = o.begun;
+    if begun {
+        fed(b'\n', &mut row, o, key, font);
+    }
+}
+
+// The font's digest, where font.bin is a font of at most 65,536 bytes.
+fn font_digest(font: &mut [u8]) -> bool {
+    let mut buffer = io::large_buffer();
+    let Loaded::Bytes(n) = files::load(b"font.bin", &mut buffer) else {
+        return false;
+    };
+    if n > buffer.len() {
+        return false;
+    }
+    match digest::digest(1, &buffer[0..n], font) {
+        Digested::Done(_) => true,
+        _ => false,
+    }
+}
+
+fn main() {
+    let mut key = [0u8; 16];
+    let mut font = [0u8; 32];
+    let Loaded::Bytes(k) = files::load(b"key.bin", &mut key) else {
+        complain(b"no key\n");
+        return;
+    };
+    if k != 16 {
+        complain(b"no key\n");
+        return;
+    }
+    if !font_digest(&mut font) {
+        complain(b"no font\n");
+        return;
+    }
+    compose(&key, &font);
+}
