@@ -1,0 +1,79 @@
+-- `case_rows` is safe and ends: the line buffer keeps its length, and each turn leaves fewer. Assumes nothing.
+use mathlib.Core.Path.{_≡_}
+use lib.ListN.{length}
+use borrow.Author.Needs.{needs}
+use Rattle.stream_rows.proofs.case_rows.Statement.{statement}
+use Rattle.stream_rows.proofs.case_rows.Tie as tie
+
+abbrev Inv-loop : tie.InvT-loop
+Inv-loop case stream place line₀ k f from₀ turns₀ line from turns = length line ≡ length line₀
+
+abbrev μ-loop : tie.MeasureT-loop
+μ-loop case stream place line₀ k f from₀ turns₀ line from turns = turns
+
+key-requires : tie.Need-key-requires Inv-loop μ-loop
+key-requires c κs = search needs
+
+font-requires : tie.Need-font-requires Inv-loop μ-loop
+font-requires c κs = search needs
+
+loop-holds : tie.Need-loop-holds Inv-loop μ-loop
+loop-holds c = search needs
+
+slice-aggregate-row : tie.Need-slice-aggregate-row Inv-loop μ-loop
+slice-aggregate-row c = search needs
+
+slice-aggregate-row-2 : tie.Need-slice-aggregate-row-2 Inv-loop μ-loop
+slice-aggregate-row-2 c = search needs
+
+row-requires : tie.Need-row-requires Inv-loop μ-loop
+row-requires c κs = search needs
+
+closing-of-requires : tie.Need-closing-of-requires Inv-loop μ-loop
+closing-of-requires c κs = search needs
+
+goes-on-requires : tie.Need-goes-on-requires Inv-loop μ-loop
+goes-on-requires c κs = search needs
+
+sub-turns : tie.Need-sub-turns Inv-loop μ-loop
+sub-turns c = search needs
+
+loop-less : tie.Need-loop-less Inv-loop μ-loop
+loop-less c = search needs
+
+loop-again : tie.Need-loop-again Inv-loop μ-loop
+loop-again c = search needs
+
+loop-less-2 : tie.Need-loop-less-2 Inv-loop μ-loop
+loop-less-2 c = search needs
+
+loop-again-2 : tie.Need-loop-again-2 Inv-loop μ-loop
+loop-again-2 c = search needs
+
+same-length : tie.Need-same-length Inv-loop μ-loop
+same-length c = search needs
+
+returns : tie.Need-returns Inv-loop μ-loop
+returns c = search needs
+
+pub case-rows-spec : {M : Type 1} → statement M
+case-rows-spec =
+    tie.close
+    (tie.spec
+    Inv-loop
+    μ-loop
+    key-requires
+    font-requires
+    loop-holds
+    slice-aggregate-row
+    slice-aggregate-row-2
+    row-requires
+    closing-of-requires
+    goes-on-requires
+    sub-turns
+    loop-less
+    loop-again
+    loop-less-2
+    loop-again-2
+    same-length
+    returns)
