@@ -1,1 +1,5 @@
 pub mod Written
+pub mod Promises
+pub mod Resync
+pub mod GivenWritten
+pub mod Contracts

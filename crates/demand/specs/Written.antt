@@ -11,10 +11,9 @@ use Rattle.stuffing.specs.Stuffing.{mark, stuffed, unstuffed}
 use Rattle.stuffing.specs.RoundTrip.{unstuff-stuff, stuff-unstuff}
 use Rattle.stuffing.specs.GoodStuffing.{stuff-well}
 use Rattle.stuffing.specs.Bytes.{unstuffed-below}
-use Rattle.line.specs.declared.Judged.the-variants.{Accepted}
 use Rattle.line.specs.Lines.{lineRule, longest}
 use Rattle.ingage.specs.Instances.{first, first-fits}
-use Rattle.ingage.specs.Cipher.{Work, encrypted}
+use Rattle.ingage.specs.Cipher.{Work}
 use Rattle.ingage.specs.RoundTrip.{open-seal, seal-open}
 use Rattle.ingage.specs.Results.{length-decrypted}
 use Rattle.body.specs.Fields.{nonceLength, shortest, fields, fieldsOf, body, associated}
@@ -23,12 +22,12 @@ use Rattle.body.specs.Places.{nonce-at, nonceAt}
 use Rattle.body.specs.OneToOne.{fields-body, body-fields}
 use Rattle.frame.specs.Told.{Told}
 use Rattle.frame.specs.Frames.{sealedLine, sealedBody, framed, frameOf}
-use Rattle.frame.specs.Lengths.{besideLine, Sealable, sealed-sized, stretch-within, write-calls}
+use Rattle.frame.specs.Lengths.{besideLine, sealed-sized, stretch-within, write-calls}
 use Rattle.frame.specs.Outcomes.{Accepts}
 use Rattle.reader.specs.Sizes.{Sizes}
-use Rattle.reader.specs.Judged.{Judged, line}
+use Rattle.reader.specs.Judged.{line}
 use Rattle.reader.specs.Judging.{judge}
-use Rattle.reader.specs.Cases.{Stuffed, Holds, Case, given, opening, judge-case, judge-line}
+use Rattle.reader.specs.Cases.{Holds, Case, given, opening, judge-case, judge-line}
 
 -- the bytes s between two marks
 abbrev pub marked : List ℕ → List ℕ

@@ -3,3 +3,4 @@ pub mod Calls
 pub mod Unstuffing
 pub mod Parts
 pub mod Opening
+pub mod Single

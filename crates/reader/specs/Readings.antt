@@ -96,7 +96,8 @@ module _ (s : List ℕ) where
       ∙ ap (λ (l : List ℕ). nextStretch l 0) (sym (drop-drop from d s))
       ∙ sym (stretch-moved (drop d s) from (omega (arith, length-drop d s)))
 
-eqb-moved : (a e d : ℕ) → eqb (a + d) (e + d) ≡ eqb a e
+-- places as far apart as before
+pub eqb-moved : (a e d : ℕ) → eqb (a + d) (e + d) ≡ eqb a e
 eqb-moved a e d = go (eqb a e) refl
   where
     go : (t : Bool) → eqb a e ≡ t → eqb (a + d) (e + d) ≡ t

@@ -1,0 +1,24 @@
+-- `Reads` and `Writes` are the contracts of `read` and `write`, as the check reads them (`Post`): whatever a proved call gives, what this
+-- crate states of `Reads` and `Writes` holds of it. Assumes nothing.
+use contract.Lifetimes.{Lfts}
+use denote.Triple.Clauses.{AtExit}
+use borrow.Fn.Kinds.{Dens, endedOf}
+use Rattle.frame.specs.declared.Written.{Written}
+use Rattle.frame.proofs.write.Kinds as write-kinds
+use Rattle.frame.proofs.write.Reads as write-reads
+use Rattle.reader.specs.declared.Answer.{Answer}
+use Rattle.reader.proofs.read.Kinds as read-kinds
+use Rattle.reader.proofs.read.Reads as read-reads
+use Rattle.demand.specs.Promises.{Reads, Writes}
+
+-- the arguments are stream, place, key, font digest and line buffer
+pub read-promises : (κs : Lfts 4) (a : Dens κs read-kinds.ps) (r : Answer) (x : AtExit (endedOf 4 read-kinds.ps read-kinds.r) κs)
+    → read-reads.Post κs a r x
+    → Reads (a .1 .1 .0 .now) (a .1 .1 .1 .0 .now) (a .0 .now) (a .1 .0) (a .1 .1 .1 .1 .0 .now) r (x .1 .1 .1 .1 .0 .now)
+read-promises κs a r x p = p
+
+-- the arguments are key, nonce, font digest, line and frame buffer
+pub write-promises : (κs : Lfts 5) (a : Dens κs write-kinds.ps) (w : Written) (x : AtExit (endedOf 5 write-kinds.ps write-kinds.r) κs)
+    → write-reads.Post κs a w x
+    → Writes (a .0 .now) (a .1 .0 .now) (a .1 .1 .0 .now) (a .1 .1 .1 .0 .now) (a .1 .1 .1 .1 .0 .now) w (x .1 .1 .1 .1 .0 .now)
+write-promises κs a w x p = p

@@ -1,0 +1,262 @@
+-- The buyer's demand 3, second half, from the promises of `read` and `write` alone: a line is given exactly when the bytes between its
+-- marks are those that a write call makes for that line under that key and font and some nonce, and every frame that a write call makes,
+-- standing anywhere in a stream, is read as its line. Assumes nothing.
+use mathlib.Core.Path.{_≡_, refl, sym, ap, ap₂, _∙_}
+use mathlib.Core.Bool.{Bool, true, false, not, cond}
+use mathlib.Core.List.{List, [], _∷_, _++_, append-assoc}
+use Prim.Native.Nat.{ℕ, _+_, _-_, _≤_, _<_}
+use native.Mathlib.Omega.{arith}
+use lib.Dec.{eqb, ltb}
+use lib.ListN.{length, take, drop, replicate, length-append}
+use borrow.Author.Tests.{eq-eqb, ne-eqb, eqb-true}
+use Rattle.lists.specs.Below.{Below, below-take, below-drop}
+use Rattle.lists.specs.Buffers.{over}
+use Rattle.lists.specs.Over.{take-over}
+use Rattle.stuffing.specs.Stuffing.{mark, stuffed}
+use Rattle.stuffing.specs.Marks.{stuffed-free}
+use Rattle.line.specs.Lines.{longest}
+use Rattle.stream.specs.declared.Span.{Span}
+use Rattle.stream.specs.Stretches.{span, bytesAt, nextSpan, nextStretch}
+use Rattle.stream.specs.Meaning.{Stretch}
+use Rattle.stream.specs.Places.{stretch-next}
+use Rattle.stream.specs.Shift.{next-frame, next-frame-bytes}
+use Rattle.body.specs.Fields.{nonceLength, digestLength}
+use Rattle.frame.specs.declared.Written.the-variants as written-is
+use Rattle.frame.specs.declared.Written as written
+use Rattle.frame.specs.Told.{Told, told}
+use Rattle.frame.specs.Frames.{sealedLine, sealedBody, framed, frameOf}
+use Rattle.frame.specs.Answers.{keyLength, frameRoom, WriteCall, framedCall, writeCall}
+use Rattle.frame.specs.Lengths.{besideLine, length-framed, stretch-some, write-calls}
+use Rattle.frame.specs.Outcomes.{Accepts, done-accepts, write-done}
+use Rattle.reader.specs.declared.Answer.{Answer}
+use Rattle.reader.specs.declared.Answer.the-variants as answer-is
+use Rattle.reader.specs.Sizes.{Sizes}
+use Rattle.reader.specs.Judged.{Judged, shape, stuffing, seal, unlisted, line}
+use Rattle.reader.specs.Judged as judged-is
+use Rattle.reader.specs.Judging.{judge}
+use Rattle.reader.specs.Readings.{ends}
+use Rattle.reader.specs.Answers.{longestStream, sizedTold, Found, call, stretch, found, answer, buffer, answerAt}
+use Rattle.demand.specs.Promises.{Reads, Writes}
+use Rattle.demand.specs.Resync.{sized}
+use Rattle.demand.specs.Written.{marked, Written, written-given, given-made, made-given}
+
+told-sized : (t : Told) → length (t .key) ≡ keyLength → length (t .font) ≡ digestLength → sizedTold t ≡ true
+unfolding sizedTold
+told-sized t k d = rw (eq-eqb (length (t .key)) keyLength k) (eq-eqb (length (t .font)) digestLength d)
+
+-- a write call that is done
+module _ (key nonce font L f : List ℕ) (w : written.Written) (f′ : List ℕ) (p : Writes key nonce font L f w f′) where
+  abbrev t : Told
+  t = told key font
+
+  -- was asked for what the writer accepts, and left the frame in the buffer
+  pub record Wrote (n k : ℕ) : Type 0 where
+    pub accepts : Accepts t nonce L
+    pub frame : take n f′ ≡ frameOf t nonce L
+    pub long : n ≡ length (frameOf t nonce L)
+    pub calls : k ≡ length L + besideLine
+
+  pub wrote : (n k : ℕ) → w ≡ written-is.Done n k → Wrote n k
+  unfolding framedCall
+  wrote n k e =
+      let y = done-accepts t nonce L f n k (sym (p .0) ∙ e) in
+      let a = y .0 in
+      let z : writeCall t nonce L f ≡ framedCall t nonce L f = write-done t nonce L f (a .sealable) (a .listed) (y .1) in
+      let same : written-is.Done n k ≡ written-is.Done (length (frameOf t nonce L)) (sealedLine t nonce L .calls) =
+      sym e ∙ p .0 ∙ ap (λ (c : WriteCall). c .answer) z in
+      let long : n ≡ length (frameOf t nonce L) = cc same in
+      let calls : k ≡ sealedLine t nonce L .calls = cc same in
+      record {
+        accepts = a;
+        frame = ap (take n) (p .1 ∙ ap (λ (c : WriteCall). c .frame) z) ∙ take-over (frameOf t nonce L) f n (sym long);
+        long = long;
+        calls = calls ∙ write-calls (a .sealable);
+      }
+
+-- what a call finds where the next stretch is the one written
+module _ (t : Told) (z : Sizes t) (s : List ℕ) (from room : ℕ) (h : length s ≤ longestStream) (g : longest ≤ room) (f : from ≤ length s) where
+  found-next : (p : Span) → nextSpan s from ≡ p → (p .first ≡ p .closing → ⊥) → found t s from room ≡ stretch p (judge t (nextStretch s from))
+  found-next p e d =
+      sized t s from room h g f (told-sized t (z .key-is) (z .font-is)) ∙ rw (e, ne-eqb (p .first) (p .closing) d)
+
+-- every frame that a write call makes, standing anywhere in a stream within the limit, is read from its opening mark as its line
+module _ (key nonce font L f : List ℕ) (w : written.Written) (f′ : List ℕ) (p : Writes key nonce font L f w f′) (n k : ℕ) (e : w ≡ written-is.Done n k) where
+  is : Wrote key nonce font L f w f′ p n k
+  is = wrote key nonce font L f w f′ p n k e
+
+  b : List ℕ
+  b = sealedBody (told key font) nonce L
+
+  -- in the words of the stream's law
+  anywhere : (a c : List ℕ) → a ++ (take n f′ ++ c) ≡ a ++ (mark ∷ (stuffed b ++ mark ∷ c))
+  unfolding b frameOf framed
+  anywhere a c = ap (λ (x : List ℕ). a ++ (x ++ c)) (is .frame) ∙ ap (λ (x : List ℕ). a ++ (mark ∷ x)) (append-assoc (stuffed b) (mark ∷ []) c)
+
+  frame-length : n ≡ length (stuffed b) + 2
+  unfolding b frameOf
+  frame-length = is .long ∙ length-framed b
+
+  pub frame-read : (a c l : List ℕ) (r : Answer) (l′ : List ℕ) → length (a ++ (take n f′ ++ c)) ≤ longestStream → longest ≤ length l
+      → Reads key font (a ++ (take n f′ ++ c)) (length a) l r l′
+      → (r ≡ answer-is.Line (length a + 1) (length a + n - 1) (length L) k) × (l′ ≡ over L l)
+  unfolding b
+  frame-read a c l r l′ h g q =
+      let t = told key font in
+      let y = is .accepts .sealable in
+      let some : 0 < length (stuffed b) = stretch-some y in
+      let s = a ++ (take n f′ ++ c) in
+      let sp : nextSpan s (length a) ≡ span (length a + 1) (length a + 1 + length (stuffed b)) =
+      ap (λ (x : List ℕ). nextSpan x (length a)) (anywhere a c) ∙ next-frame a (stuffed b) c some (stuffed-free b) in
+      let bytes : nextStretch s (length a) ≡ stuffed b =
+      ap (λ (x : List ℕ). nextStretch x (length a)) (anywhere a c) ∙ next-frame-bytes a (stuffed b) c some (stuffed-free b) in
+      let j : judge t (nextStretch s (length a)) ≡ line L k =
+      ap (judge t) bytes ∙ written-given t nonce L (is .accepts) ∙ ap (line L) (sym (is .calls)) in
+      let at : length a ≤ length s = omega (arith, length-append a (take n f′ ++ c)) in
+      let there = span (length a + 1) (length a + 1 + length (stuffed b)) in
+      let found-is : found t s (length a) (length l) ≡ stretch there (line L k) =
+      found-next t (record { key-is = y .key-is; font-is = y .font-is }) s (length a) (length l) h g at there sp (λ u. omega (arith, u))
+      ∙ ap (stretch there) j in
+      let last : length a + 1 + length (stuffed b) ≡ length a + n - 1 = omega (arith, frame-length) in (
+        q .0 ∙ ap answer found-is ∙ ap (λ (m : ℕ). answer-is.Line (length a + 1) m (length L) k) last,
+        q .1 ∙ ap (λ (x : Found). buffer x l) found-is,
+      )
+
+-- the stretch s′ is what a write call of the line L with this key, font and nonce makes between the marks, in any buffer with room
+abbrev pub MadeWith : List ℕ → List ℕ → List ℕ → ℕ → List ℕ → List ℕ → Type 0
+MadeWith key font L k s′ nonce =
+    (f : List ℕ) (w : written.Written) (f′ : List ℕ) → frameRoom ≤ length f → Writes key nonce font L f w f′
+    → (n : ℕ) × (w ≡ written-is.Done n k) × (take n f′ ≡ marked s′)
+
+-- by some nonce of 12 bytes
+pub record Made (key font L : List ℕ) (k : ℕ) (s′ : List ℕ) : Type 0 where
+  pub nonce : List ℕ
+  pub nonce-is : length nonce ≡ nonceLength
+  pub nonce-bytes : Below 256 nonce
+  pub makes : MadeWith key font L k s′ nonce
+
+-- the definitions' word for it and the promises' are the same
+made-written : (key font L : List ℕ) (s′ : List ℕ) → Written (told key font) s′ L → Made key font L (length L + besideLine) s′
+unfolding framedCall
+made-written key font L s′ (nonce, v) =
+    let t = told key font in
+    let y = v .accepts .sealable in
+    record {
+      nonce = nonce;
+      nonce-is = y .nonce-is;
+      nonce-bytes = v .nonce-bytes;
+      makes = λ f w f′ g p.
+          let z : writeCall t nonce L f ≡ framedCall t nonce L f = write-done t nonce L f y (v .accepts .listed) g in (
+            length (frameOf t nonce L),
+            p .0 ∙ ap (λ (c : WriteCall). c .answer) z ∙ ap (written-is.Done (length (frameOf t nonce L))) (write-calls y),
+            ap (take (length (frameOf t nonce L))) (p .1 ∙ ap (λ (c : WriteCall). c .frame) z)
+                ∙ take-over (frameOf t nonce L) f (length (frameOf t nonce L)) refl ∙ v .makes,
+          );
+    }
+
+written-made : (key font L : List ℕ) (k : ℕ) (s′ : List ℕ) → Made key font L k s′ → Written (told key font) s′ L × (k ≡ length L + besideLine)
+written-made key font L k s′ m =
+    let t = told key font in
+    let f : List ℕ = replicate frameRoom 0 in
+    let c = writeCall t (m .nonce) L f in
+    let (n, e, u) = m .makes f (c .answer) (c .frame) (omega arith) (refl, refl) in
+    let o = wrote key (m .nonce) font L f (c .answer) (c .frame) (refl, refl) n k e in
+    ((m .nonce, record { accepts = o .accepts; nonce-bytes = m .nonce-bytes; makes = sym (o .frame) ∙ u }), o .calls)
+
+-- what a call that gives a line found
+pub record Gave (t : Told) (s : List ℕ) (from room p q n k : ℕ) : Type 0 where
+  pub sizes : Sizes t
+  pub the-line : List ℕ
+  pub long : length the-line ≡ n
+  pub found-is : found t s from room ≡ stretch (span p q) (line the-line k)
+  pub judged : judge t (bytesAt s (span p q)) ≡ line the-line k
+
+sized-told : (t : Told) → sizedTold t ≡ true → Sizes t
+unfolding sizedTold
+sized-told t = go (eqb (length (t .key)) keyLength) refl
+  where
+    go : (x : Bool) → eqb (length (t .key)) keyLength ≡ x → cond x (eqb (length (t .font)) digestLength) false ≡ true → Sizes t
+    go true p e = record { key-is = eqb-true (length (t .key)) keyLength p; font-is = eqb-true (length (t .font)) digestLength e }
+    go false p e = absurd (let z : _≡_ {A = ℕ} 0 1 = cc e in omega arith)
+
+-- a line is given only for a stretch judged so
+answer-line : (u : Span) (j : Judged) (p q n k : ℕ) → answerAt u j ≡ answer-is.Line p q n k
+    → (u ≡ span p q) × (L : List ℕ) × (j ≡ line L k) × (length L ≡ n)
+answer-line u (line L m) p q n k e =
+    let a : u .first ≡ p = cc e in
+    let b : u .closing ≡ q = cc e in
+    let c : m ≡ k = cc e in
+    let d : length L ≡ n = cc e in
+    (ap₂ span a b, L, ap (line L) c, d)
+answer-line u shape p q n k e = absurd (let z : _≡_ {A = ℕ} 0 1 = cc e in omega arith)
+answer-line u stuffing p q n k e = absurd (let z : _≡_ {A = ℕ} 0 1 = cc e in omega arith)
+answer-line u judged-is.font p q n k e = absurd (let z : _≡_ {A = ℕ} 0 1 = cc e in omega arith)
+answer-line u (seal m) p q n k e = absurd (let z : _≡_ {A = ℕ} 0 1 = cc e in omega arith)
+answer-line u (unlisted m) p q n k e = absurd (let z : _≡_ {A = ℕ} 0 1 = cc e in omega arith)
+
+gave : (t : Told) (s : List ℕ) (from room p q n k : ℕ) → answer (found t s from room) ≡ answer-is.Line p q n k → Gave t s from room p q n k
+unfolding found nextStretch
+gave t s from room p q n k =
+    go (sizedTold t) refl (ltb longestStream (length s)) refl (ltb room longest) refl (ltb (length s) from) refl (ends (nextSpan s from)) refl
+  where
+    go : (a : Bool) → sizedTold t ≡ a → (b : Bool) → ltb longestStream (length s) ≡ b → (c : Bool) → ltb room longest ≡ c
+        → (d : Bool) → ltb (length s) from ≡ d → (e : Bool) → ends (nextSpan s from) ≡ e
+        → answer (cond (not a) (call (answer-is.Sizes from))
+        (cond b (call (answer-is.TooLong from))
+        (cond c (call (answer-is.NoRoom from))
+        (cond d (call (answer-is.Beyond from))
+        (cond e (call (answer-is.End (length s))) (stretch (nextSpan s from) (judge t (nextStretch s from)))))))) ≡ answer-is.Line p q n k
+        → Gave t s from room p q n k
+    go true u false v false w false x false y r =
+        let z = answer-line (nextSpan s from) (judge t (nextStretch s from)) p q n k r in
+        let j : judge t (bytesAt s (span p q)) ≡ line (z .1) k = ap (λ (o : Span). judge t (bytesAt s o)) (sym (z .0)) ∙ z .2 in
+        record {
+          sizes = sized-told t u;
+          the-line = z .1;
+          long = z .3;
+          found-is = rw (u, v, w, x, y) (ap₂ stretch (z .0) (z .2));
+          judged = j;
+        }
+    go true u false v false w false x true y r = absurd (let z : _≡_ {A = ℕ} 0 1 = cc r in omega arith)
+    go true u false v false w true x e y r = absurd (let z : _≡_ {A = ℕ} 0 1 = cc r in omega arith)
+    go true u false v true w d x e y r = absurd (let z : _≡_ {A = ℕ} 0 1 = cc r in omega arith)
+    go true u true v c w d x e y r = absurd (let z : _≡_ {A = ℕ} 0 1 = cc r in omega arith)
+    go false u b v c w d x e y r = absurd (let z : _≡_ {A = ℕ} 0 1 = cc r in omega arith)
+
+-- a call: its arguments, and an answer and a buffer that its promise admits
+module _ (key font s : List ℕ) (bytes : Below 256 s) (from : ℕ) (l : List ℕ) (r : Answer) (l′ : List ℕ) (c : Reads key font s from l r l′) where
+  -- a line that is given is what a write call makes of it, with the same count
+  pub given-is-written : (p q n k : ℕ) → r ≡ answer-is.Line p q n k → Made key font (take n l′) k (bytesAt s (span p q))
+  given-is-written p q n k e =
+      let t = told key font in
+      let g = gave t s from (length l) p q n k (sym (c .0) ∙ e) in
+      let L = g .the-line in
+      let v = given-made t (g .sizes) (bytesAt s (span p q)) (part-below p q) L k (g .judged) in
+      let same : line L k ≡ line L (length L + besideLine) = sym (g .judged) ∙ made-given t (bytesAt s (span p q)) L v in
+      let calls : k ≡ length L + besideLine = cc same in
+      let there : take n l′ ≡ L =
+      ap (take n) (c .1 ∙ ap (λ (x : Found). buffer x l) (g .found-is)) ∙ take-over L l n (g .long) in
+      same-made there calls (made-written key font L (bytesAt s (span p q)) v)
+    where
+      same-made : {L L′ : List ℕ} {k k′ : ℕ} {s′ : List ℕ} → L′ ≡ L → k′ ≡ k → Made key font L k s′ → Made key font L′ k′ s′
+      same-made x y m = rw (x, y) m
+
+      part-below : (p q : ℕ) → Below 256 (bytesAt s (span p q))
+      part-below p q = below-take 256 (q - p) (drop p s) (below-drop 256 p s bytes)
+
+-- and every stretch that a write call makes gives its line, read from its opening mark
+pub written-is-given : (key font L : List ℕ) (k : ℕ) (s : List ℕ) (p q : ℕ) → length s ≤ longestStream → Stretch s p q
+    → Made key font L k (bytesAt s (span p q)) → (l : List ℕ) (r : Answer) (l′ : List ℕ) → longest ≤ length l → Reads key font s (p - 1) l r l′
+    → (r ≡ answer-is.Line p q (length L) k) × (l′ ≡ over L l)
+unfolding nextStretch
+written-is-given key font L k s p q h x m l r l′ g c =
+    let t = told key font in
+    let v = written-made key font L k (bytesAt s (span p q)) m in
+    let y = v .0 .1 .accepts .sealable in
+    let sp = stretch-next s p q x in
+    let at : p - 1 ≤ length s = omega (arith, x .some, x .ends) in
+    let j : judge t (nextStretch s (p - 1)) ≡ line L k =
+    ap (λ (o : Span). judge t (bytesAt s o)) sp ∙ made-given t (bytesAt s (span p q)) L (v .0) ∙ ap (line L) (sym (v .1)) in
+    let found-is : found t s (p - 1) (length l) ≡ stretch (span p q) (line L k) =
+    found-next t (record { key-is = y .key-is; font-is = y .font-is }) s (p - 1) (length l) h g at (span p q) sp (λ u. omega (arith, u, x .some))
+    ∙ ap (stretch (span p q)) j in
+    (c .0 ∙ ap answer found-is, c .1 ∙ ap (λ (o : Found). buffer o l) found-is)

@@ -1,0 +1,64 @@
+-- What `read` and `write` promise of one call, on plain lists (proofs/Contracts.antt has that it is their contracts), and what a caller
+-- sees of a reading. Assumes nothing: these are definitions.
+use mathlib.Core.Path.{_≡_}
+use mathlib.Core.Bool.{Bool, true, false}
+use mathlib.Core.List.{List, [], _∷_}
+use Prim.Native.Nat.{ℕ, _-_, _≤_}
+use lib.ListN.{length, take}
+use Rattle.line.specs.Lines.{longest}
+use Rattle.frame.specs.declared.Written.{Written}
+use Rattle.frame.specs.Told.{told}
+use Rattle.frame.specs.Answers.{writeCall}
+use Rattle.reader.specs.declared.Answer.{Answer}
+use Rattle.reader.specs.declared.Answer.the-variants as answer-is
+use Rattle.reader.specs.Answers.{readAnswer, readOut, numberOf, firstOf, closingOf, lengthOf, callsOf}
+
+-- a read call with this key and font, of the stream s from a place, with the line buffer l before it, may answer r and leave l′ in it
+abbrev pub Reads : List ℕ → List ℕ → List ℕ → ℕ → List ℕ → Answer → List ℕ → Type 0
+Reads key font s from l r l′ = (r ≡ readAnswer (told key font) s from l) × (l′ ≡ readOut (told key font) s from l)
+
+-- a write call of the line L under this key, nonce and font, with the buffer f before it, may answer w and leave f′ in it
+abbrev pub Writes : List ℕ → List ℕ → List ℕ → List ℕ → List ℕ → Written → List ℕ → Type 0
+Writes key nonce font L f w f′ =
+    (w ≡ writeCall (told key font) nonce L f .answer) × (f′ ≡ writeCall (told key font) nonce L f .frame)
+
+-- the end of the stream is its own answer
+abbrev pub isEnd : Answer → Bool
+isEnd (answer-is.Sizes at) = false
+isEnd (answer-is.TooLong at) = false
+isEnd (answer-is.NoRoom at) = false
+isEnd (answer-is.Beyond at) = false
+isEnd (answer-is.End at) = true
+isEnd (answer-is.Shape a e) = false
+isEnd (answer-is.Stuffing a e) = false
+isEnd (answer-is.Font a e) = false
+isEnd (answer-is.Seal a e n) = false
+isEnd (answer-is.Unlisted a e n) = false
+isEnd (answer-is.Line a e k n) = false
+
+-- all that a caller sees of a reading: document 01's number and values, and the line's bytes in the buffer
+pub record Seen : Type 0 where
+  pub number : ℕ
+  pub ended : Bool
+  pub first : ℕ
+  pub closing : ℕ
+  pub calls : ℕ
+  pub line : List ℕ
+
+-- with places counted from place i
+abbrev pub seenFrom : ℕ → Answer → List ℕ → Seen
+seenFrom i r l′ = record {
+  number = numberOf r;
+  ended = isEnd r;
+  first = firstOf r - i;
+  closing = closingOf r - i;
+  calls = callsOf r;
+  line = take (lengthOf r) l′;
+}
+
+-- some read calls one after the other with room enough for a line, the first from a place, each next one from where the one before
+-- closed; and what is seen of them with places counted from place i. Each call may have a line buffer of its own
+pub data Run (key font s : List ℕ) (i : ℕ) : ℕ → List Seen → Type 0 where
+  none : {from : ℕ} → Run key font s i from []
+  next : {from : ℕ} (r : Answer) (l l′ : List ℕ) {rest : List Seen} → longest ≤ length l → Reads key font s from l r l′
+      → Run key font s i (closingOf r) rest → Run key font s i from (seenFrom i r l′ ∷ rest)

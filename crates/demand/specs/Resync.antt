@@ -1,0 +1,167 @@
+-- The buyer's demand 3, first half, from the promises alone: however many read calls are made from a mark on, each sees the same in two
+-- streams that are equal from there on, with places counted from the mark. Assumes nothing.
+use mathlib.Core.Path.{_≡_, refl, sym, ap, ap₂, _∙_}
+use mathlib.Core.Bool.{Bool, true, false, not, cond}
+use mathlib.Core.List.{List, [], _∷_}
+use Prim.Native.Nat.{ℕ, _-_, _≤_}
+use native.Mathlib.Omega.{arith}
+use lib.ListN.{length, drop, length-drop}
+use lib.Seq.{drop-length}
+use borrow.Author.Tests.{le-ltb}
+use Rattle.lists.specs.Over.{take-over}
+use Rattle.line.specs.Lines.{longest}
+use Rattle.stream.specs.declared.Span.{Span}
+use Rattle.stream.specs.Stretches.{nextSpan, nextStretch}
+use Rattle.stream.specs.Places.{next-within, next-after}
+use Rattle.stream.specs.Shift.{Alike, moved, next-moved, next-shift}
+use Rattle.frame.specs.Told.{Told, told}
+use Rattle.reader.specs.declared.Answer.the-variants as answer-is
+use Rattle.reader.specs.Judged.{Judged, shape, stuffing, font, seal, unlisted, line, numberIn, lineIn, callsIn}
+use Rattle.reader.specs.Judging.{judge}
+use Rattle.reader.specs.Readings.{ends, eqb-moved}
+use Rattle.reader.specs.Resync.{Mark}
+use Rattle.reader.specs.Answers.{longestStream, sizedTold, Found, call, stretch, found, answer, buffer, answerAt, lineOver, closingOf}
+use Rattle.demand.specs.Promises.{Seen, seenFrom, Run, none, next}
+
+-- what is seen of a stretch does not depend on what the buffer held
+seen-at : (i : ℕ) (p : Span) (j : Judged) (l : List ℕ) → seenFrom i (answerAt p j) (lineOver j l) ≡ record {
+  number = numberIn j;
+  ended = false;
+  first = p .first - i;
+  closing = p .closing - i;
+  calls = callsIn j;
+  line = lineIn j;
+}
+seen-at i p shape l = refl
+seen-at i p stuffing l = refl
+seen-at i p font l = refl
+seen-at i p (seal n) l = refl
+seen-at i p (unlisted n) l = refl
+seen-at i p (line w n) l = ap (λ (x : List ℕ). record { number = 0; ended = false; first = p .first - i; closing = p .closing - i; calls = n; line = x }) (take-over w l (length w) refl)
+
+closing-at : (p : Span) (j : Judged) → closingOf (answerAt p j) ≡ p .closing
+closing-at p shape = refl
+closing-at p stuffing = refl
+closing-at p font = refl
+closing-at p (seal n) = refl
+closing-at p (unlisted n) = refl
+closing-at p (line w n) = refl
+
+-- places in order
+on : (a f c : ℕ) → a ≤ f → f ≤ c → a ≤ c
+on a f c h g = omega arith
+
+-- as far behind a as behind b, and these as far behind i as behind j
+farther : (i a p j b q : ℕ) → i ≤ a → a ≤ p → j ≤ b → b ≤ q → a - i ≡ b - j → p - a ≡ q - b → p - i ≡ q - j
+farther i a p j b q h g h′ g′ e f = omega arith
+
+-- a place a of x and a place b of y from which the same bytes follow, as far behind i as behind j
+pub record Abreast (x : List ℕ) (i a : ℕ) (y : List ℕ) (j b : ℕ) : Type 0 where
+  pub alike : Alike x a y b
+  pub after-i : i ≤ a
+  pub after-j : j ≤ b
+  pub same : a - i ≡ b - j
+
+-- what a call finds within the limits and with room
+module _ (t : Told) (s : List ℕ) (from room : ℕ) (h : length s ≤ longestStream) (g : longest ≤ room) (f : from ≤ length s) where
+  unsized : sizedTold t ≡ false → found t s from room ≡ call (answer-is.Sizes from)
+  unfolding found
+  unsized e = rw e
+
+  pub sized : sizedTold t ≡ true → found t s from room
+      ≡ cond (ends (nextSpan s from)) (call (answer-is.End (length s))) (stretch (nextSpan s from) (judge t (nextStretch s from)))
+  unfolding found
+  sized e = rw (e, le-ltb longestStream (length s) h, le-ltb room longest g, le-ltb (length s) from f)
+
+-- one call in each stream sees the same, and ends at places that are abreast again
+module _ (t : Told) (x : List ℕ) (i a : ℕ) (y : List ℕ) (j b : ℕ) (hx : length x ≤ longestStream) (hy : length y ≤ longestStream)
+    (w : Abreast x i a y j b) (l m : List ℕ) (gx : longest ≤ length l) (gy : longest ≤ length m) where
+  abbrev Goal : Found → Found → Type 0
+  Goal f e =
+      (seenFrom i (answer f) (buffer f l) ≡ seenFrom j (answer e) (buffer e m))
+      × Abreast x i (closingOf (answer f)) y j (closingOf (answer e))
+
+  at-refusal : Goal (call (answer-is.Sizes a)) (call (answer-is.Sizes b))
+  at-refusal = (ap (λ (k : ℕ). record { number = 2; ended = false; first = k; closing = k; calls = 0; line = [] }) (w .same), w)
+
+  at-end : Goal (call (answer-is.End (length x))) (call (answer-is.End (length y)))
+  at-end =
+      let r : length (drop a x) ≡ length (drop b y) = ap length (w .alike .rest) in
+      let k : length x - i ≡ length y - j =
+      omega (arith, length-drop a x, length-drop b y, w .same, w .after-i, w .after-j, w .alike .in-x, w .alike .in-y) in (
+        ap (λ (n : ℕ). record { number = 0; ended = true; first = n; closing = n; calls = 0; line = [] }) k,
+        record {
+          alike = record { in-x = omega arith; in-y = omega arith; rest = drop-length x ∙ sym (drop-length y) };
+          after-i = omega (arith, w .after-i, w .alike .in-x);
+          after-j = omega (arith, w .after-j, w .alike .in-y);
+          same = k;
+        },
+      )
+
+  at-stretch : Goal (stretch (nextSpan x a) (judge t (nextStretch x a))) (stretch (nextSpan y b) (judge t (nextStretch y b)))
+  at-stretch =
+      let n = next-shift (w .alike) in
+      let ax : a ≤ nextSpan x a .first = next-after x a (w .alike .in-x) in
+      let by : b ≤ nextSpan y b .first = next-after y b (w .alike .in-y) in
+      let f-is = farther i a (nextSpan x a .first) j b (nextSpan y b .first) (w .after-i) ax (w .after-j) by (w .same) (n .first) in
+      let cx = on a (nextSpan x a .first) (nextSpan x a .closing) ax (next-within x a .order) in
+      let cy = on b (nextSpan y b .first) (nextSpan y b .closing) by (next-within y b .order) in
+      let c-is = farther i a (nextSpan x a .closing) j b (nextSpan y b .closing) (w .after-i) cx (w .after-j) cy (w .same) (n .closing) in
+      let jx = judge t (nextStretch x a) in
+      let jy = judge t (nextStretch y b) in (
+        seen-at i (nextSpan x a) jx l ∙ rw (f-is, c-is, n .bytes) refl ∙ sym (seen-at j (nextSpan y b) jy m),
+        rw (closing-at (nextSpan x a) jx, closing-at (nextSpan y b) jy)
+            (record {
+              alike = n .on;
+              after-i = on i a (nextSpan x a .closing) (w .after-i) cx;
+              after-j = on j b (nextSpan y b .closing) (w .after-j) cy;
+              same = c-is;
+            }),
+      )
+
+  -- the next stretches are found in both or in neither
+  ends-alike : ends (nextSpan x a) ≡ ends (nextSpan y b)
+  ends-alike =
+      let p = nextSpan (drop a x) 0 in
+      let ex : nextSpan x a ≡ moved a p = next-moved x a (w .alike .in-x) in
+      let ey : nextSpan y b ≡ moved b p =
+      next-moved y b (w .alike .in-y) ∙ ap (λ (s : List ℕ). moved b (nextSpan s 0)) (sym (w .alike .rest)) in
+      ap ends ex ∙ eqb-moved (p .first) (p .closing) a ∙ sym (eqb-moved (p .first) (p .closing) b) ∙ ap ends (sym ey)
+
+  by-end : (q : Bool) → Goal (cond q (call (answer-is.End (length x))) (stretch (nextSpan x a) (judge t (nextStretch x a))))
+      (cond q (call (answer-is.End (length y))) (stretch (nextSpan y b) (judge t (nextStretch y b))))
+  by-end true = at-end
+  by-end false = at-stretch
+
+  step : Goal (found t x a (length l)) (found t y b (length m))
+  step = by-size (sizedTold t) refl
+    where
+      by-size : (q : Bool) → sizedTold t ≡ q → Goal (found t x a (length l)) (found t y b (length m))
+      by-size true e =
+          rw (sized t x a (length l) hx gx (w .alike .in-x) e, sized t y b (length m) hy gy (w .alike .in-y) e, ← ends-alike)
+          (by-end (ends (nextSpan x a)))
+      by-size false e =
+          rw (unsized t x a (length l) hx gx (w .alike .in-x) e, unsized t y b (length m) hy gy (w .alike .in-y) e) at-refusal
+
+module _ (key font x y : List ℕ) (i j : ℕ) (hx : length x ≤ longestStream) (hy : length y ≤ longestStream) where
+  -- runs of as many calls, from places that are abreast
+  runs : {a b : ℕ} {rx ry : List Seen} → Abreast x i a y j b → length rx ≡ length ry
+      → Run key font x i a rx → Run key font y j b ry → rx ≡ ry
+  runs w e none none = refl
+  runs w e none (next r l l′ g p q) = absurd (omega (arith, e))
+  runs w e (next r l l′ g p q) none = absurd (omega (arith, e))
+  runs {a} {b} w e (next r l l′ g p q) (next o m m′ h u v) =
+      let z = step (told key font) x i a y j b hx hy w l m g h in
+      ap₂ _∷_
+      (ap₂ (seenFrom i) (p .0) (p .1) ∙ z .0 ∙ sym (ap₂ (seenFrom j) (u .0) (u .1)))
+      (runs (rw (p .0, u .0) (z .1)) (omega (arith, e)) q v)
+
+  -- from two marks with the same bytes behind them, however many calls are made
+  pub resync : Mark x i → Mark y j → drop i x ≡ drop j y → {rx ry : List Seen} → length rx ≡ length ry
+      → Run key font x i i rx → Run key font y j j ry → rx ≡ ry
+  resync m n e long p q = runs (record {
+    alike = record { in-x = omega (arith, m .inside); in-y = omega (arith, n .inside); rest = e };
+    after-i = omega arith;
+    after-j = omega arith;
+    same = omega arith;
+  }) long p q
