@@ -1,0 +1,3 @@
+pub mod Sealing
+pub mod Framing
+pub mod Answering

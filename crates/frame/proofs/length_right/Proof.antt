@@ -1,0 +1,29 @@
+-- `length_right` meets its promise: the range of the lengths, as two tests. Assumes nothing.
+use Rattle.frame.specs.Answers.{lengthRight}
+use Rattle.body.specs.Fields.{shortest}
+use Rattle.line.specs.Lines.{longest}
+use lib.ListN.{length}
+use native.Mathlib.Omega.{arith}
+use borrow.Author.Tests.{le-leb, lt-leb}
+use Rattle.frame.proofs.length_right.Statement.{statement}
+use Rattle.frame.proofs.length_right.Tie as tie
+use Rattle.frame.proofs.length_right.Reads as reads
+use Rattle.frame.proofs.length_right.Lts as lts
+
+-- src/lib.rt:58:1
+returns : tie.Need-returns
+unfolding lengthRight
+returns c = let n = length (c .before .before .args .line .now) in rw (le-leb shortest n (omega arith), le-leb n longest (omega arith))
+
+-- src/lib.rt:58:1
+returns-2 : tie.Need-returns-2
+unfolding lengthRight
+returns-2 c = let n = length (c .before .args .line .now) in rw (lt-leb shortest n (omega arith))
+
+-- src/lib.rt:58:1
+returns-3 : tie.Need-returns-3
+unfolding lengthRight
+returns-3 c = let n = length (c .before .before .args .line .now) in rw (le-leb shortest n (omega arith), lt-leb n longest (omega arith))
+
+pub length-right-spec : {M : Type 1} → statement M
+length-right-spec = tie.close (tie.spec returns returns-2 returns-3)

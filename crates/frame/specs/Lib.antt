@@ -1,0 +1,5 @@
+pub mod Told
+pub mod Frames
+pub mod Answers
+pub mod Lengths
+pub mod Outcomes
