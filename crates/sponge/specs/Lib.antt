@@ -2,3 +2,4 @@ pub mod Padding
 pub mod Blocks
 pub mod Absorbing
 pub mod Xor
+pub mod Turns

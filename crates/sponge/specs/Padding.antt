@@ -4,9 +4,13 @@ use Prim.Native.Nat.{ℕ, _+_, _-_, _*_, _/_, _%_}
 use mathlib.Core.List.{List, _∷_, _++_}
 use lib.ListN.{length, take, drop, replicate}
 
--- 0x80 and the fewest zeros that make a multiple of R bytes: Algorithm 3's block count decides over its zero count
+-- the byte behind a message (document 000, Algorithm 3)
+abbrev pub STOP : ℕ
+STOP = 0x80
+
+-- it and the fewest zeros that make a multiple of R bytes: Algorithm 3's block count decides over its zero count
 unfoldable pub padded : ℕ → List ℕ → List ℕ
-padded R m = m ++ (0x80 ∷ replicate (R - 1 - length m % R) 0)
+padded R m = m ++ (STOP ∷ replicate (R - 1 - length m % R) 0)
 
 -- how many blocks that makes
 abbrev pub blockCount : ℕ → List ℕ → ℕ

@@ -1,4 +1,4 @@
--- Laws of bytes XORed into a state: what stays, what comes back, one byte more. Assumes nothing.
+-- Laws of bytes XORed into a state: what stays, one byte more, and no more bytes than the state has. Assumes nothing.
 use mathlib.Core.Path.{_≡_, refl, ap}
 use mathlib.Core.List.{List, [], _∷_}
 use Prim.Native.Nat.{ℕ, zero, suc, _≤_, _<_}
@@ -45,3 +45,11 @@ xored-past (x ∷ b) [] zero h = refl
 xored-past (x ∷ b) [] (suc i) h = refl
 xored-past (x ∷ b) (y ∷ s) zero h = absurd (not-suc-le-zero h)
 xored-past (x ∷ b) (y ∷ s) (suc i) h = ap (λ (l : List ℕ). bitXor x y ∷ l) (xored-past b s i (le-of-suc-le-suc h))
+
+-- a block XORed into a state, seen in the state's first n bytes
+pub take-xored : (n : ℕ) (b s : List ℕ) → length b ≤ n → take n (xored b s) ≡ xored b (take n s)
+unfolding xored
+take-xored n [] s h = refl
+take-xored zero (x ∷ b) s h = absurd (not-suc-le-zero h)
+take-xored (suc n) (x ∷ b) [] h = refl
+take-xored (suc n) (x ∷ b) (y ∷ s) h = ap (λ (l : List ℕ). bitXor x y ∷ l) (take-xored n b s (le-of-suc-le-suc h))

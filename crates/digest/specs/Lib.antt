@@ -1,0 +1,8 @@
+pub mod Instances
+pub mod Hashing
+pub mod Answers
+pub mod Shapes
+pub mod Calls
+pub mod Outputs
+pub mod Order
+pub mod Acceptance

@@ -1,0 +1,147 @@
+// The ten GAGE digests (document 000, section 1.1.4; document 01, 'The digest'): one sponge over state size and rate, and the
+// instances as rows of a table. The promises cite specs/Instances.antt, specs/Hashing.antt and specs/Answers.antt.
+use gage::LARGEST;
+ghost use mathlib.Core.Path.{_≡_};
+ghost use mathlib.Core.Bool.{true, false};
+ghost use Prim.Native.Nat.{_*_};
+ghost use lib.ListN.{take};
+ghost use Rattle.gage.specs.Permutation.{ROUNDS, permitted, permute};
+ghost use Rattle.sponge.specs.Padding.{blockCount};
+ghost use Rattle.digest.specs.Instances.{DIGEST, unknown, sizeOf, rateOf, outputsOf};
+ghost use Rattle.digest.specs.Shapes.{Fits};
+ghost use Rattle.digest.specs.Hashing.{begun, absorbed, squeezed};
+ghost use Rattle.digest.specs.Answers.{digestAnswer, digestOut};
+
+// The bits of a byte, and of a digest.
+const BYTE: usize = 8;
+
+const HASH: usize = 256;
+
+// The bytes of a digest, and the longest message in bytes (document 01, 'Numbers returned').
+pub const DIGEST: usize = HASH / BYTE;
+
+pub const LIMIT: usize = 65536;
+
+// Instances 1 to 10, state size b and rate r in bits (document 000, Table 1.4).
+const COUNT: usize = 10;
+
+const INSTANCES: [[usize; 2]; COUNT] = [
+    [232, 8],
+    [240, 16],
+    [256, 32],
+    [288, 64],
+    [272, 16],
+    [288, 32],
+    [320, 64],
+    [384, 128],
+    [544, 32],
+    [576, 64],
+];
+
+// Done with the calls of the permutation, or refused: an unknown instance, a message too long, no room for the digest.
+pub enum Digested {
+    Done(usize),
+    Instance,
+    TooLong,
+    NoRoom,
+}
+
+// What the sponge of an instance works with: state size and rate in bytes, and how often it gives out.
+struct Shape {
+    size: usize,
+    rate: usize,
+    outputs: usize,
+}
+
+fn is_unknown(instance: usize) -> bool
+    ensures { λ r. ⌜ r ≡ unknown instance ⌝ }
+{
+    if instance < 1 {
+        return true;
+    }
+    instance > COUNT
+}
+
+fn shape_of(instance: usize) -> Shape
+    requires { ⌜ unknown instance ≡ false ⌝ }
+    ensures { λ r. ⌜ (r .size ≡ sizeOf instance) × (r .rate ≡ rateOf instance) × (r .outputs ≡ outputsOf instance) ⌝ }
+{
+    let rows = INSTANCES;
+    let i = instance - 1;
+    let b = rows[i][0];
+    let r = rows[i][1];
+    Shape {
+        size: b / BYTE,
+        rate: r / BYTE,
+        outputs: HASH / r,
+    }
+}
+
+// The permutation of the first n bytes of a state, n being permitted.
+fn turned(s: [u8; LARGEST], n: usize) -> [u8; LARGEST]
+    requires { ⌜ permitted n ≡ true ⌝ }
+    ensures { λ r. ⌜ take n r ≡ permute ROUNDS (take n s) ⌝ }
+{
+    let p = gage::permute(s, n);
+    p.state
+}
+
+// The state after the message's whole blocks, taken straight from the message, and its padded last block.
+fn absorb(message: &[u8], size: usize, rate: usize) -> [u8; LARGEST]
+    requires { ⌜ Fits size rate ⌝ }
+    ensures { λ r. ⌜ take size r ≡ absorbed size rate (now (message .entry)) (blockCount rate (now (message .entry))) .state ⌝ }
+{
+    let mut s = [0u8; LARGEST];
+    let blocks = message.len() / rate;
+    let mut at = 0;
+    let mut i = 0;
+    while i < blocks {
+        let end = at + rate;
+        s = turned(sponge::mix(s, &message[at..end]), size);
+        at = end;
+        i += 1;
+    }
+    let last = sponge::last_block(&message[at..]);
+    turned(sponge::mix(s, &last[0..rate]), size)
+}
+
+// The digest given out of a state: before each output the permutation.
+fn squeeze(s: [u8; LARGEST], size: usize, rate: usize, outputs: usize) -> [u8; DIGEST]
+    requires { ⌜ Fits size rate × (outputs * rate ≡ DIGEST) ⌝ }
+    ensures { λ r. ⌜ r ≡ squeezed rate (begun (take size s)) outputs .hash ⌝ }
+{
+    let mut hash = [0u8; DIGEST];
+    let mut t = s;
+    let mut at = 0;
+    let mut k = 0;
+    while k < outputs {
+        let next = turned(t, size);
+        lists::copy(&next[0..rate], &mut hash[at..]);
+        t = next;
+        at += rate;
+        k += 1;
+    }
+    hash
+}
+
+// The digest of a message over the first 32 bytes of out; the rest of out stays, and all of it on a refusal.
+pub fn digest(instance: usize, message: &[u8], out: &mut [u8]) -> Digested
+    ensures { λ r. ⌜ (r ≡ digestAnswer instance (now (message .entry)) (now (out .entry)))
+        × (now (out .exit) ≡ digestOut instance (now (message .entry)) (now (out .entry))) ⌝ }
+{
+    if is_unknown(instance) {
+        return Digested::Instance;
+    }
+    if message.len() > LIMIT {
+        return Digested::TooLong;
+    }
+    if out.len() < DIGEST {
+        return Digested::NoRoom;
+    }
+    let shape = shape_of(instance);
+    let rate = shape.rate;
+    let s = absorb(message, shape.size, rate);
+    let hash = squeeze(s, shape.size, rate, shape.outputs);
+    lists::copy(&hash, out);
+    Digested::Done(message.len() / rate + 1 + shape.outputs)
+}
