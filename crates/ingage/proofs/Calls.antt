@@ -16,7 +16,7 @@ use Rattle.ingage.specs.declared.Instance.{Instance}
 use Rattle.ingage.specs.declared.Sealed.the-variants as sealed
 use Rattle.ingage.specs.declared.Opened.the-variants as opened
 use Rattle.ingage.specs.Instances.{Fitting, first, first-fits}
-use Rattle.ingage.specs.Cipher.{from, begun, encrypting, decrypting, finished, sealOf, encrypted, decrypted}
+use Rattle.ingage.specs.Cipher.{from, begun, encrypting, decrypting, finished, sealOf, encrypted, decrypted, accepted}
 use Rattle.ingage.specs.Answers.{LONGEST-ASSOCIATED, LONGEST-TEXT, sized, tooLong, SealCall, sealCall, OpenCall, openCall}
 use Rattle.ingage.specs.Runs.{encrypting-from, decrypting-from}
 use Rattle.ingage.specs.Results.{seal-calls, open-calls, length-seal, length-decrypted}
@@ -88,20 +88,19 @@ module _ (z : Instance) (key nonce A text out seal : List ℕ) where
             room = room;
           }
 
--- the seal's place in the state, and the buffer that it fills
-pub seal-place : (z : Instance) (f g seal : List ℕ) → Fitting z → length f ≡ 72 → take (z .state) f ≡ g → length seal ≡ z .seal
-    → take (z .rate + length seal - z .rate) (drop (z .rate) f) ≡ sealOf z g
+-- the seal's place in the state
+pub seal-place : (z : Instance) (f : List ℕ) → Fitting z → z .state ≤ length f → take (z .rate + z .seal - z .rate) (drop (z .rate) f) ≡ sealOf z (take (z .state) f)
 unfolding sealOf
-seal-place z f g seal fits l e s =
+seal-place z f fits l =
     let d = fits .ends in
-    let h = fits .held in
-    let k : z .rate + length seal - z .rate ≡ z .seal = omega arith in
+    let k : z .rate + z .seal - z .rate ≡ z .seal = omega arith in
     let n : z .state ≡ z .rate + (z .state - z .rate) = omega arith in
-    let r : drop (z .rate) g ≡ take (z .state - z .rate) (drop (z .rate) f) =
-    ap (λ (x : List ℕ). drop (z .rate) x) (sym e ∙ ap (λ (x : ℕ). take x f) n ∙ take-add (z .rate) (z .state - z .rate) f)
+    let r : drop (z .rate) (take (z .state) f) ≡ take (z .state - z .rate) (drop (z .rate) f) =
+    ap (λ (x : List ℕ). drop (z .rate) x) (ap (λ (x : ℕ). take x f) n ∙ take-add (z .rate) (z .state - z .rate) f)
     ∙ drop-at (take (z .rate) f) (take (z .state - z .rate) (drop (z .rate) f)) (z .rate) (length-take-le (z .rate) f (omega arith)) in
     rw (k, r) (sym (take-take (z .seal) (z .state - z .rate) (drop (z .rate) f) (omega arith)))
 
+-- a buffer of just a text's length is filled
 pub filled : (x o : List ℕ) → length x ≡ length o → copied x o ≡ x
 filled x o e = rw (take-all (length o) x (omega arith), drop-of-length-le o {i = length x} (omega arith)) (append-nil x)
 
@@ -124,33 +123,32 @@ module _ (z : Instance) (fits : Fitting z) (key nonce A text seal out : List ℕ
   start = begun z key nonce A
 
   -- sealing, step after step
-  pub seal-done : (e f out′ seal′ : List ℕ) (count : ℕ) → take n e ≡ encrypting R (from (take n s)) text k .run .state
+  pub seal-done : (e f T out′ seal′ : List ℕ) (count : ℕ) → take n e ≡ encrypting R (from (take n s)) text k .run .state
       → out′ ≡ over (take (length text) (encrypting R (from (take n s)) text k .text)) out
-      → length f ≡ 72 → take n f ≡ finished (from (take n e)) .state → seal′ ≡ copied (take (R + length seal - R) (drop R f)) seal
+      → take n f ≡ finished (from (take n e)) .state → T ≡ sealOf z (take n f) → seal′ ≡ copied T seal
       → count ≡ 1 + (length A / R + 1) + (length text / R + 1) + 1
       → sealCall z key nonce A text out seal ≡ record { answer = sealed.Done count; out = out′; seal = seal′ }
   unfolding encrypted finished
-  seal-done e f out′ seal′ count state write long end part calls =
+  seal-done e f T out′ seal′ count state write end place put calls =
       let same = encrypting-from R start text k in
       let last : take n e ≡ encrypting R start text k .run .state = state ∙ rw begins (same .0) in
       let t : out′ ≡ over (encrypted z key nonce A text .text) out = write ∙ rw (begins, same .1) in
-      let place : take (R + length seal - R) (drop R f) ≡ encrypted z key nonce A text .seal =
-      seal-place z f (finished (encrypting R start text k .run) .state) seal fits long (end ∙ rw last) (w .seal-size) in
+      let tag : T ≡ encrypted z key nonce A text .seal = place ∙ ap (sealOf z) (end ∙ rw last) in
       let p : seal′ ≡ encrypted z key nonce A text .seal =
-      part ∙ rw place (filled (encrypted z key nonce A text .seal) seal (length-seal z fits key nonce A (w .key-size) (w .nonce-size) text ∙ sym (w .seal-size))) in
+      put ∙ rw tag (filled (encrypted z key nonce A text .seal) seal (length-seal z fits key nonce A (w .key-size) (w .nonce-size) text ∙ sym (w .seal-size))) in
       let c : count ≡ encrypted z key nonce A text .calls = calls ∙ sym (seal-calls z key nonce A text) in
       sealed-within z key nonce A text seal out w ∙ rw (c, t, p)
 
   -- opening, step after step
-  module _ (d f out′ : List ℕ) (count : ℕ) (state : take n d ≡ decrypting R (from (take n s)) text k .run .state)
-      (write : out′ ≡ over (decrypting R (from (take n s)) text k .text) out) (long : length f ≡ 72)
-      (end : take n f ≡ finished (from (take n d)) .state) (calls : count ≡ 1 + (length A / R + 1) + (length text / R + 1) + 1) where
+  module _ (d f T out′ : List ℕ) (count : ℕ) (state : take n d ≡ decrypting R (from (take n s)) text k .run .state)
+      (write : out′ ≡ over (decrypting R (from (take n s)) text k .text) out)
+      (end : take n f ≡ finished (from (take n d)) .state) (place : T ≡ sealOf z (take n f)) (calls : count ≡ 1 + (length A / R + 1) + (length text / R + 1) + 1) where
     -- the seal worked out, the message and the count
-    worked-out : take (R + length seal - R) (drop R f) ≡ decrypted z key nonce A text .seal
+    worked-out : T ≡ decrypted z key nonce A text .seal
     unfolding decrypted finished
     worked-out =
         let last : take n d ≡ decrypting R start text k .run .state = state ∙ rw begins (decrypting-from R start text k .0) in
-        seal-place z f (finished (decrypting R start text k .run) .state) seal fits long (end ∙ rw last) (w .seal-size)
+        place ∙ ap (sealOf z) (end ∙ rw last)
 
     given : out′ ≡ over (decrypted z key nonce A text .text) out
     unfolding decrypted
@@ -159,16 +157,16 @@ module _ (z : Instance) (fits : Fitting z) (key nonce A text seal out : List ℕ
     counted : count ≡ decrypted z key nonce A text .calls
     counted = calls ∙ sym (open-calls z key nonce A text)
 
-    pub open-done : same (take (R + length seal - R) (drop R f)) seal ≡ true
+    pub open-done : accepted T seal ≡ true
         → openCall z key nonce A text seal out ≡ record { answer = opened.Done count; out = out′ }
     open-done t =
-        let m : same (decrypted z key nonce A text .seal) seal ≡ true = rw worked-out at t in
+        let m : accepted (decrypted z key nonce A text .seal) seal ≡ true = rw worked-out at t in
         opened-within z key nonce A text seal out w ∙ rw (m, counted, given)
 
-    pub open-wrong : (zeros : List ℕ) → same (take (R + length seal - R) (drop R f)) seal ≡ false → zeros ≡ cleared (length text) out′
+    pub open-wrong : (zeros : List ℕ) → accepted T seal ≡ false → zeros ≡ cleared (length text) out′
         → openCall z key nonce A text seal out ≡ record { answer = opened.Seal count; out = zeros }
     open-wrong zeros t e =
-        let m : same (decrypted z key nonce A text .seal) seal ≡ false = rw worked-out at t in
+        let m : accepted (decrypted z key nonce A text .seal) seal ≡ false = rw worked-out at t in
         let b : zeros ≡ cleared (length text) out =
         e ∙ rw given (cleared-over (decrypted z key nonce A text .text) out (length text)
         (length-decrypted z fits key nonce A (w .key-size) (w .nonce-size) text) (w .room)) in

@@ -8,16 +8,23 @@ use Prim.Native.Nat.{ℕ, _≤_}
 use native.Mathlib.Omega.{arith}
 use lib.ListN.{length, drop-of-length-le}
 use borrow.Author.Tests.{eq-eqb, le-ltb}
-use Rattle.lists.specs.Buffers.{over, cleared, same}
+use Rattle.lists.specs.Buffers.{over, cleared}
 use Rattle.lists.specs.Sameness.{same-eq, same-refl}
 use Rattle.ingage.specs.declared.Instance.{Instance}
 use Rattle.ingage.specs.declared.Sealed.the-variants as sealed
 use Rattle.ingage.specs.declared.Opened.the-variants as opened
 use Rattle.ingage.specs.Instances.{Fitting}
-use Rattle.ingage.specs.Cipher.{Work, encrypted, decrypted}
+use Rattle.ingage.specs.Cipher.{Work, encrypted, decrypted, accepted}
 use Rattle.ingage.specs.RoundTrip.{seal-open, exactly}
 use Rattle.ingage.specs.Results.{length-encrypted, length-decrypted}
 use Rattle.ingage.specs.Answers.{sealCount, openCount, LONGEST-ASSOCIATED, LONGEST-TEXT, sized, tooLong, SealCall, sealCall, OpenCall, openCall}
+
+-- a seal is accepted exactly when it is the one worked out
+pub accepted-refl : (T : List ℕ) → accepted T T ≡ true
+accepted-refl T = same-refl _
+
+pub accepted-eq : (T′ T : List ℕ) → accepted T′ T ≡ true → T′ ≡ T
+accepted-eq T′ T e = same-eq _ _ e
 
 -- seal makes C and T of the message P, in any buffers of just their lengths
 abbrev pub Makes : Instance → List ℕ → List ℕ → List ℕ → List ℕ → List ℕ → List ℕ → ℕ → Type 0
@@ -53,7 +60,7 @@ module _ (z : Instance) (key nonce A text seal out : List ℕ) (w : Within z key
   unfolding sealCall
   sealed-within = rw (sizes-right, not-long, le-ltb (length out) (length text) (w .room))
 
-  pub opened-within : openCall z key nonce A text seal out ≡ cond (not (same (decrypted z key nonce A text .seal) seal))
+  pub opened-within : openCall z key nonce A text seal out ≡ cond (not (accepted (decrypted z key nonce A text .seal) seal))
       (record { answer = opened.Seal (decrypted z key nonce A text .calls); out = cleared (length text) out })
       (record { answer = opened.Done (decrypted z key nonce A text .calls); out = over (decrypted z key nonce A text .text) out })
   unfolding openCall
@@ -101,7 +108,7 @@ module _ (z : Instance) (fits : Fitting z) (key nonce A C T out : List ℕ) (w :
       → openCall z key nonce A C T out ≡ record { answer = opened.Done n; out = over P out }
   opens P n e =
       opened-within z key nonce A C T out w
-      ∙ rw (exactly z fits key nonce A (w .key-size) (w .nonce-size) P C T n .0 e, same-refl T)
+      ∙ rw (exactly z fits key nonce A (w .key-size) (w .nonce-size) P C T n .0 e, accepted-refl T)
 
   -- open gives the message of which seal makes C and T
   pub open-gives : (P : List ℕ) (n : ℕ) → length P ≡ length C → Makes z key nonce A P C T n
@@ -112,10 +119,10 @@ module _ (z : Instance) (fits : Fitting z) (key nonce A C T out : List ℕ) (w :
   pub open-found : (n : ℕ) → openCall z key nonce A C T out .answer ≡ opened.Done n
       → (P : List ℕ) × (length P ≡ length C) × Makes z key nonce A P C T n
   open-found n e =
-      by-seal (same (decrypted z key nonce A C .seal) T) refl
+      by-seal (accepted (decrypted z key nonce A C .seal) T) refl
       (ap (λ (x : OpenCall). x .answer) (sym (opened-within z key nonce A C T out w)) ∙ e)
     where
-      by-seal : (t : Bool) → same (decrypted z key nonce A C .seal) T ≡ t
+      by-seal : (t : Bool) → accepted (decrypted z key nonce A C .seal) T ≡ t
           → cond {A = OpenCall} (not t) (record { answer = opened.Seal (decrypted z key nonce A C .calls); out = cleared (length C) out })
           (record { answer = opened.Done (decrypted z key nonce A C .calls); out = over (decrypted z key nonce A C .text) out }) .answer ≡ opened.Done n
           → (P : List ℕ) × (length P ≡ length C) × Makes z key nonce A P C T n
@@ -123,7 +130,7 @@ module _ (z : Instance) (fits : Fitting z) (key nonce A C T out : List ℕ) (w :
           let P : List ℕ = decrypted z key nonce A C .text in
           let l = length-decrypted z fits key nonce A (w .key-size) (w .nonce-size) C in
           let calls : decrypted z key nonce A C .calls ≡ n = ap openCount d in
-          (P, l, makes P n l (seal-open z fits key nonce A (w .key-size) (w .nonce-size) C ∙ rw (same-eq (decrypted z key nonce A C .seal) T s, calls) refl))
+          (P, l, makes P n l (seal-open z fits key nonce A (w .key-size) (w .nonce-size) C ∙ rw (accepted-eq (decrypted z key nonce A C .seal) T s, calls) refl))
       by-seal false s d = absurd (let i : _≡_ {A = ℕ} 0 1 = cc d in omega arith)
 
   pub open-exactly : ((n : ℕ) × (openCall z key nonce A C T out .answer ≡ opened.Done n))

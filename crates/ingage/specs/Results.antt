@@ -4,7 +4,7 @@ use mathlib.Core.Path.{_≡_}
 use mathlib.Core.Bool.{Bool, true, false, cond}
 use mathlib.Core.List.{List, _++_}
 use lib.Dec.{eqb}
-use Prim.Native.Nat.{ℕ, zero, suc, _+_, _-_, _*_, _/_}
+use Prim.Native.Nat.{ℕ, zero, suc, _+_, _-_, _*_}
 use native.Mathlib.Nat.{div-one}
 use native.Mathlib.Omega.{arith}
 use lib.ListN.{length, take, drop, replicate, length-take, length-drop}
@@ -65,7 +65,7 @@ module _ (z : Instance) (fits : Fitting z) (key nonce A : List ℕ) (k : length 
 
 -- bytes give bytes
 passed-below : (b : List ℕ) (r : Run) → Below 256 b → Below 256 (r .state) → Below 256 (passed b r .state)
-passed-below b r h g = permute-below (ROUNDS / 2) (xored b (r .state)) (xored-below b (r .state) h g)
+passed-below b r h g = permute-below _ (xored b (r .state)) (xored-below b (r .state) h g)
 
 module _ (z : Instance) (key nonce A : List ℕ) (k : Below 256 key) (n : Below 256 nonce) (a : Below 256 A) where
   keyed-below : (front : List ℕ) → Below 256 front → Below 256 (keyed z front key)
@@ -123,7 +123,7 @@ module _ (z : Instance) (key nonce A : List ℕ) (k : Below 256 key) (n : Below 
       let w = encrypting R (begun z key nonce A) P (blockCount R P) in
       let b = sealing-below P p (blockCount R P) in (
         below-take 256 (length P) (w .text) (b .1),
-        below-take 256 (z .seal) _ (below-drop 256 R _ (permute-below ROUNDS (marked AFTER-MESSAGE (w .run .state))
+        below-take 256 (z .seal) _ (below-drop 256 (z .rate) _ (permute-below ROUNDS (marked AFTER-MESSAGE (w .run .state))
             (marked-below AFTER-MESSAGE (w .run .state) (omega arith) (b .0)))),
       )
 

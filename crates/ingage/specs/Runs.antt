@@ -2,7 +2,7 @@
 -- depends on the state a run starts in and not on its count, and bytes stay bytes. Assumes nothing.
 use mathlib.Core.Path.{_≡_, refl, _∙_}
 use mathlib.Core.List.{List}
-use Prim.Native.Nat.{ℕ, zero, suc, _+_, _/_, _≤_}
+use Prim.Native.Nat.{ℕ, zero, suc, _+_, _≤_}
 use native.Mathlib.Omega.{arith}
 use lib.ListN.{length, replicate, length-append, length-replicate}
 use Rattle.gage.specs.Permutation.{ROUNDS, permute}
@@ -16,7 +16,7 @@ use Rattle.ingage.specs.declared.Instance.{Instance}
 
 -- a state keeps its length
 length-passed : (b : List ℕ) (r : Run) → length (passed b r .state) ≡ length (r .state)
-length-passed b r = length-permute (ROUNDS / 2) (xored b (r .state)) ∙ length-xored b (r .state)
+length-passed b r = length-permute _ (xored b (r .state)) ∙ length-xored b (r .state)
 
 pub length-encrypting : (R : ℕ) (r : Run) (P : List ℕ) (i : ℕ) → length (encrypting R r P i .run .state) ≡ length (r .state)
 unfolding encrypting

@@ -102,9 +102,7 @@ pub fn seal(
     let s = steps::begin(z, key, nonce, assoc);
     let e = steps::encrypt(z, s, message, out);
     let f = steps::finish(z, e);
-    let from = z.rate;
-    let to = from + seal.len();
-    lists::copy(&f[from..to], seal);
+    lists::copy(steps::seal_of(z, &f), seal);
     Sealed::Done(steps::calls(z, assoc.len(), message.len()))
 }
 
@@ -135,9 +133,7 @@ pub fn open(
     let s = steps::begin(z, key, nonce, assoc);
     let d = steps::decrypt(z, s, cipher, out);
     let f = steps::finish(z, d);
-    let from = z.rate;
-    let to = from + seal.len();
-    if !lists::compare(&f[from..to], seal) {
+    if !lists::compare(steps::seal_of(z, &f), seal) {
         lists::clear(out, cipher.len());
         return Opened::Seal(count);
     }

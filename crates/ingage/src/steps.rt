@@ -13,7 +13,7 @@ ghost use Rattle.lists.specs.Buffers.{over};
 ghost use Rattle.sponge.specs.Padding.{blockCount};
 ghost use Rattle.ingage.specs.Instances.{Fitting};
 ghost use Rattle.ingage.specs.Answers.{LONGEST-ASSOCIATED, LONGEST-TEXT};
-ghost use Rattle.ingage.specs.Cipher.{whole, half, marked, from, keyed, started, associatedBlock, absorbed, begun, encrypting, decrypting, finished};
+ghost use Rattle.ingage.specs.Cipher.{whole, half, marked, from, keyed, started, associatedBlock, absorbed, begun, encrypting, decrypting, finished, sealOf};
 
 // What is XORed into the last block of the associated data, into the state after it, and into the state after the message (document 000,
 // section 2.1).
@@ -189,6 +189,16 @@ pub fn finish(z: Instance, s: [u8; LARGEST]) -> [u8; LARGEST]
 {
     let n = z.state;
     whole(mark(s, n, AFTER_MESSAGE), n)
+}
+
+// 'Finalization', step 2: the part of a finished state that is the seal.
+pub fn seal_of(z: Instance, s: &[u8]) -> &[u8]
+    requires { ⌜ Fitting z × (z .state ≤ length (now s)) ⌝ }
+    ensures { λ r. ⌜ now r ≡ sealOf z (take (z .state) (now (s .entry))) ⌝ }
+{
+    let from = z.rate;
+    let to = from + z.seal;
+    &s[from..to]
 }
 
 // How often the permutation is called for so many bytes of associated data and of text.

@@ -42,17 +42,11 @@ decrypt-requires c κs = (fits-first (c .before .before .before .before .before 
 finish-requires : tie.Need-finish-requires
 finish-requires c κs = fits-first (c .before .before .before .before .before .before .before .before .before .before .before .first .result) (c .before .before .before .before .before .before .before .before .before .before .before .first .ensures)
 
-add-to : tie.Need-add-to
-add-to c = let e = fits-first (c .before .before .before .before .before .before .before .before .before .before .before .before .first .result) (c .before .before .before .before .before .before .before .before .before .before .before .before .first .ensures) .ends in let h = fits-first (c .before .before .before .before .before .before .before .before .before .before .before .before .first .result) (c .before .before .before .before .before .before .before .before .before .before .before .before .first .ensures) .held in let w = inside (c .before .before .before .before .before .before .before) .seal-size in omega arith
+slice-aggregate-seal-of : tie.Need-slice-aggregate-seal-of
+slice-aggregate-seal-of c = search needs
 
-sub-compare : tie.Need-sub-compare
-sub-compare c = search needs
-
-part-compare-start : tie.Need-part-compare-start
-part-compare-start c = search needs
-
-part-compare-end : tie.Need-part-compare-end
-part-compare-end c = let e = fits-first (c .before .before .before .before .before .before .before .before .before .before .before .before .before .first .result) (c .before .before .before .before .before .before .before .before .before .before .before .before .before .first .ensures) .ends in let h = fits-first (c .before .before .before .before .before .before .before .before .before .before .before .before .before .first .result) (c .before .before .before .before .before .before .before .before .before .before .before .before .before .first .ensures) .held in let w = inside (c .before .before .before .before .before .before .before .before) .seal-size in omega arith
+seal-of-requires : tie.Need-seal-of-requires
+seal-of-requires c κs = (fits-first (c .before .before .before .before .before .before .before .before .before .before .before .before .before .first .result) (c .before .before .before .before .before .before .before .before .before .before .before .before .before .first .ensures), let h = fits-first (c .before .before .before .before .before .before .before .before .before .before .before .before .before .first .result) (c .before .before .before .before .before .before .before .before .before .before .before .before .before .first .ensures) .held in omega arith)
 
 compare-requires : tie.Need-compare-requires
 compare-requires c κs = search needs
@@ -64,13 +58,13 @@ same-length : tie.Need-same-length
 same-length c = search needs
 
 returns-4 : tie.Need-returns-4
-returns-4 c = open-met (open-by (c .before .before .before .before .before .before .before .before .before .before .before .before .before .before .before .before .before .before .before .before .before .before .before .before .before .before .before .args .key .now) (c .before .before .before .before .before .before .before .before .before .before .before .before .before .before .before .before .before .before .before .before .before .before .before .before .before .before .before .args .nonce .now) (c .before .before .before .before .before .before .before .before .before .before .before .before .before .before .before .before .before .before .before .before .before .before .before .before .before .before .before .args .assoc .now) (c .before .before .before .before .before .before .before .before .before .before .before .before .before .before .before .before .before .before .before .before .before .before .before .before .before .before .before .args .cipher .now) (c .before .before .before .before .before .before .before .before .before .before .before .before .before .before .before .before .before .before .before .before .before .before .before .before .before .before .before .args .seal .now) (c .before .before .before .before .before .before .before .before .before .before .before .before .before .before .before .before .before .before .before .before .before .before .before .before .before .before .before .args .out .now) (c .before .before .before .before .before .before .before .before .before .before .before .before .before .before .before .before .before .before .before .before .first .ensures) (open-wrong (c .before .before .before .before .before .before .before .before .before .before .before .before .before .before .before .before .before .before .before .before .first .result) (fits-first (c .before .before .before .before .before .before .before .before .before .before .before .before .before .before .before .before .before .before .before .before .first .result) (c .before .before .before .before .before .before .before .before .before .before .before .before .before .before .before .before .before .before .before .before .first .ensures)) (c .before .before .before .before .before .before .before .before .before .before .before .before .before .before .before .before .before .before .before .before .before .before .before .before .before .before .before .args .key .now) (c .before .before .before .before .before .before .before .before .before .before .before .before .before .before .before .before .before .before .before .before .before .before .before .before .before .before .before .args .nonce .now) (c .before .before .before .before .before .before .before .before .before .before .before .before .before .before .before .before .before .before .before .before .before .before .before .before .before .before .before .args .assoc .now) (c .before .before .before .before .before .before .before .before .before .before .before .before .before .before .before .before .before .before .before .before .before .before .before .before .before .before .before .args .cipher .now) (c .before .before .before .before .before .before .before .before .before .before .before .before .before .before .before .before .before .before .before .before .before .before .before .before .before .before .before .args .seal .now) (c .before .before .before .before .before .before .before .before .before .before .before .before .before .before .before .before .before .before .before .before .before .before .before .before .before .before .before .args .out .now) (inside (c .before .before .before .before .before .before .before .before .before .before .before .before .before .before .before)) (c .before .before .before .before .before .before .before .before .before .before .before .before .before .begin .result) (c .before .before .before .before .before .before .before .before .before .before .before .before .before .begin .ensures) (c .before .before .before .before .before .before .before .before .before .before .before .decrypt .result) (c .before .before .before .before .before .before .before .before .finish .result) _ (c .before .before .before .before .before .before .before .before .before .before .before .before .before .before .calls .result) (c .before .before .before .before .before .before .before .before .before .before .before .decrypt .ensures .0) (c .before .before .before .before .before .before .before .before .before .before .before .decrypt .ensures .1) (search needs) (c .before .before .before .before .before .before .before .before .finish .ensures) (c .before .before .before .before .before .before .before .before .before .before .before .before .before .before .calls .ensures) _ (sym (c .before .before .before .before .before .compare .ensures) ∙ not-true _ (c .before .before .before .before .if4 .taken)) (c .before .before .clear .ensures)))
+returns-4 c = open-met (open-by (c .before .before .before .before .before .before .before .before .before .before .before .before .before .before .before .before .before .before .before .before .before .before .before .before .before .before .before .args .key .now) (c .before .before .before .before .before .before .before .before .before .before .before .before .before .before .before .before .before .before .before .before .before .before .before .before .before .before .before .args .nonce .now) (c .before .before .before .before .before .before .before .before .before .before .before .before .before .before .before .before .before .before .before .before .before .before .before .before .before .before .before .args .assoc .now) (c .before .before .before .before .before .before .before .before .before .before .before .before .before .before .before .before .before .before .before .before .before .before .before .before .before .before .before .args .cipher .now) (c .before .before .before .before .before .before .before .before .before .before .before .before .before .before .before .before .before .before .before .before .before .before .before .before .before .before .before .args .seal .now) (c .before .before .before .before .before .before .before .before .before .before .before .before .before .before .before .before .before .before .before .before .before .before .before .before .before .before .before .args .out .now) (c .before .before .before .before .before .before .before .before .before .before .before .before .before .before .before .before .before .before .before .before .first .ensures) (open-wrong (c .before .before .before .before .before .before .before .before .before .before .before .before .before .before .before .before .before .before .before .before .first .result) (fits-first (c .before .before .before .before .before .before .before .before .before .before .before .before .before .before .before .before .before .before .before .before .first .result) (c .before .before .before .before .before .before .before .before .before .before .before .before .before .before .before .before .before .before .before .before .first .ensures)) (c .before .before .before .before .before .before .before .before .before .before .before .before .before .before .before .before .before .before .before .before .before .before .before .before .before .before .before .args .key .now) (c .before .before .before .before .before .before .before .before .before .before .before .before .before .before .before .before .before .before .before .before .before .before .before .before .before .before .before .args .nonce .now) (c .before .before .before .before .before .before .before .before .before .before .before .before .before .before .before .before .before .before .before .before .before .before .before .before .before .before .before .args .assoc .now) (c .before .before .before .before .before .before .before .before .before .before .before .before .before .before .before .before .before .before .before .before .before .before .before .before .before .before .before .args .cipher .now) (c .before .before .before .before .before .before .before .before .before .before .before .before .before .before .before .before .before .before .before .before .before .before .before .before .before .before .before .args .seal .now) (c .before .before .before .before .before .before .before .before .before .before .before .before .before .before .before .before .before .before .before .before .before .before .before .before .before .before .before .args .out .now) (inside (c .before .before .before .before .before .before .before .before .before .before .before .before .before .before .before)) (c .before .before .before .before .before .before .before .before .before .before .before .before .before .begin .result) (c .before .before .before .before .before .before .before .before .before .before .before .before .before .begin .ensures) (c .before .before .before .before .before .before .before .before .before .before .before .decrypt .result) (c .before .before .before .before .before .before .before .before .finish .result) _ _ (c .before .before .before .before .before .before .before .before .before .before .before .before .before .before .calls .result) (c .before .before .before .before .before .before .before .before .before .before .before .decrypt .ensures .0) (c .before .before .before .before .before .before .before .before .before .before .before .decrypt .ensures .1) (c .before .before .before .before .before .before .before .before .finish .ensures) (c .before .before .before .before .before .before .seal-of .ensures) (c .before .before .before .before .before .before .before .before .before .before .before .before .before .before .calls .ensures) _ (sym (c .before .before .before .before .before .compare .ensures) ∙ not-true _ (c .before .before .before .before .if4 .taken)) (c .before .before .clear .ensures)))
 
 same-length-2 : tie.Need-same-length-2
 same-length-2 c = search needs
 
 returns-5 : tie.Need-returns-5
-returns-5 c = open-met (open-by (c .before .before .before .before .before .before .before .before .before .before .before .before .before .before .before .before .before .before .before .before .before .before .before .args .key .now) (c .before .before .before .before .before .before .before .before .before .before .before .before .before .before .before .before .before .before .before .before .before .before .before .args .nonce .now) (c .before .before .before .before .before .before .before .before .before .before .before .before .before .before .before .before .before .before .before .before .before .before .before .args .assoc .now) (c .before .before .before .before .before .before .before .before .before .before .before .before .before .before .before .before .before .before .before .before .before .before .before .args .cipher .now) (c .before .before .before .before .before .before .before .before .before .before .before .before .before .before .before .before .before .before .before .before .before .before .before .args .seal .now) (c .before .before .before .before .before .before .before .before .before .before .before .before .before .before .before .before .before .before .before .before .before .before .before .args .out .now) (c .before .before .before .before .before .before .before .before .before .before .before .before .before .before .before .before .first .ensures) (open-done (c .before .before .before .before .before .before .before .before .before .before .before .before .before .before .before .before .first .result) (fits-first (c .before .before .before .before .before .before .before .before .before .before .before .before .before .before .before .before .first .result) (c .before .before .before .before .before .before .before .before .before .before .before .before .before .before .before .before .first .ensures)) (c .before .before .before .before .before .before .before .before .before .before .before .before .before .before .before .before .before .before .before .before .before .before .before .args .key .now) (c .before .before .before .before .before .before .before .before .before .before .before .before .before .before .before .before .before .before .before .before .before .before .before .args .nonce .now) (c .before .before .before .before .before .before .before .before .before .before .before .before .before .before .before .before .before .before .before .before .before .before .before .args .assoc .now) (c .before .before .before .before .before .before .before .before .before .before .before .before .before .before .before .before .before .before .before .before .before .before .before .args .cipher .now) (c .before .before .before .before .before .before .before .before .before .before .before .before .before .before .before .before .before .before .before .before .before .before .before .args .seal .now) (c .before .before .before .before .before .before .before .before .before .before .before .before .before .before .before .before .before .before .before .before .before .before .before .args .out .now) (inside (c .before .before .before .before .before .before .before .before .before .before .before)) (c .before .before .before .before .before .before .before .before .before .begin .result) (c .before .before .before .before .before .before .before .before .before .begin .ensures) (c .before .before .before .before .before .before .before .decrypt .result) (c .before .before .before .before .finish .result) _ (c .before .before .before .before .before .before .before .before .before .before .calls .result) (c .before .before .before .before .before .before .before .decrypt .ensures .0) (c .before .before .before .before .before .before .before .decrypt .ensures .1) (search needs) (c .before .before .before .before .finish .ensures) (c .before .before .before .before .before .before .before .before .before .before .calls .ensures) (sym (c .before .compare .ensures) ∙ not-false _ (c .if4 .left))))
+returns-5 c = open-met (open-by (c .before .before .before .before .before .before .before .before .before .before .before .before .before .before .before .before .before .before .before .before .before .before .before .args .key .now) (c .before .before .before .before .before .before .before .before .before .before .before .before .before .before .before .before .before .before .before .before .before .before .before .args .nonce .now) (c .before .before .before .before .before .before .before .before .before .before .before .before .before .before .before .before .before .before .before .before .before .before .before .args .assoc .now) (c .before .before .before .before .before .before .before .before .before .before .before .before .before .before .before .before .before .before .before .before .before .before .before .args .cipher .now) (c .before .before .before .before .before .before .before .before .before .before .before .before .before .before .before .before .before .before .before .before .before .before .before .args .seal .now) (c .before .before .before .before .before .before .before .before .before .before .before .before .before .before .before .before .before .before .before .before .before .before .before .args .out .now) (c .before .before .before .before .before .before .before .before .before .before .before .before .before .before .before .before .first .ensures) (open-done (c .before .before .before .before .before .before .before .before .before .before .before .before .before .before .before .before .first .result) (fits-first (c .before .before .before .before .before .before .before .before .before .before .before .before .before .before .before .before .first .result) (c .before .before .before .before .before .before .before .before .before .before .before .before .before .before .before .before .first .ensures)) (c .before .before .before .before .before .before .before .before .before .before .before .before .before .before .before .before .before .before .before .before .before .before .before .args .key .now) (c .before .before .before .before .before .before .before .before .before .before .before .before .before .before .before .before .before .before .before .before .before .before .before .args .nonce .now) (c .before .before .before .before .before .before .before .before .before .before .before .before .before .before .before .before .before .before .before .before .before .before .before .args .assoc .now) (c .before .before .before .before .before .before .before .before .before .before .before .before .before .before .before .before .before .before .before .before .before .before .before .args .cipher .now) (c .before .before .before .before .before .before .before .before .before .before .before .before .before .before .before .before .before .before .before .before .before .before .before .args .seal .now) (c .before .before .before .before .before .before .before .before .before .before .before .before .before .before .before .before .before .before .before .before .before .before .before .args .out .now) (inside (c .before .before .before .before .before .before .before .before .before .before .before)) (c .before .before .before .before .before .before .before .before .before .begin .result) (c .before .before .before .before .before .before .before .before .before .begin .ensures) (c .before .before .before .before .before .before .before .decrypt .result) (c .before .before .before .before .finish .result) _ _ (c .before .before .before .before .before .before .before .before .before .before .calls .result) (c .before .before .before .before .before .before .before .decrypt .ensures .0) (c .before .before .before .before .before .before .before .decrypt .ensures .1) (c .before .before .before .before .finish .ensures) (c .before .before .seal-of .ensures) (c .before .before .before .before .before .before .before .before .before .before .calls .ensures) (sym (c .before .compare .ensures) ∙ not-false _ (c .if4 .left))))
 
 pub open-spec : {M : Type 1} → statement M
 open-spec =
@@ -86,10 +80,8 @@ open-spec =
     begin-requires
     decrypt-requires
     finish-requires
-    add-to
-    sub-compare
-    part-compare-start
-    part-compare-end
+    slice-aggregate-seal-of
+    seal-of-requires
     compare-requires
     clear-requires
     same-length

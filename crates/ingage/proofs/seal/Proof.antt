@@ -39,17 +39,11 @@ encrypt-requires c κs = (fits-first (c .before .before .before .before .before 
 finish-requires : tie.Need-finish-requires
 finish-requires c κs = fits-first (c .before .before .before .before .before .before .before .before .before .before .first .result) (c .before .before .before .before .before .before .before .before .before .before .first .ensures)
 
-add-to : tie.Need-add-to
-add-to c = let e = fits-first (c .before .before .before .before .before .before .before .before .before .before .before .first .result) (c .before .before .before .before .before .before .before .before .before .before .before .first .ensures) .ends in let h = fits-first (c .before .before .before .before .before .before .before .before .before .before .before .first .result) (c .before .before .before .before .before .before .before .before .before .before .before .first .ensures) .held in let w = inside (c .before .before .before .before .before .before) .seal-size in omega arith
+slice-aggregate-seal-of : tie.Need-slice-aggregate-seal-of
+slice-aggregate-seal-of c = search needs
 
-sub-copy : tie.Need-sub-copy
-sub-copy c = search needs
-
-part-copy-start : tie.Need-part-copy-start
-part-copy-start c = search needs
-
-part-copy-end : tie.Need-part-copy-end
-part-copy-end c = let e = fits-first (c .before .before .before .before .before .before .before .before .before .before .before .before .first .result) (c .before .before .before .before .before .before .before .before .before .before .before .before .first .ensures) .ends in let h = fits-first (c .before .before .before .before .before .before .before .before .before .before .before .before .first .result) (c .before .before .before .before .before .before .before .before .before .before .before .before .first .ensures) .held in let w = inside (c .before .before .before .before .before .before .before) .seal-size in omega arith
+seal-of-requires : tie.Need-seal-of-requires
+seal-of-requires c κs = (fits-first (c .before .before .before .before .before .before .before .before .before .before .before .before .first .result) (c .before .before .before .before .before .before .before .before .before .before .before .before .first .ensures), let h = fits-first (c .before .before .before .before .before .before .before .before .before .before .before .before .first .result) (c .before .before .before .before .before .before .before .before .before .before .before .before .first .ensures) .held in omega arith)
 
 copy-requires : tie.Need-copy-requires
 copy-requires c κs = search needs
@@ -64,7 +58,7 @@ same-length-2 : tie.Need-same-length-2
 same-length-2 c = search needs
 
 returns-4 : tie.Need-returns-4
-returns-4 c = seal-met (seal-by (c .before .before .before .before .before .before .before .before .before .before .before .before .before .before .before .before .before .before .before .before .before .before .before .before .before .args .key .now) (c .before .before .before .before .before .before .before .before .before .before .before .before .before .before .before .before .before .before .before .before .before .before .before .before .before .args .nonce .now) (c .before .before .before .before .before .before .before .before .before .before .before .before .before .before .before .before .before .before .before .before .before .before .before .before .before .args .assoc .now) (c .before .before .before .before .before .before .before .before .before .before .before .before .before .before .before .before .before .before .before .before .before .before .before .before .before .args .message .now) (c .before .before .before .before .before .before .before .before .before .before .before .before .before .before .before .before .before .before .before .before .before .before .before .before .before .args .out .now) (c .before .before .before .before .before .before .before .before .before .before .before .before .before .before .before .before .before .before .before .before .before .before .before .before .before .args .seal .now) (c .before .before .before .before .before .before .before .before .before .before .before .before .before .before .before .before .before .before .first .ensures) (seal-done (c .before .before .before .before .before .before .before .before .before .before .before .before .before .before .before .before .before .before .first .result) (fits-first (c .before .before .before .before .before .before .before .before .before .before .before .before .before .before .before .before .before .before .first .result) (c .before .before .before .before .before .before .before .before .before .before .before .before .before .before .before .before .before .before .first .ensures)) (c .before .before .before .before .before .before .before .before .before .before .before .before .before .before .before .before .before .before .before .before .before .before .before .before .before .args .key .now) (c .before .before .before .before .before .before .before .before .before .before .before .before .before .before .before .before .before .before .before .before .before .before .before .before .before .args .nonce .now) (c .before .before .before .before .before .before .before .before .before .before .before .before .before .before .before .before .before .before .before .before .before .before .before .before .before .args .assoc .now) (c .before .before .before .before .before .before .before .before .before .before .before .before .before .before .before .before .before .before .before .before .before .before .before .before .before .args .message .now) (c .before .before .before .before .before .before .before .before .before .before .before .before .before .before .before .before .before .before .before .before .before .before .before .before .before .args .seal .now) (c .before .before .before .before .before .before .before .before .before .before .before .before .before .before .before .before .before .before .before .before .before .before .before .before .before .args .out .now) (inside (c .before .before .before .before .before .before .before .before .before .before .before .before .before)) (c .before .before .before .before .before .before .before .before .before .before .before .before .begin .result) (c .before .before .before .before .before .before .before .before .before .before .before .before .begin .ensures) (c .before .before .before .before .before .before .before .before .before .before .encrypt .result) (c .before .before .before .before .before .before .before .finish .result) _ _ (c .calls .result) (c .before .before .before .before .before .before .before .before .before .before .encrypt .ensures .0) (c .before .before .before .before .before .before .before .before .before .before .encrypt .ensures .1) (search needs) (c .before .before .before .before .before .before .before .finish .ensures) (c .before .before .before .copy .ensures) (c .calls .ensures)))
+returns-4 c = seal-met (seal-by (c .before .before .before .before .before .before .before .before .before .before .before .before .before .before .before .before .before .before .before .before .before .before .before .before .before .args .key .now) (c .before .before .before .before .before .before .before .before .before .before .before .before .before .before .before .before .before .before .before .before .before .before .before .before .before .args .nonce .now) (c .before .before .before .before .before .before .before .before .before .before .before .before .before .before .before .before .before .before .before .before .before .before .before .before .before .args .assoc .now) (c .before .before .before .before .before .before .before .before .before .before .before .before .before .before .before .before .before .before .before .before .before .before .before .before .before .args .message .now) (c .before .before .before .before .before .before .before .before .before .before .before .before .before .before .before .before .before .before .before .before .before .before .before .before .before .args .out .now) (c .before .before .before .before .before .before .before .before .before .before .before .before .before .before .before .before .before .before .before .before .before .before .before .before .before .args .seal .now) (c .before .before .before .before .before .before .before .before .before .before .before .before .before .before .before .before .before .before .first .ensures) (seal-done (c .before .before .before .before .before .before .before .before .before .before .before .before .before .before .before .before .before .before .first .result) (fits-first (c .before .before .before .before .before .before .before .before .before .before .before .before .before .before .before .before .before .before .first .result) (c .before .before .before .before .before .before .before .before .before .before .before .before .before .before .before .before .before .before .first .ensures)) (c .before .before .before .before .before .before .before .before .before .before .before .before .before .before .before .before .before .before .before .before .before .before .before .before .before .args .key .now) (c .before .before .before .before .before .before .before .before .before .before .before .before .before .before .before .before .before .before .before .before .before .before .before .before .before .args .nonce .now) (c .before .before .before .before .before .before .before .before .before .before .before .before .before .before .before .before .before .before .before .before .before .before .before .before .before .args .assoc .now) (c .before .before .before .before .before .before .before .before .before .before .before .before .before .before .before .before .before .before .before .before .before .before .before .before .before .args .message .now) (c .before .before .before .before .before .before .before .before .before .before .before .before .before .before .before .before .before .before .before .before .before .before .before .before .before .args .seal .now) (c .before .before .before .before .before .before .before .before .before .before .before .before .before .before .before .before .before .before .before .before .before .before .before .before .before .args .out .now) (inside (c .before .before .before .before .before .before .before .before .before .before .before .before .before)) (c .before .before .before .before .before .before .before .before .before .before .before .before .begin .result) (c .before .before .before .before .before .before .before .before .before .before .before .before .begin .ensures) (c .before .before .before .before .before .before .before .before .before .before .encrypt .result) (c .before .before .before .before .before .before .before .finish .result) _ _ _ (c .calls .result) (c .before .before .before .before .before .before .before .before .before .before .encrypt .ensures .0) (c .before .before .before .before .before .before .before .before .before .before .encrypt .ensures .1) (c .before .before .before .before .before .before .before .finish .ensures) (c .before .before .before .before .before .seal-of .ensures) (c .before .before .before .copy .ensures) (c .calls .ensures)))
 
 pub seal-spec : {M : Type 1} → statement M
 seal-spec =
@@ -79,10 +73,8 @@ seal-spec =
     begin-requires
     encrypt-requires
     finish-requires
-    add-to
-    sub-copy
-    part-copy-start
-    part-copy-end
+    slice-aggregate-seal-of
+    seal-of-requires
     copy-requires
     calls-requires
     same-length

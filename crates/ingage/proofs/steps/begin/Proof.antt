@@ -1,9 +1,10 @@
 -- `begin` meets its promise: the start, and the associated data absorbed from there. Assumes nothing.
+use mathlib.Core.Path.{ap, _∙_}
+-- `begin` meets its promise: the start, and the associated data absorbed from there. Assumes nothing.
 use Rattle.ingage.specs.Runs.{absorbed-from}
 use Prim.Native.Nat.{ℕ}
 use mathlib.Core.List.{List}
 use Rattle.ingage.specs.Cipher.{from, started, absorbed, begun}
-use mathlib.Core.Path.{ap, _∙_}
 use borrow.Author.Needs.{needs}
 use Rattle.ingage.proofs.steps.begin.Statement.{statement}
 use Rattle.ingage.proofs.steps.begin.Tie as tie
