@@ -13,9 +13,9 @@ BYTE = 8
 abbrev pub HASH : ℕ
 HASH = 256
 
--- the bytes of a digest (document 01, 'The digest')
+-- the bytes of a digest: 32 (document 01, 'The digest')
 abbrev pub DIGEST : ℕ
-DIGEST = 32
+DIGEST = HASH / BYTE
 
 -- state size b and rate r in bits
 abbrev pub instances : List (List ℕ)

@@ -4,4 +4,5 @@ pub mod Answers
 pub mod Shapes
 pub mod Calls
 pub mod Outputs
+pub mod Order
 pub mod Acceptance

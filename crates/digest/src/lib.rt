@@ -18,7 +18,7 @@ const BYTE: usize = 8;
 const HASH: usize = 256;
 
 // The bytes of a digest, and the longest message in bytes (document 01, 'Numbers returned').
-pub const DIGEST: usize = 32;
+pub const DIGEST: usize = HASH / BYTE;
 
 pub const LIMIT: usize = 65536;
 
@@ -47,10 +47,10 @@ pub enum Digested {
 }
 
 // What the sponge of an instance works with: state size and rate in bytes, and how often it gives out.
-pub struct Shape {
-    pub size: usize,
-    pub rate: usize,
-    pub outputs: usize,
+struct Shape {
+    size: usize,
+    rate: usize,
+    outputs: usize,
 }
 
 fn is_unknown(instance: usize) -> bool

@@ -12,6 +12,10 @@ fn say(text: &[u8]) {
     io::write_all(STDOUT_FILENO, text);
 }
 
+fn byte(x: u8) {
+    io::print_hex(STDOUT_FILENO, x as u64, 2);
+}
+
 fn number(n: usize) {
     io::print_decimal(STDOUT_FILENO, n as u64);
 }
@@ -19,16 +23,16 @@ fn number(n: usize) {
 fn hex(bytes: &[u8]) {
     let mut i = 0;
     while i < bytes.len() {
-        io::print_hex(STDOUT_FILENO, bytes[i] as u64, 2);
+        byte(bytes[i]);
         i += 1;
     }
 }
 
-// Message byte i is 7*i + length, mod 256.
-fn fill(message: &mut [u8], length: usize) {
-    let mut x = (length % 256) as u8;
+// Byte i of a message of n bytes is 7*i + n, mod 256.
+fn fill(message: &mut [u8], n: usize) {
+    let mut x = (n % 256) as u8;
     let mut i = 0;
-    while i < length {
+    while i < n {
         if i >= message.len() {
             return;
         }
@@ -54,31 +58,52 @@ fn number_of(answer: Digested) -> usize {
     }
 }
 
-// One row: instance, length, calls of the permutation, digest.
-fn row(instance: usize, message: &mut [u8], length: usize) {
+// A number and the blank behind it.
+fn cell(n: usize) {
+    number(n);
+    say(b" ");
+}
+
+fn show(instance: usize, length: usize, count: usize, out: &[u8]) {
+    cell(instance);
+    cell(length);
+    cell(count);
+    hex(out);
+    say(b"\n");
+}
+
+fn show_refused(instance: usize, length: usize, room: usize, answer: Digested) {
+    say(b"refused ");
+    cell(instance);
+    cell(length);
+    cell(room);
+    number(number_of(answer));
+    say(b"\n");
+}
+
+// The digest of the message of that length.
+fn tried(instance: usize, message: &mut [u8], length: usize, out: &mut [u8]) -> Digested {
     if length > message.len() {
-        return;
+        return Digested::TooLong;
     }
     fill(message, length);
+    digest::digest(instance, &message[0..length], out)
+}
+
+// One row: instance, length, calls of the permutation, digest.
+fn row(instance: usize, message: &mut [u8], length: usize) {
     let mut out = [0u8; DIGEST];
-    let answer = digest::digest(instance, &message[0..length], &mut out);
-    number(instance);
-    say(b" ");
-    number(length);
-    say(b" ");
-    number(count_of(answer));
-    say(b" ");
-    hex(&out);
-    say(b"\n");
+    let answer = tried(instance, message, length, &mut out);
+    show(instance, length, count_of(answer), &out);
 }
 
 // All lengths from 0 to two blocks and two bytes.
 fn short_rows(instance: usize, rate: usize, message: &mut [u8]) {
-    let last = std::num::wrapping_add_usize(std::num::wrapping_add_usize(rate, rate), 2);
-    let mut length = 0;
-    while length <= last {
-        row(instance, message, length);
-        length += 1;
+    let end = std::num::wrapping_add_usize(std::num::wrapping_add_usize(rate, rate), 3);
+    let mut n = 0;
+    while n < end {
+        row(instance, message, n);
+        n += 1;
     }
 }
 
@@ -105,23 +130,11 @@ fn all_rows(message: &mut [u8]) {
 // A call that is refused: instance, length, room, number.
 fn refused(instance: usize, message: &mut [u8], length: usize, room: usize) {
     let mut out = [0u8; DIGEST];
-    if length > message.len() {
-        return;
-    }
     if room > DIGEST {
         return;
     }
-    fill(message, length);
-    let answer = digest::digest(instance, &message[0..length], &mut out[0..room]);
-    say(b"refused ");
-    number(instance);
-    say(b" ");
-    number(length);
-    say(b" ");
-    number(room);
-    say(b" ");
-    number(number_of(answer));
-    say(b"\n");
+    let answer = tried(instance, message, length, &mut out[0..room]);
+    show_refused(instance, length, room, answer);
 }
 
 fn refused_rows(message: &mut [u8]) {
@@ -138,13 +151,10 @@ fn refused_rows(message: &mut [u8]) {
 // A buffer longer than the digest: its rest stays.
 fn rest_row(message: &mut [u8]) {
     let mut out = [0xA5u8; 40];
-    if 3 <= message.len() {
-        fill(message, 3);
-        digest::digest(1, &message[0..3], &mut out);
-        say(b"rest 1 3 40 ");
-        hex(&out);
-        say(b"\n");
-    }
+    tried(1, message, 3, &mut out);
+    say(b"rest 1 3 40 ");
+    hex(&out);
+    say(b"\n");
 }
 
 fn main() {

@@ -1,3 +1,4 @@
+pub mod Sizes
 pub mod Cells
 pub mod Shuffling
 pub mod Permutation

@@ -10,6 +10,7 @@ use borrow.Author.Tests.{eqb-true}
 use lib.ListN.{length, getD, take}
 use Rattle.lists.specs.Table.{at, every, both-left, both-right}
 use Rattle.lists.specs.Below.{Below, below-all, below-take}
+use Rattle.gage.specs.Sizes.{LARGEST}
 use Rattle.gage.specs.Shuffling.{places}
 use Rattle.gage.specs.Permutation.{ROUNDS, leaders, sizes, among, permitted}
 
@@ -53,14 +54,14 @@ among-rule f (x ∷ xs) i n t e =
     picked true h next g = rw (eqb-true n x h) (both-left (f x) (every (λ k y. f y) (suc i) xs) t)
     picked false h next g = next g
 
--- every permitted size is from 29 to 72
-pub permitted-size : (n : ℕ) → permitted n ≡ true → (29 ≤ n) × (n ≤ 72)
+-- every permitted size is from 29 to the largest
+pub permitted-size : (n : ℕ) → permitted n ≡ true → (29 ≤ n) × (n ≤ LARGEST)
 unfolding permitted
 permitted-size n e =
-    (leb→le 29 n (among-rule (λ x. leb 29 x) sizes 0 n tt e), leb→le n 72 (among-rule (λ x. leb x 72) sizes 0 n tt e))
+    (leb→le 29 n (among-rule (λ x. leb 29 x) sizes 0 n tt e), leb→le n LARGEST (among-rule (λ x. leb x LARGEST) sizes 0 n tt e))
 
--- a state of more than 72 bytes is not
-pub too-large : (n : ℕ) → 72 < n → permitted n ≡ false
+-- a larger state is not
+pub too-large : (n : ℕ) → LARGEST < n → permitted n ≡ false
 too-large n h = decided (permitted n) refl
   where
     decided : (b : Bool) → permitted n ≡ b → permitted n ≡ false

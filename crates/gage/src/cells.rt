@@ -1,11 +1,14 @@
 // The substitution over two-bit cells, a byte at a time, and its inverse (specs/Cells.antt).
 // The table of products is four rows of four, passed whole.
+use crate::LARGEST;
 ghost use mathlib.Core.Path.{_≡_};
 ghost use mathlib.Core.List.{_++_};
 ghost use Prim.Native.Nat.{_<_, _≤_};
 ghost use lib.ListN.{take, drop};
+ghost use Rattle.gage.specs.Sizes.{LARGEST};
 ghost use Rattle.gage.specs.Cells.{Closed, table, star, substitutedByte, substitute, restore};
 
+// The table x * y (document 000, expression 1.1), rows first.
 const TABLE: [[u8; 4]; 4] = [[1, 0, 3, 2], [0, 2, 1, 3], [2, 3, 0, 1], [3, 1, 2, 0]];
 
 // The table x * y.
@@ -23,7 +26,7 @@ fn star(t: [[u8; 4]; 4], x: usize, y: usize) -> u8
     t[x][y]
 }
 
-// One byte of the substitution, after the cell p.
+// One byte of the substitution, after the cell p. The table is read where it stands: a call for each product would copy it.
 fn substituted_byte(t: [[u8; 4]; 4], p: u8, b: u8) -> u8
     requires { ⌜ (p < 4) × Closed t ⌝ }
     ensures { λ r. ⌜ r ≡ substitutedByte t p b ⌝ }
@@ -34,12 +37,12 @@ fn substituted_byte(t: [[u8; 4]; 4], p: u8, b: u8) -> u8
     let c = w / 16 % 4;
     let d = w / 4 % 4;
     let e = w % 4;
-    star(t, l, a) * 64 + star(t, a, c) * 16 + star(t, c, d) * 4 + star(t, d, e)
+    t[l][a] * 64 + t[a][c] * 16 + t[c][d] * 4 + t[d][e]
 }
 
 // The first n bytes of s substituted with a leader.
-pub fn substitute(t: [[u8; 4]; 4], s: [u8; 72], n: usize, leader: u8) -> [u8; 72]
-    requires { ⌜ (n ≤ 72) × (leader < 4) × Closed t ⌝ }
+pub fn substitute(t: [[u8; 4]; 4], s: [u8; LARGEST], n: usize, leader: u8) -> [u8; LARGEST]
+    requires { ⌜ (n ≤ LARGEST) × (leader < 4) × Closed t ⌝ }
     ensures { λ r. ⌜ r ≡ substitute t leader (take n s) ++ drop n s ⌝ }
 {
     let mut out = s;
@@ -55,8 +58,8 @@ pub fn substitute(t: [[u8; 4]; 4], s: [u8; 72], n: usize, leader: u8) -> [u8; 72
 }
 
 // The first n bytes of s before a substitution with a leader: each cell from the one just recovered.
-pub fn restore(t: [[u8; 4]; 4], s: [u8; 72], n: usize, leader: u8) -> [u8; 72]
-    requires { ⌜ (n ≤ 72) × (leader < 4) × Closed t ⌝ }
+pub fn restore(t: [[u8; 4]; 4], s: [u8; LARGEST], n: usize, leader: u8) -> [u8; LARGEST]
+    requires { ⌜ (n ≤ LARGEST) × (leader < 4) × Closed t ⌝ }
     ensures { λ r. ⌜ r ≡ restore t leader (take n s) ++ drop n s ⌝ }
 {
     let mut out = s;

@@ -7,6 +7,7 @@ ghost use mathlib.Core.Path.{_≡_};
 ghost use mathlib.Core.List.{_++_};
 ghost use Prim.Native.Nat.{_/_, _<_, _≤_};
 ghost use lib.ListN.{getD, length, take, drop};
+ghost use Rattle.gage.specs.Sizes.{LARGEST};
 ghost use Rattle.gage.specs.Permutation.{ROUNDS, leaders, numberOf, permitted, permuteBy, permute, unpermuteBy, unpermute, answered};
 
 // The largest permitted state, in bytes.
@@ -51,7 +52,9 @@ const LEADERS: [u8; ROUNDS] = [
 ];
 
 // The permitted state sizes in bytes (document 01, 'The permutation').
-const SIZES: [usize; 9] = [29, 30, 32, 34, 36, 40, 48, 68, 72];
+const SIZE_COUNT: usize = 9;
+
+const SIZES: [usize; SIZE_COUNT] = [29, 30, 32, 34, 36, 40, 48, 68, LARGEST];
 
 // Done, or refused for a state size that is not permitted.
 pub enum Answer {
@@ -76,7 +79,7 @@ pub fn number(answer: Answer) -> u32
 
 // The leader of round i, counted from 0.
 fn leader(i: usize) -> u8
-    requires { ⌜ i < 32 ⌝ }
+    requires { ⌜ i < ROUNDS ⌝ }
     ensures { λ r. ⌜ (r ≡ getD leaders i 0) × (r < 4) ⌝ }
 {
     LEADERS[i]
@@ -88,7 +91,7 @@ fn is_permitted(n: usize) -> bool
 {
     let sizes = SIZES;
     let mut i = 0;
-    while i < 9 {
+    while i < SIZE_COUNT {
         if sizes[i] == n {
             return true;
         }
@@ -99,7 +102,7 @@ fn is_permitted(n: usize) -> bool
 
 // The first k rounds of the permutation on the first n bytes of s.
 fn turned(s: [u8; LARGEST], n: usize, k: usize) -> [u8; LARGEST]
-    requires { ⌜ (8 ≤ n) × (n ≤ 72) × (1 ≤ k) × (k ≤ ROUNDS) ⌝ }
+    requires { ⌜ (8 ≤ n) × (n ≤ LARGEST) × (1 ≤ k) × (k ≤ ROUNDS) ⌝ }
     ensures { λ r. ⌜ r ≡ permute k (take n s) ++ drop n s ⌝ }
 {
     let t = cells::products();
@@ -115,7 +118,7 @@ fn turned(s: [u8; LARGEST], n: usize, k: usize) -> [u8; LARGEST]
 
 // The first n bytes of s before k rounds of the permutation.
 fn unturned(s: [u8; LARGEST], n: usize, k: usize) -> [u8; LARGEST]
-    requires { ⌜ (8 ≤ n) × (n ≤ 72) × (1 ≤ k) × (k ≤ ROUNDS) ⌝ }
+    requires { ⌜ (8 ≤ n) × (n ≤ LARGEST) × (1 ≤ k) × (k ≤ ROUNDS) ⌝ }
     ensures { λ r. ⌜ r ≡ unpermute k (take n s) ++ drop n s ⌝ }
 {
     let t = cells::products();

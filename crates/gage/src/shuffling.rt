@@ -1,14 +1,21 @@
 // The bit shuffling and its inverse (specs/Shuffling.antt). The state is first copied with seven bytes wrapped around, so that
 // no loop divides by the size; where an element goes is read from the table of places.
+use crate::LARGEST;
 ghost use mathlib.Core.Path.{_≡_};
 ghost use mathlib.Core.List.{[], _∷_, _++_};
 ghost use Prim.Native.Nat.{_+_, _-_, _<_, _≤_, _%_};
 ghost use lib.ListN.{getD, length, take, drop};
 ghost use Rattle.lists.specs.Upto.{Upto};
+ghost use Rattle.gage.specs.Sizes.{LARGEST, AHEAD, WRAPPED};
 ghost use Rattle.gage.specs.Shuffling.{places, weight, weights, gathered, returned, Joined, shuffle, unshuffle};
 
 // Where elements 1 to 8 go (document 000, formula 1.4); place 1 is the leftmost bit.
 const PLACES: [u8; 8] = [1, 3, 5, 8, 7, 6, 2, 4];
+
+// A byte's elements come from it and from seven more; the room for a state with those wrapped around.
+const AHEAD: usize = 7;
+
+const WRAPPED: usize = LARGEST + AHEAD + 1;
 
 // What a bit at a place counts in its byte.
 fn weight(place: u8) -> u8
@@ -66,8 +73,8 @@ fn give_back(w: [u8; 8], a: u8, b: u8, c: u8, d: u8, e: u8, f: u8, g: u8, h: u8)
 }
 
 // e with count bytes of s, from a place of s on, put at a place of e.
-fn join(e: [u8; 80], at: usize, s: [u8; 72], from: usize, count: usize) -> [u8; 80]
-    requires { ⌜ (at + count ≤ 80) × (from + count ≤ 72) ⌝ }
+fn join(e: [u8; WRAPPED], at: usize, s: [u8; LARGEST], from: usize, count: usize) -> [u8; WRAPPED]
+    requires { ⌜ (at + count ≤ WRAPPED) × (from + count ≤ LARGEST) ⌝ }
     ensures { λ r. ⌜ Joined e at s from count r ⌝ }
 {
     let mut r = e;
@@ -80,17 +87,17 @@ fn join(e: [u8; 80], at: usize, s: [u8; 72], from: usize, count: usize) -> [u8; 
 }
 
 // The first n bytes of s from a place on and around, seven more than there are.
-fn wrapped(s: [u8; 72], n: usize, from: usize) -> [u8; 80]
-    requires { ⌜ (from + 7 ≤ n) × (n ≤ 72) ⌝ }
-    ensures { λ r. ⌜ Upto (λ k. getD s ((k + from) % n) 0) r (n + 7) ⌝ }
+fn wrapped(s: [u8; LARGEST], n: usize, from: usize) -> [u8; WRAPPED]
+    requires { ⌜ (from + AHEAD ≤ n) × (n ≤ LARGEST) ⌝ }
+    ensures { λ r. ⌜ Upto (λ k. getD s ((k + from) % n) 0) r (n + AHEAD) ⌝ }
 {
-    let e = join([0u8; 80], 0, s, from, n - from);
-    join(e, n - from, s, 0, from + 7)
+    let e = join([0u8; WRAPPED], 0, s, from, n - from);
+    join(e, n - from, s, 0, from + AHEAD)
 }
 
 // The first n bytes of s shuffled.
-pub fn shuffle(s: [u8; 72], n: usize) -> [u8; 72]
-    requires { ⌜ (8 ≤ n) × (n ≤ 72) ⌝ }
+pub fn shuffle(s: [u8; LARGEST], n: usize) -> [u8; LARGEST]
+    requires { ⌜ (8 ≤ n) × (n ≤ LARGEST) ⌝ }
     ensures { λ r. ⌜ r ≡ shuffle (take n s) ++ drop n s ⌝ }
 {
     let w = weights();
@@ -115,12 +122,12 @@ pub fn shuffle(s: [u8; 72], n: usize) -> [u8; 72]
 }
 
 // The first n bytes of s before a shuffle.
-pub fn unshuffle(s: [u8; 72], n: usize) -> [u8; 72]
-    requires { ⌜ (8 ≤ n) × (n ≤ 72) ⌝ }
+pub fn unshuffle(s: [u8; LARGEST], n: usize) -> [u8; LARGEST]
+    requires { ⌜ (8 ≤ n) × (n ≤ LARGEST) ⌝ }
     ensures { λ r. ⌜ r ≡ unshuffle (take n s) ++ drop n s ⌝ }
 {
     let w = weights();
-    let e = wrapped(s, n, n - 7);
+    let e = wrapped(s, n, n - AHEAD);
     let mut out = s;
     let mut i = 0;
     while i < n {

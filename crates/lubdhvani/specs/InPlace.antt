@@ -7,6 +7,7 @@ use native.Mathlib.Omega.{arith}
 use lib.ListN.{length, take, drop, replicate, drop-of-length-le}
 use lib.Seq.{take-all, take-at}
 use Rattle.lists.specs.Buffers.{copied}
+use Rattle.gage.specs.Sizes.{LARGEST}
 use Rattle.gage.specs.Permutation.{permitted, numberOf, answered}
 use Rattle.gage.specs.Answers.{answered-done, answered-size}
 use Rattle.gage.specs.Tables.{too-large}
@@ -14,15 +15,15 @@ use Rattle.gage.specs.declared.Answer.the-variants.{Size}
 use Rattle.gage.specs.declared.Permuted.{Permuted}
 use Rattle.lubdhvani.specs.Calls.{permuteNumber, permuteState}
 
-module _ (f : List ℕ → List ℕ) (keeps : (s : List ℕ) → length (f s) ≡ length s) (s : List ℕ) (fits : length s ≤ 72) where
+module _ (f : List ℕ → List ℕ) (keeps : (s : List ℕ) → length (f s) ≡ length s) (s : List ℕ) (fits : length s ≤ LARGEST) where
   wide : List ℕ
-  wide = copied s (replicate 72 0)
+  wide = copied s (replicate LARGEST 0)
 
   -- the lent bytes stand first in the whole state
   front : take (length s) wide ≡ s
   unfolding wide
   front =
-      rw (take-all 72 s fits) (take-at s (drop (length s) (replicate 72 0)) (length s) refl)
+      rw (take-all LARGEST s fits) (take-at s (drop (length s) (replicate LARGEST 0)) (length s) refl)
 
   -- all of the lent bytes are written over
   covered : (v w : List ℕ) → take (length s) v ≡ w → length w ≡ length s → copied v s ≡ w
@@ -40,13 +41,13 @@ module _ (f : List ℕ → List ℕ) (keeps : (s : List ℕ) → length (f s) �
       (rw (answered-size f wide (length s) e, e), rw (answered-size f wide (length s) e, e) (covered wide s front refl))
 
   -- document 01's number, and the lent state afterwards
-  pub in-place : (r : Permuted) → r ≡ answered f (copied s (replicate 72 0)) (length s)
+  pub in-place : (r : Permuted) → r ≡ answered f (copied s (replicate LARGEST 0)) (length s)
       → (numberOf (r .answer) ≡ permuteNumber (length s)) × (copied (r .state) s ≡ permuteState f s)
   unfolding wide
   in-place r e = rw e (decided (permitted (length s)) refl)
 
 -- a state larger than any permitted one is refused
-pub too-large-refused : (f : List ℕ → List ℕ) (s : List ℕ) → 72 < length s
+pub too-large-refused : (f : List ℕ → List ℕ) (s : List ℕ) → LARGEST < length s
     → (numberOf Size ≡ permuteNumber (length s)) × (s ≡ permuteState f s)
 unfolding permuteNumber permuteState
 too-large-refused f s h = (rw (too-large (length s) h), rw (too-large (length s) h))

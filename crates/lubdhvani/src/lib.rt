@@ -5,7 +5,9 @@ ghost use lib.ListN.{length, replicate};
 ghost use Rattle.lists.specs.Buffers.{copied};
 ghost use Rattle.digest.specs.Answers.{digestAnswer, digestOut};
 ghost use Rattle.digest.specs.Answers as hashing;
+ghost use Rattle.gage.specs.Sizes.{LARGEST};
 ghost use Rattle.gage.specs.Permutation.{ROUNDS, permute, unpermute};
+ghost use Rattle.stream.specs.Stretches.{nextSpan};
 ghost use Rattle.lubdhvani.specs.Calls.{permuteNumber, permuteState};
 use digest::Digested;
 use gage::Answer;
@@ -13,7 +15,7 @@ use gage::LARGEST;
 
 // A state of at most LARGEST bytes at the start of a whole one.
 fn widened(state: &[u8]) -> [u8; LARGEST]
-    ensures { λ r. ⌜ r ≡ copied (now (state .entry)) (replicate 72 0) ⌝ }
+    ensures { λ r. ⌜ r ≡ copied (now (state .entry)) (replicate LARGEST 0) ⌝ }
 {
     let mut s = [0u8; LARGEST];
     lists::copy(state, &mut s);
@@ -92,4 +94,20 @@ pub extern "C" fn lubdhvani_digest(
     let answer = digest::digest(instance, message, out);
     *calls = digest_count(answer);
     digest_number(answer)
+}
+
+// The places of the next stretch.
+#[no_mangle]
+pub extern "C" fn lubdhvani_next_stretch(
+    stream: &[u8],
+    from: usize,
+    first: &mut usize,
+    closing: &mut usize,
+)
+    ensures { λ _. ⌜ now (first .exit) ≡ nextSpan (now (stream .entry)) from .first ⌝ }
+    ensures { λ _. ⌜ now (closing .exit) ≡ nextSpan (now (stream .entry)) from .closing ⌝ }
+{
+    let span = stream::next_span(stream, from);
+    *first = span.first;
+    *closing = span.closing;
 }

@@ -14,6 +14,10 @@ fn say(text: &[u8]) {
     io::write_all(STDOUT_FILENO, text);
 }
 
+fn byte(x: u8) {
+    io::print_hex(STDOUT_FILENO, x as u64, 2);
+}
+
 fn number(n: usize) {
     io::print_decimal(STDOUT_FILENO, n as u64);
 }
@@ -25,7 +29,7 @@ fn hex(bytes: &[u8], n: usize) {
         if i >= n {
             return;
         }
-        io::print_hex(STDOUT_FILENO, bytes[i] as u64, 2);
+        byte(bytes[i]);
         i += 1;
     }
 }
@@ -95,11 +99,12 @@ fn same(a: [u8; LARGEST], b: [u8; LARGEST]) -> bool {
 
 fn refused(n: usize) {
     let p = gage::permute(ramp(n), n);
+    let answer = p.answer;
     let state = p.state;
     say(b"refused ");
     number(n);
     say(b" ");
-    number(number_of(p.answer));
+    number(number_of(answer));
     if same(state, ramp(n)) {
         say(b" same\n");
     } else {

@@ -31,6 +31,11 @@ length-padded R m pos =
     let w = whole-rest R (length m) pos in
     rw (length-append, length-replicate, blocks-suc (length m / R) R) (omega arith)
 
+-- a message shorter than a block makes one block
+pub padded-short : (R : ℕ) (m : List ℕ) → length m < R → padded R m ≡ m ++ (STOP ∷ replicate (R - 1 - length m) 0)
+unfolding padded
+padded-short R m h = rw (mod-eq-of-lt h)
+
 -- a block that is there ends no later than the padded message
 pub block-ends : (R : ℕ) (m : List ℕ) (i : ℕ) → 0 < R → i < blockCount R m → i * R + R ≤ length (padded R m)
 block-ends R m i pos h =
@@ -107,13 +112,12 @@ length-last-block rest =
 -- the last block at each rate, from what is left of the message
 pub last-block-cut : (R : ℕ) (m : List ℕ) (i : ℕ) → 0 < R → R ≤ LARGEST-RATE → i ≡ length m / R
     → take R (lastBlock (drop (i * R) m)) ≡ block R m i
-unfolding lastBlock padded
+unfolding lastBlock
 last-block-cut R m i pos h e =
     let w = whole-rest R (length m) pos in
     let b : i * R + length m % R ≡ length m = rw e (w .0) in
     let d : length (drop (i * R) m) ≡ length m % R = length-drop (i * R) m ∙ omega arith in
-    rw (take-all (LARGEST-RATE - 1) (drop (i * R) m) (omega arith))
-    (cut-padding R (LARGEST-RATE - 1 - length (drop (i * R) m) % LARGEST-RATE) (drop (i * R) m) (omega arith)
-    (rw (mod-eq-of-lt {n = length (drop (i * R) m)} {m = LARGEST-RATE} (omega arith)) (omega arith))
+    rw (take-all (LARGEST-RATE - 1) (drop (i * R) m) (omega arith), padded-short LARGEST-RATE (drop (i * R) m) (omega arith))
+    (cut-padding R (LARGEST-RATE - 1 - length (drop (i * R) m)) (drop (i * R) m) (omega arith) (omega arith)
     ∙ ap (λ (x : ℕ). drop (i * R) m ++ (STOP ∷ replicate (R - 1 - x) 0)) d)
     ∙ sym (block-last R m i pos e)

@@ -3,7 +3,8 @@
 use lib.ListN.{length}
 use mathlib.Core.Path.{sym, _∙_}
 use Rattle.digest.specs.Shapes.{known-whole}
-use Rattle.digest.proofs.Answering.{instance-refused, length-refused, room-refused, finished, count-fits}
+use Rattle.digest.proofs.Answering.{refused, finished, count-fits}
+use Rattle.digest.specs.Order.{instance-refused, length-refused, room-refused}
 use native.Mathlib.Omega.{arith}
 use borrow.Author.Needs.{needs}
 use Rattle.digest.proofs.digest.Statement.{statement}
@@ -13,13 +14,13 @@ is-unknown-requires : tie.Need-is-unknown-requires
 is-unknown-requires c κs = search needs
 
 returns : tie.Need-returns
-returns c = instance-refused (c .before .before .before .before .args .instance) (c .before .before .before .before .args .message .now) (c .before .before .before .before .args .out .now) (sym (c .before .is-unknown .ensures) ∙ c .if1 .taken)
+returns c = refused (instance-refused (c .before .before .before .before .args .instance) (c .before .before .before .before .args .message .now) (c .before .before .before .before .args .out .now) (sym (c .before .is-unknown .ensures) ∙ c .if1 .taken))
 
 returns-2 : tie.Need-returns-2
-returns-2 c = length-refused (c .before .before .before .before .before .args .instance) (c .before .before .before .before .before .args .message .now) (c .before .before .before .before .before .args .out .now) (sym (c .before .before .is-unknown .ensures) ∙ c .before .if1 .left) (c .if2 .taken)
+returns-2 c = refused (length-refused (c .before .before .before .before .before .args .instance) (c .before .before .before .before .before .args .message .now) (c .before .before .before .before .before .args .out .now) (sym (c .before .before .is-unknown .ensures) ∙ c .before .if1 .left) (c .if2 .taken))
 
 returns-3 : tie.Need-returns-3
-returns-3 c = room-refused (c .before .before .before .before .before .before .args .instance) (c .before .before .before .before .before .before .args .message .now) (c .before .before .before .before .before .before .args .out .now) (sym (c .before .before .before .is-unknown .ensures) ∙ c .before .before .if1 .left) (c .before .if2 .left) (c .if3 .taken)
+returns-3 c = refused (room-refused (c .before .before .before .before .before .before .args .instance) (c .before .before .before .before .before .before .args .message .now) (c .before .before .before .before .before .before .args .out .now) (sym (c .before .before .before .is-unknown .ensures) ∙ c .before .before .if1 .left) (c .before .if2 .left) (c .if3 .taken))
 
 shape-of-requires : tie.Need-shape-of-requires
 shape-of-requires c κs = (sym (c .before .before .before .is-unknown .ensures) ∙ c .before .before .if1 .left)

@@ -1,38 +1,64 @@
 -- `substituted_byte` meets its promise: four products over the old cells, each below 4, make a byte. Assumes nothing.
 use Rattle.gage.specs.Cells.{substitutedByte}
+use Prim.Native.Nat.{_/_, _%_}
+use native.Mathlib.Omega.{arith}
 use borrow.Author.Needs.{needs}
 use Rattle.gage.proofs.cells.substituted_byte.Statement.{statement}
 use Rattle.gage.proofs.cells.substituted_byte.Tie as tie
 
-star-requires : tie.Need-star-requires
-star-requires c κs = search needs
-
 mul-result : tie.Need-mul-result
 mul-result c = search needs
 
-star-requires-2 : tie.Need-star-requires-2
-star-requires-2 c κs = search needs
+index-1-result : tie.Need-index-1-result
+index-1-result c = search needs
+
+index-2-result : tie.Need-index-2-result
+index-2-result c = search needs
 
 mul-result-2 : tie.Need-mul-result-2
-mul-result-2 c = search needs
-
-add-result : tie.Need-add-result
-add-result c = search needs
-
-star-requires-3 : tie.Need-star-requires-3
-star-requires-3 c κs = search needs
+mul-result-2 c = record { fits = omega (arith, c .before .pre .1 .below (c .before .args .p) (c .before .args .b / 64)) }
 
 mul-result-3 : tie.Need-mul-result-3
 mul-result-3 c = search needs
 
-add-result-2 : tie.Need-add-result-2
-add-result-2 c = search needs
+index-1-result-2 : tie.Need-index-1-result-2
+index-1-result-2 c = search needs
 
-star-requires-4 : tie.Need-star-requires-4
-star-requires-4 c κs = search needs
+index-2-result-2 : tie.Need-index-2-result-2
+index-2-result-2 c = search needs
+
+mul-result-4 : tie.Need-mul-result-4
+mul-result-4 c = record { fits = omega (arith, c .before .before .pre .1 .below (c .before .before .args .p) (c .before .before .args .b / 64), c .before .before .pre .1 .below (c .before .before .args .b / 64) (c .before .before .args .b / 16 % 4)) }
+
+add-result : tie.Need-add-result
+add-result c = record { fits = omega (arith, c .before .before .pre .1 .below (c .before .before .args .p) (c .before .before .args .b / 64), c .before .before .pre .1 .below (c .before .before .args .b / 64) (c .before .before .args .b / 16 % 4)) }
+
+mul-result-5 : tie.Need-mul-result-5
+mul-result-5 c = search needs
+
+index-1-result-3 : tie.Need-index-1-result-3
+index-1-result-3 c = search needs
+
+index-2-result-3 : tie.Need-index-2-result-3
+index-2-result-3 c = search needs
+
+mul-result-6 : tie.Need-mul-result-6
+mul-result-6 c = record { fits = omega (arith, c .before .before .before .pre .1 .below (c .before .before .before .args .p) (c .before .before .before .args .b / 64), c .before .before .before .pre .1 .below (c .before .before .before .args .b / 64) (c .before .before .before .args .b / 16 % 4), c .before .before .before .pre .1 .below (c .before .before .before .args .b / 16 % 4) (c .before .before .before .args .b / 4 % 4)) }
+
+add-result-2 : tie.Need-add-result-2
+add-result-2 c = record { fits = omega (arith, c .before .before .before .pre .1 .below (c .before .before .before .args .p) (c .before .before .before .args .b / 64), c .before .before .before .pre .1 .below (c .before .before .before .args .b / 64) (c .before .before .before .args .b / 16 % 4), c .before .before .before .pre .1 .below (c .before .before .before .args .b / 16 % 4) (c .before .before .before .args .b / 4 % 4)) }
+
+mul-result-7 : tie.Need-mul-result-7
+mul-result-7 c = search needs
+
+index-1-result-4 : tie.Need-index-1-result-4
+index-1-result-4 c = search needs
+
+index-2-result-4 : tie.Need-index-2-result-4
+index-2-result-4 c = search needs
 
 add-result-3 : tie.Need-add-result-3
-add-result-3 c = search needs
+add-result-3 c = record { fits = omega (arith, c .before .before .before .before .pre .1 .below (c .before .before .before .before .args .p) (c .before .before .before .before .args .b / 64), c .before .before .before .before .pre .1 .below (c .before .before .before .before .args .b / 64) (c .before .before .before .before .args .b / 16 % 4), c .before .before .before .before .pre .1 .below (c .before .before .before .before .args .b / 16 % 4) (c .before .before .before .before .args .b / 4 % 4), c .before .before .before .before .pre .1 .below (c .before .before .before .before .args .b / 4 % 4) (c .before .before .before .before .args .b % 4)) }
 
 returns : tie.Need-returns
 unfolding substitutedByte
@@ -42,14 +68,22 @@ pub substituted-byte-spec : {M : Type 1} → statement M
 substituted-byte-spec =
     tie.close
     (tie.spec
-    star-requires
     mul-result
-    star-requires-2
+    index-1-result
+    index-2-result
     mul-result-2
-    add-result
-    star-requires-3
     mul-result-3
+    index-1-result-2
+    index-2-result-2
+    mul-result-4
+    add-result
+    mul-result-5
+    index-1-result-3
+    index-2-result-3
+    mul-result-6
     add-result-2
-    star-requires-4
+    mul-result-7
+    index-1-result-4
+    index-2-result-4
     add-result-3
     returns)

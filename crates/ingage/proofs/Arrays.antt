@@ -1,0 +1,88 @@
+-- The first bytes of an array after the permutation, after a byte XORed in, and after bytes copied in. Assumes nothing.
+use mathlib.Core.Path.{_≡_, refl, sym, ap, ap₂, _∙_}
+use mathlib.Core.Bool.{true}
+use mathlib.Core.List.{List, [], _∷_, _++_, append-nil}
+use Prim.Native.Nat.{ℕ, zero, suc, _+_, _-_, _≤_, _<_}
+use native.Mathlib.Nat.{not-suc-le-zero, le-of-suc-le-suc, zero-add}
+use native.Mathlib.Omega.{arith}
+use lib.Bits.{bitXor}
+use lib.ListN.{length, getD, set, take, drop, replicate, length-drop, drop-of-length-le}
+use lib.Seq.{take-at, take-take, take-length, length-take-le, take-set-lt, getD-take, drop-drop, take-append-add, drop-append-add}
+use Rattle.gage.specs.Permutation.{permitted, answered}
+use Rattle.gage.specs.declared.Permuted.{Permuted}
+use Rattle.sponge.specs.Absorbing.{xored}
+use Rattle.lists.specs.Buffers.{over, copied}
+use Rattle.ingage.specs.declared.Instance.{Instance}
+use Rattle.ingage.specs.Instances.{Fitting}
+use Rattle.ingage.specs.Cipher.{whole, marked, keyed, started}
+use Rattle.ingage.specs.Masking.{xored-take}
+
+-- the permutation answers with the first n bytes permuted
+pub permuted : (f : List ℕ → List ℕ) → ((s : List ℕ) → length (f s) ≡ length s) → (s : List ℕ) (n : ℕ) (p : Permuted)
+    → n ≤ length s → permitted n ≡ true → p ≡ answered f s n → take n (p .state) ≡ f (take n s)
+unfolding answered
+permuted f same s n p h a e = rw (e, a) (take-at (f (take n s)) (drop n s) n (same (take n s) ∙ length-take-le n s h))
+
+marked-at : (v n : ℕ) (s : List ℕ) → n < length s → set s n (bitXor v (getD s n 0)) ≡ xored (replicate n 0 ++ (v ∷ [])) s
+unfolding xored
+marked-at v n [] h = absurd (not-suc-le-zero h)
+marked-at v zero (x ∷ s) h = refl
+marked-at v (suc n) (x ∷ s) h = ap (λ (l : List ℕ). x ∷ l) (marked-at v n s (le-of-suc-le-suc h))
+
+-- a store of the last of n bytes, with v XORed in
+pub marked-take : (v n : ℕ) (s : List ℕ) → 1 ≤ n → n ≤ length s → take n (set s (n - 1) (bitXor v (getD s (n - 1) 0))) ≡ marked v (take n s)
+unfolding marked
+marked-take v n s h g =
+    let l : length (take n s) ≡ n = length-take-le n s g in
+    rw (take-set-lt n s (n - 1) (bitXor v (getD s (n - 1) 0)) (omega arith), sym (getD-take n s (n - 1) 0 (omega arith)), l)
+    (marked-at v (n - 1) (take n s) (omega arith))
+
+-- bytes copied over a part of just their length
+pub put-in : (at : ℕ) (s b part : List ℕ) → at + length b ≤ length s → part ≡ copied b (take (at + length b - at) (drop at s))
+    → take at s ++ (part ++ drop (at + length b - at) (drop at s)) ≡ take at s ++ (b ++ drop (at + length b) s)
+put-in at s b part h e =
+    let k : at + length b - at ≡ length b = omega arith in
+    let l : length (take (length b) (drop at s)) ≡ length b = length-take-le (length b) (drop at s) (rw length-drop (omega arith)) in
+    rw (e, k, l, take-length b, drop-of-length-le (take (length b) (drop at s)) {i = length b} (omega arith), append-nil b, drop-drop (length b) at s)
+
+drop-zeros : (k n : ℕ) → k ≤ n → drop {A = ℕ} k (replicate n 0) ≡ replicate (n - k) 0
+drop-zeros zero n h = ap (λ (x : ℕ). replicate x 0) (let e : n ≡ n - 0 = omega arith in e)
+drop-zeros (suc k) zero h = absurd (not-suc-le-zero h)
+drop-zeros (suc k) (suc n) h = drop-zeros k n (le-of-suc-le-suc h) ∙ ap (λ (x : ℕ). replicate x 0) (let e : n - k ≡ suc n - suc k = omega arith in e)
+
+pub take-zeros : (k n : ℕ) → k ≤ n → take {A = ℕ} k (replicate n 0) ≡ replicate k 0
+take-zeros zero n h = refl
+take-zeros (suc k) zero h = absurd (not-suc-le-zero h)
+take-zeros (suc k) (suc n) h = ap (λ (l : List ℕ). 0 ∷ l) (take-zeros k n (le-of-suc-le-suc h))
+
+-- front and key put into zeros
+pub keyed-put : (z : Instance) (front key s r : List ℕ) → Fitting z → length front ≡ z .nonce → length key ≡ z .key
+    → s ≡ front ++ drop (0 + length front) (replicate 72 0) → r ≡ take (z .nonce) s ++ (key ++ drop (z .nonce + length key) s)
+    → take (z .state) r ≡ keyed z front key
+unfolding keyed
+keyed-put z front key s r fits f k e g =
+    let b = fits .begins in
+    let h = fits .held in
+    let i : z .state ≡ length front + (length key + (z .state - (z .nonce + z .key))) = omega arith in
+    let j : z .nonce + length key ≡ length front + length key = omega arith in
+    let rest : List ℕ = replicate (72 - length front) 0 in
+    let s-is : s ≡ front ++ rest = e ∙ ap (λ (l : List ℕ). front ++ l) (rw zero-add (drop-zeros (length front) 72 (omega arith))) in
+    let r-is : r ≡ front ++ (key ++ replicate (72 - length front - length key) 0) =
+    g ∙ rw (s-is, take-at front rest (z .nonce) f, j, drop-append-add front rest (length key), drop-zeros (length key) (72 - length front) (omega arith)) in
+    ap₂ take i r-is
+    ∙ take-append-add front (key ++ replicate (72 - length front - length key) 0) (length key + (z .state - (z .nonce + z .key)))
+    ∙ ap (λ (l : List ℕ). front ++ l)
+    (take-append-add key (replicate (72 - length front - length key) 0) (z .state - (z .nonce + z .key))
+    ∙ ap (λ (l : List ℕ). key ++ l) (take-zeros (z .state - (z .nonce + z .key)) (72 - length front - length key) (omega arith)))
+
+-- the key brought in again, behind zeros
+pub started-mix : (z : Instance) (key nonce s k r : List ℕ) → Fitting z → take (z .state) k ≡ keyed z (take (z .nonce - 0) (replicate 72 0)) key
+    → take (z .state) s ≡ whole (keyed z nonce key) → r ≡ xored (take (z .state - 0) k) s → take (z .state) r ≡ started z key nonce .state
+unfolding started
+started-mix z key nonce s k r fits f g h =
+    let b = fits .begins in
+    let l = fits .held in
+    let n : z .nonce - 0 ≡ z .nonce = omega arith in
+    rw h (xored-take (z .state) (take (z .state - 0) k) s
+    ∙ ap₂ xored (take-take (z .state) (z .state - 0) k (omega arith) ∙ f
+    ∙ ap (λ (x : List ℕ). keyed z x key) (rw n (take-zeros (z .nonce) 72 (omega arith)))) g)

@@ -1,0 +1,187 @@
+-- The public calls' refusals and what they give when done, from what each step has promised. Assumes nothing.
+use mathlib.Core.Path.{_≡_, refl, sym, ap, _∙_}
+use mathlib.Core.Bool.{Bool, true, false, cond}
+use mathlib.Core.List.{List, append-nil}
+use Prim.Native.Nat.{ℕ, _+_, _-_, _/_, _≤_, _<_}
+use native.Mathlib.Nat.{min-eq-left}
+use native.Mathlib.Omega.{arith}
+use lib.Dec.{eqb, ltb}
+use lib.ListN.{length, take, drop, length-replicate, drop-of-length-le}
+use lib.Seq.{take-all, drop-at, length-take-le, take-take, take-add}
+use borrow.Author.Tests.{eqb-true, ltb-false, lt-ltb}
+use Rattle.lists.specs.Buffers.{over, copied, cleared, same}
+use Rattle.sponge.specs.Padding.{blockCount}
+use Rattle.sponge.specs.Absorbing.{Run}
+use Rattle.ingage.specs.declared.Instance.{Instance}
+use Rattle.ingage.specs.declared.Sealed.the-variants as sealed
+use Rattle.ingage.specs.declared.Opened.the-variants as opened
+use Rattle.ingage.specs.Instances.{Fitting, first, first-fits}
+use Rattle.ingage.specs.Cipher.{from, begun, encrypting, decrypting, finished, sealOf, encrypted, decrypted}
+use Rattle.ingage.specs.Answers.{LONGEST-ASSOCIATED, LONGEST-TEXT, sized, tooLong, SealCall, sealCall, OpenCall, openCall}
+use Rattle.ingage.specs.Runs.{encrypting-from, decrypting-from}
+use Rattle.ingage.specs.Results.{seal-calls, open-calls, length-seal, length-decrypted}
+use Rattle.ingage.specs.Exactly.{Within, sealed-within, opened-within}
+use Rattle.ingage.proofs.Writing.{length-over}
+
+never : {P : Type 0} → _≡_ {A = Bool} true false → P
+never e = absurd (let z : _≡_ {A = ℕ} 0 1 = cc e in omega arith)
+
+all-three : (a b c : Bool) → cond a (cond b c false) false ≡ true → (a ≡ true) × (b ≡ true) × (c ≡ true)
+all-three true true c e = (refl, refl, e)
+all-three true false c e = never (sym e)
+all-three false b c e = never (sym e)
+
+neither : (a b : Bool) → cond a true b ≡ false → (a ≡ false) × (b ≡ false)
+neither true b e = never e
+neither false b e = (refl, e)
+
+-- a promise in parts
+pub seal-met : {c x : SealCall} → c ≡ x → (x .answer ≡ c .answer) × ((x .out ≡ c .out) × (x .seal ≡ c .seal))
+seal-met e = (ap (λ (y : SealCall). y .answer) (sym e), (ap (λ (y : SealCall). y .out) (sym e), ap (λ (y : SealCall). y .seal) (sym e)))
+
+pub open-met : {c x : OpenCall} → c ≡ x → (x .answer ≡ c .answer) × (x .out ≡ c .out)
+open-met e = (ap (λ (y : OpenCall). y .answer) (sym e), ap (λ (y : OpenCall). y .out) (sym e))
+
+module _ (z : Instance) (key nonce A text out seal : List ℕ) where
+  -- refusals, in their order
+  module _ (wrong : sized z (length key) (length nonce) (length seal) ≡ false) where
+    pub seal-sizes : sealCall z key nonce A text out seal ≡ record { answer = sealed.Sizes; out = out; seal = seal }
+    unfolding sealCall
+    seal-sizes = rw wrong
+
+    pub open-sizes : openCall z key nonce A text seal out ≡ record { answer = opened.Sizes; out = out }
+    unfolding openCall
+    open-sizes = rw wrong
+
+  module _ (right : sized z (length key) (length nonce) (length seal) ≡ true) where
+    module _ (long : tooLong (length A) (length text) ≡ true) where
+      pub seal-long : sealCall z key nonce A text out seal ≡ record { answer = sealed.TooLong; out = out; seal = seal }
+      unfolding sealCall
+      seal-long = rw (right, long)
+
+      pub open-long : openCall z key nonce A text seal out ≡ record { answer = opened.TooLong; out = out }
+      unfolding openCall
+      open-long = rw (right, long)
+
+    module _ (short : tooLong (length A) (length text) ≡ false) where
+      module _ (none : length out < length text) where
+        pub seal-room : sealCall z key nonce A text out seal ≡ record { answer = sealed.NoRoom; out = out; seal = seal }
+        unfolding sealCall
+        seal-room = rw (right, short, lt-ltb (length out) (length text) none)
+
+        pub open-room : openCall z key nonce A text seal out ≡ record { answer = opened.NoRoom; out = out }
+        unfolding openCall
+        open-room = rw (right, short, lt-ltb (length out) (length text) none)
+
+      -- within the sizes and with room
+      pub within : length text ≤ length out → Within z key nonce A text seal out
+      unfolding sized tooLong
+      within room =
+          let s = all-three (eqb (length key) (z .key)) (eqb (length nonce) (z .nonce)) (eqb (length seal) (z .seal)) right in
+          let l = neither (ltb LONGEST-ASSOCIATED (length A)) (ltb LONGEST-TEXT (length text)) short in
+          record {
+            key-size = eqb-true (length key) (z .key) (s .0);
+            nonce-size = eqb-true (length nonce) (z .nonce) (s .1);
+            seal-size = eqb-true (length seal) (z .seal) (s .2);
+            associated = ltb-false LONGEST-ASSOCIATED (length A) (l .0);
+            short = ltb-false LONGEST-TEXT (length text) (l .1);
+            room = room;
+          }
+
+-- the seal's place in the state, and the buffer that it fills
+pub seal-place : (z : Instance) (f g seal : List ℕ) → Fitting z → length f ≡ 72 → take (z .state) f ≡ g → length seal ≡ z .seal
+    → take (z .rate + length seal - z .rate) (drop (z .rate) f) ≡ sealOf z g
+unfolding sealOf
+seal-place z f g seal fits l e s =
+    let d = fits .ends in
+    let h = fits .held in
+    let k : z .rate + length seal - z .rate ≡ z .seal = omega arith in
+    let n : z .state ≡ z .rate + (z .state - z .rate) = omega arith in
+    let r : drop (z .rate) g ≡ take (z .state - z .rate) (drop (z .rate) f) =
+    ap (λ (x : List ℕ). drop (z .rate) x) (sym e ∙ ap (λ (x : ℕ). take x f) n ∙ take-add (z .rate) (z .state - z .rate) f)
+    ∙ drop-at (take (z .rate) f) (take (z .state - z .rate) (drop (z .rate) f)) (z .rate) (length-take-le (z .rate) f (omega arith)) in
+    rw (k, r) (sym (take-take (z .seal) (z .state - z .rate) (drop (z .rate) f) (omega arith)))
+
+pub filled : (x o : List ℕ) → length x ≡ length o → copied x o ≡ x
+filled x o e = rw (take-all (length o) x (omega arith), drop-of-length-le o {i = length x} (omega arith)) (append-nil x)
+
+-- zeros over a text that was written are zeros over what stood there before
+pub cleared-over : (w o : List ℕ) (k : ℕ) → length w ≡ k → k ≤ length o → cleared k (over w o) ≡ cleared k o
+cleared-over w o k l h =
+    rw (length-over w o (omega arith), min-eq-left h, length-replicate, drop-at w (drop (length w) o) k l, l)
+
+module _ (z : Instance) (fits : Fitting z) (key nonce A text seal out : List ℕ) (w : Within z key nonce A text seal out) (s : List ℕ) (begins : take (z .state) s ≡ begun z key nonce A .state) where
+  abbrev R : ℕ
+  R = z .rate
+
+  abbrev n : ℕ
+  n = z .state
+
+  abbrev k : ℕ
+  k = blockCount (z .rate) text
+
+  abbrev start : Run
+  start = begun z key nonce A
+
+  -- sealing, step after step
+  pub seal-done : (e f out′ seal′ : List ℕ) (count : ℕ) → take n e ≡ encrypting R (from (take n s)) text k .run .state
+      → out′ ≡ over (take (length text) (encrypting R (from (take n s)) text k .text)) out
+      → length f ≡ 72 → take n f ≡ finished (from (take n e)) .state → seal′ ≡ copied (take (R + length seal - R) (drop R f)) seal
+      → count ≡ 1 + (length A / R + 1) + (length text / R + 1) + 1
+      → sealCall z key nonce A text out seal ≡ record { answer = sealed.Done count; out = out′; seal = seal′ }
+  unfolding encrypted finished
+  seal-done e f out′ seal′ count state write long end part calls =
+      let same = encrypting-from R start text k in
+      let last : take n e ≡ encrypting R start text k .run .state = state ∙ rw begins (same .0) in
+      let t : out′ ≡ over (encrypted z key nonce A text .text) out = write ∙ rw (begins, same .1) in
+      let place : take (R + length seal - R) (drop R f) ≡ encrypted z key nonce A text .seal =
+      seal-place z f (finished (encrypting R start text k .run) .state) seal fits long (end ∙ rw last) (w .seal-size) in
+      let p : seal′ ≡ encrypted z key nonce A text .seal =
+      part ∙ rw place (filled (encrypted z key nonce A text .seal) seal (length-seal z fits key nonce A (w .key-size) (w .nonce-size) text ∙ sym (w .seal-size))) in
+      let c : count ≡ encrypted z key nonce A text .calls = calls ∙ sym (seal-calls z key nonce A text) in
+      sealed-within z key nonce A text seal out w ∙ rw (c, t, p)
+
+  -- opening, step after step
+  module _ (d f out′ : List ℕ) (count : ℕ) (state : take n d ≡ decrypting R (from (take n s)) text k .run .state)
+      (write : out′ ≡ over (decrypting R (from (take n s)) text k .text) out) (long : length f ≡ 72)
+      (end : take n f ≡ finished (from (take n d)) .state) (calls : count ≡ 1 + (length A / R + 1) + (length text / R + 1) + 1) where
+    -- the seal worked out, the message and the count
+    worked-out : take (R + length seal - R) (drop R f) ≡ decrypted z key nonce A text .seal
+    unfolding decrypted finished
+    worked-out =
+        let last : take n d ≡ decrypting R start text k .run .state = state ∙ rw begins (decrypting-from R start text k .0) in
+        seal-place z f (finished (decrypting R start text k .run) .state) seal fits long (end ∙ rw last) (w .seal-size)
+
+    given : out′ ≡ over (decrypted z key nonce A text .text) out
+    unfolding decrypted
+    given = write ∙ rw (begins, decrypting-from R start text k .1)
+
+    counted : count ≡ decrypted z key nonce A text .calls
+    counted = calls ∙ sym (open-calls z key nonce A text)
+
+    pub open-done : same (take (R + length seal - R) (drop R f)) seal ≡ true
+        → openCall z key nonce A text seal out ≡ record { answer = opened.Done count; out = out′ }
+    open-done t =
+        let m : same (decrypted z key nonce A text .seal) seal ≡ true = rw worked-out at t in
+        opened-within z key nonce A text seal out w ∙ rw (m, counted, given)
+
+    pub open-wrong : (zeros : List ℕ) → same (take (R + length seal - R) (drop R f)) seal ≡ false → zeros ≡ cleared (length text) out′
+        → openCall z key nonce A text seal out ≡ record { answer = opened.Seal count; out = zeros }
+    open-wrong zeros t e =
+        let m : same (decrypted z key nonce A text .seal) seal ≡ false = rw worked-out at t in
+        let b : zeros ≡ cleared (length text) out =
+        e ∙ rw given (cleared-over (decrypted z key nonce A text .text) out (length text)
+        (length-decrypted z fits key nonce A (w .key-size) (w .nonce-size) text) (w .room)) in
+        opened-within z key nonce A text seal out w ∙ rw (m, counted, b)
+
+-- the instance that the code works with
+pub fits-first : (z : Instance) → z ≡ first → Fitting z
+fits-first z e = rw e first-fits
+
+pub seal-by : (key nonce A P out seal : List ℕ) {z : Instance} {x : SealCall} → z ≡ first → sealCall z key nonce A P out seal ≡ x
+    → sealCall first key nonce A P out seal ≡ x
+seal-by key nonce A P out seal e h = ap (λ (y : Instance). sealCall y key nonce A P out seal) (sym e) ∙ h
+
+pub open-by : (key nonce A C seal out : List ℕ) {z : Instance} {x : OpenCall} → z ≡ first → openCall z key nonce A C seal out ≡ x
+    → openCall first key nonce A C seal out ≡ x
+open-by key nonce A C seal out e h = ap (λ (y : Instance). openCall y key nonce A C seal out) (sym e) ∙ h

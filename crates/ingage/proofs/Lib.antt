@@ -1,0 +1,6 @@
+pub mod Arrays
+pub mod Pads
+pub mod Writing
+pub mod Passing
+pub mod Calls
+pub mod Single

@@ -1,0 +1,55 @@
+-- A block is its piece of the text, padded: for the last block and for the whole ones before it. Assumes nothing.
+use mathlib.Core.Path.{_≡_, ap, _∙_}
+use mathlib.Core.List.{List}
+use Prim.Native.Nat.{ℕ, _+_, _-_, _*_, _/_, _%_, _≤_, _<_, min}
+use native.Mathlib.Nat.{mul-le-mul-right, div-mul-le-self}
+use native.Mathlib.Decide.{decLt}
+use native.Mathlib.Omega.{arith}
+use lib.ListN.{length, take, drop, length-take, length-drop}
+use lib.Seq.{take-all, take-at}
+use Rattle.sponge.specs.Padding.{padded, block, blockCount, lastBlock, LARGEST-RATE}
+use Rattle.sponge.specs.Blocks.{blocks-suc, whole-rest, block-whole, last-block-cut}
+use borrow.Author.Tests.{eq-eqb, ne-eqb}
+use Rattle.ingage.specs.declared.Instance.{Instance}
+use Rattle.ingage.specs.Instances.{Fitting}
+use Rattle.ingage.specs.Cipher.{piece, marked, LAST-BLOCK, associatedBlock}
+use Rattle.ingage.specs.Pieces.{piece-starts, cut}
+
+-- the part of a text that the code takes for piece i
+pub piece-part : (R : ℕ) (m : List ℕ) (i end : ℕ) → i * R ≤ length m → end ≡ min (i * R + R) (length m) → take (end - i * R) (drop (i * R) m) ≡ piece R m i
+unfolding piece
+piece-part R m i end h e =
+    let k : end - i * R ≡ min R (length (drop (i * R) m)) = omega (arith, length-drop (i * R) m) in
+    rw k (cut R (drop (i * R) m))
+
+pub block-of : (R : ℕ) (m : List ℕ) (i : ℕ) → 1 ≤ R → R < LARGEST-RATE → i < blockCount R m → take R (lastBlock (piece R m i)) ≡ block R m i
+unfolding piece lastBlock padded
+block-of R m i pos small h = elim (decLt i (length m / R)) [
+  | yes g ↦
+      let k : i + 1 ≤ length m / R = omega (arith, g) in
+      let b : (i + 1) * R ≤ length m = omega (arith, mul-le-mul-right R k, div-mul-le-self (length m) R) in
+      let l : length (take R (drop (i * R) m)) ≡ R = rw (length-take, length-drop) (omega (arith, blocks-suc i R)) in
+      rw (block-whole R m i b, take-all (LARGEST-RATE - 1) (take R (drop (i * R) m)) (omega arith))
+      (take-at (take R (drop (i * R) m)) _ R l)
+  | no g ↦
+      let e : i ≡ length m / R = omega (arith, g) in
+      let w = whole-rest R (length m) pos in
+      let b : i * R + length m % R ≡ length m = rw e (w .0) in
+      rw (take-all R (drop (i * R) m) (rw length-drop (omega arith))) (last-block-cut R m i pos (omega arith) e)
+]
+
+-- the block that the code makes of the part it takes
+pub part-block : (z : Instance) (m : List ℕ) (i end : ℕ) (b : List ℕ) → Fitting z → i < blockCount (z .rate) m
+    → end ≡ min (i * z .rate + z .rate) (length m) → b ≡ lastBlock (take (end - i * z .rate) (drop (i * z .rate) m))
+    → take (z .rate) b ≡ block (z .rate) m i
+part-block z m i end b fits h e g =
+    ap (λ (l : List ℕ). take (z .rate) l) (g ∙ ap lastBlock (piece-part (z .rate) m i end (piece-starts (z .rate) m i h) e))
+    ∙ block-of (z .rate) m i (fits .moves) (fits .small) h
+
+pub associated-last : (z : Instance) (A : List ℕ) (i : ℕ) → i ≡ length A / z .rate → associatedBlock z A i ≡ marked LAST-BLOCK (block (z .rate) A i)
+unfolding associatedBlock
+associated-last z A i e = rw (eq-eqb (i + 1) (length A / z .rate + 1) (omega arith))
+
+pub associated-before : (z : Instance) (A : List ℕ) (i : ℕ) → (i ≡ length A / z .rate → ⊥) → associatedBlock z A i ≡ block (z .rate) A i
+unfolding associatedBlock
+associated-before z A i n = rw (ne-eqb (i + 1) (length A / z .rate + 1) (λ e. n (omega (arith, e))))

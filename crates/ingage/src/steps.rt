@@ -1,0 +1,201 @@
+// The steps of InGAGE's Algorithms 5 and 6 (specs/Cipher.antt) over the sizes of an instance. A state is an array by value of which
+// the first bytes count, as many as the instance's state has. Every block, the last one too, is its piece of the text, padded.
+use crate::Instance;
+use gage::LARGEST;
+use sponge::LARGEST_RATE;
+ghost use mathlib.Core.Path.{_≡_};
+ghost use mathlib.Core.Bool.{true};
+ghost use Prim.Native.Nat.{_+_, _/_, _<_, _≤_, min};
+ghost use mathlib.Core.List.{_++_};
+ghost use lib.ListN.{length, take, drop};
+ghost use Rattle.gage.specs.Permutation.{permitted};
+ghost use Rattle.lists.specs.Buffers.{over};
+ghost use Rattle.sponge.specs.Padding.{blockCount};
+ghost use Rattle.ingage.specs.Instances.{Fitting};
+ghost use Rattle.ingage.specs.Answers.{LONGEST-ASSOCIATED, LONGEST-TEXT};
+ghost use Rattle.ingage.specs.Cipher.{whole, half, marked, from, keyed, started, associatedBlock, absorbed, begun, encrypting, decrypting, finished};
+
+// What is XORed into the last block of the associated data, into the state after it, and into the state after the message (document 000,
+// section 2.1).
+const LAST_BLOCK: u8 = 0x01;
+
+const AFTER_ASSOCIATED: u8 = 0x01;
+
+const AFTER_MESSAGE: u8 = 0x02;
+
+// All rounds of the permutation on the first n bytes of s.
+fn whole(s: [u8; LARGEST], n: usize) -> [u8; LARGEST]
+    requires { ⌜ permitted n ≡ true ⌝ }
+    ensures { λ r. ⌜ take n r ≡ whole (take n s) ⌝ }
+{
+    let p = gage::permute(s, n);
+    p.state
+}
+
+// Half the rounds, as after each block.
+fn half(s: [u8; LARGEST], n: usize) -> [u8; LARGEST]
+    requires { ⌜ permitted n ≡ true ⌝ }
+    ensures { λ r. ⌜ take n r ≡ half (take n s) ⌝ }
+{
+    let p = gage::permute_half(s, n);
+    p.state
+}
+
+// v XORed into the last of the first n bytes of s.
+fn mark(s: [u8; LARGEST], n: usize, v: u8) -> [u8; LARGEST]
+    requires { ⌜ (1 ≤ n) × (n ≤ 72) ⌝ }
+    ensures { λ r. ⌜ take n r ≡ marked v (take n s) ⌝ }
+{
+    let mut r = s;
+    r[n - 1] = v ^ r[n - 1];
+    r
+}
+
+// s with bytes put at a place.
+fn put(s: [u8; LARGEST], at: usize, b: &[u8]) -> [u8; LARGEST]
+    requires { ⌜ at + length (now b) ≤ 72 ⌝ }
+    ensures { λ r. ⌜ r ≡ take at s ++ (now (b .entry) ++ drop (at + length (now (b .entry))) s) ⌝ }
+{
+    let end = at + b.len();
+    let mut r = s;
+    lists::copy(b, &mut r[at..end]);
+    r
+}
+
+// The front, the key behind it, and zeros.
+fn keyed(z: Instance, front: &[u8], key: &[u8]) -> [u8; LARGEST]
+    requires { ⌜ Fitting z × (length (now front) ≡ z .nonce) × (length (now key) ≡ z .key) ⌝ }
+    ensures { λ r. ⌜ take (z .state) r ≡ keyed z (now (front .entry)) (now (key .entry)) ⌝ }
+{
+    let s = put([0u8; LARGEST], 0, front);
+    put(s, z.nonce, key)
+}
+
+// 'Initialize state S'.
+fn start(z: Instance, key: &[u8], nonce: &[u8]) -> [u8; LARGEST]
+    requires { ⌜ Fitting z × (length (now key) ≡ z .key) × (length (now nonce) ≡ z .nonce) ⌝ }
+    ensures { λ r. ⌜ take (z .state) r ≡ started z (now (key .entry)) (now (nonce .entry)) .state ⌝ }
+{
+    let n = z.state;
+    let at = z.nonce;
+    let zeros = [0u8; LARGEST];
+    let s = whole(keyed(z, nonce, key), n);
+    let k = keyed(z, &zeros[0..at], key);
+    sponge::mix(s, &k[0..n])
+}
+
+// Where the piece of a text that starts at a place ends: a block further, or at the text's end.
+fn end_of(length: usize, at: usize, rate: usize) -> usize
+    requires { ⌜ at ≤ length ⌝ }
+    ensures { λ r. ⌜ r ≡ min (at + rate) length ⌝ }
+{
+    if length - at < rate {
+        return length;
+    }
+    at + rate
+}
+
+// Block i of the padded associated data, the last one with its last bit set.
+fn associated_block(z: Instance, assoc: &[u8], i: usize) -> [u8; LARGEST_RATE]
+    requires { ⌜ Fitting z × (i < blockCount (z .rate) (now assoc)) ⌝ }
+    ensures { λ r. ⌜ take (z .rate) r ≡ associatedBlock z (now (assoc .entry)) i ⌝ }
+{
+    let rate = z.rate;
+    let at = i * rate;
+    let end = end_of(assoc.len(), at, rate);
+    let mut b = sponge::last_block(&assoc[at..end]);
+    if i == assoc.len() / rate {
+        b[rate - 1] = LAST_BLOCK ^ b[rate - 1];
+    }
+    b
+}
+
+// 'Absorb associated data A'.
+fn absorb(z: Instance, s: [u8; LARGEST], assoc: &[u8]) -> [u8; LARGEST]
+    requires { ⌜ Fitting z ⌝ }
+    ensures { λ r. ⌜ take (z .state) r ≡ absorbed z (from (take (z .state) s)) (now (assoc .entry)) .state ⌝ }
+{
+    let n = z.state;
+    let rate = z.rate;
+    let count = assoc.len() / rate + 1;
+    let mut r = s;
+    let mut i = 0;
+    while i < count {
+        let b = associated_block(z, assoc, i);
+        r = half(sponge::mix(r, &b[0..rate]), n);
+        i += 1;
+    }
+    mark(r, n, AFTER_ASSOCIATED)
+}
+
+// The state when the message comes.
+pub fn begin(z: Instance, key: &[u8], nonce: &[u8], assoc: &[u8]) -> [u8; LARGEST]
+    requires { ⌜ Fitting z × (length (now key) ≡ z .key) × (length (now nonce) ≡ z .nonce) ⌝ }
+    ensures { λ r. ⌜ take (z .state) r ≡ begun z (now (key .entry)) (now (nonce .entry)) (now (assoc .entry)) .state ⌝ }
+{
+    absorb(z, start(z, key, nonce), assoc)
+}
+
+// 'Absorb and encrypt the plaintext P': the ciphertext goes over the start of out.
+pub fn encrypt(z: Instance, s: [u8; LARGEST], message: &[u8], out: &mut [u8]) -> [u8; LARGEST]
+    requires { ⌜ Fitting z × (length (now message) ≤ length (now out)) ⌝ }
+    ensures state { λ r. ⌜ take (z .state) r ≡ encrypting (z .rate) (from (take (z .state) s)) (now (message .entry)) (blockCount (z .rate) (now (message .entry))) .run .state ⌝ }
+    ensures text { λ _. ⌜ now (out .exit) ≡ over (take (length (now (message .entry))) (encrypting (z .rate) (from (take (z .state) s)) (now (message .entry)) (blockCount (z .rate) (now (message .entry))) .text)) (now (out .entry)) ⌝ }
+{
+    let n = z.state;
+    let rate = z.rate;
+    let count = message.len() / rate + 1;
+    let mut r = s;
+    let mut i = 0;
+    while i < count {
+        let at = i * rate;
+        let end = end_of(message.len(), at, rate);
+        let b = sponge::last_block(&message[at..end]);
+        let x = sponge::mix(r, &b[0..rate]);
+        lists::copy(&x[0..rate], &mut out[at..end]);
+        r = half(x, n);
+        i += 1;
+    }
+    r
+}
+
+// 'Process the ciphertext C': the message goes over the start of out, and is padded and XORed in as in sealing.
+pub fn decrypt(z: Instance, s: [u8; LARGEST], cipher: &[u8], out: &mut [u8]) -> [u8; LARGEST]
+    requires { ⌜ Fitting z × (length (now cipher) ≤ length (now out)) ⌝ }
+    ensures state { λ r. ⌜ take (z .state) r ≡ decrypting (z .rate) (from (take (z .state) s)) (now (cipher .entry)) (blockCount (z .rate) (now (cipher .entry))) .run .state ⌝ }
+    ensures text { λ _. ⌜ now (out .exit) ≡ over (decrypting (z .rate) (from (take (z .state) s)) (now (cipher .entry)) (blockCount (z .rate) (now (cipher .entry))) .text) (now (out .entry)) ⌝ }
+{
+    let n = z.state;
+    let rate = z.rate;
+    let count = cipher.len() / rate + 1;
+    let mut r = s;
+    let mut i = 0;
+    while i < count {
+        let at = i * rate;
+        let end = end_of(cipher.len(), at, rate);
+        let m = sponge::mix(r, &cipher[at..end]);
+        lists::copy(&m[0..rate], &mut out[at..end]);
+        let b = sponge::last_block(&m[0..end - at]);
+        r = half(sponge::mix(r, &b[0..rate]), n);
+        i += 1;
+    }
+    r
+}
+
+// The step before 'Finalization', and its step 1.
+pub fn finish(z: Instance, s: [u8; LARGEST]) -> [u8; LARGEST]
+    requires { ⌜ Fitting z ⌝ }
+    ensures { λ r. ⌜ take (z .state) r ≡ finished (from (take (z .state) s)) .state ⌝ }
+{
+    let n = z.state;
+    whole(mark(s, n, AFTER_MESSAGE), n)
+}
+
+// How often the permutation is called for so many bytes of associated data and of text.
+pub fn calls(z: Instance, assoc: usize, text: usize) -> usize
+    requires { ⌜ (1 ≤ z .rate) × (assoc ≤ LONGEST-ASSOCIATED) × (text ≤ LONGEST-TEXT) ⌝ }
+    ensures { λ r. ⌜ r ≡ 1 + (assoc / z .rate + 1) + (text / z .rate + 1) + 1 ⌝ }
+{
+    let rate = z.rate;
+    1 + (assoc / rate + 1) + (text / rate + 1) + 1
+}

@@ -1,0 +1,38 @@
+-- The promises of the C calls, as the check reads them (`Post`), admit a single answer. Assumes nothing.
+use mathlib.Core.Path.{_≡_, sym, _∙_}
+use Prim.Native.Nat.{ℕ}
+use contract.Lifetimes.{Lfts}
+use denote.Triple.Clauses.{AtExit}
+use borrow.Fn.Kinds.{Dens, endedOf}
+use Rattle.lubdhvani.proofs.lubdhvani_next_stretch.Kinds as next-kinds
+use Rattle.lubdhvani.proofs.lubdhvani_next_stretch.Reads as next-reads
+use Rattle.lubdhvani.proofs.lubdhvani_permute.Kinds as permute-kinds
+use Rattle.lubdhvani.proofs.lubdhvani_permute.Reads as permute-reads
+use Rattle.lubdhvani.proofs.lubdhvani_unpermute.Kinds as unpermute-kinds
+use Rattle.lubdhvani.proofs.lubdhvani_unpermute.Reads as unpermute-reads
+use Rattle.lubdhvani.proofs.lubdhvani_digest.Kinds as digest-kinds
+use Rattle.lubdhvani.proofs.lubdhvani_digest.Reads as digest-reads
+
+pub lubdhvani-permute-single : (κs : Lfts 1) (a : Dens κs permute-kinds.ps) (r r′ : ℕ)
+    (x x′ : AtExit (endedOf 1 permute-kinds.ps permute-kinds.r) κs)
+    → permute-reads.Post κs a r x → permute-reads.Post κs a r′ x′ → (r ≡ r′) × (x .0 .now ≡ x′ .0 .now)
+lubdhvani-permute-single κs a r r′ x x′ p q = (p .0 ∙ sym (q .0), p .1 ∙ sym (q .1))
+
+pub lubdhvani-unpermute-single : (κs : Lfts 1) (a : Dens κs unpermute-kinds.ps) (r r′ : ℕ)
+    (x x′ : AtExit (endedOf 1 unpermute-kinds.ps unpermute-kinds.r) κs)
+    → unpermute-reads.Post κs a r x → unpermute-reads.Post κs a r′ x′ → (r ≡ r′) × (x .0 .now ≡ x′ .0 .now)
+lubdhvani-unpermute-single κs a r r′ x x′ p q = (p .0 ∙ sym (q .0), p .1 ∙ sym (q .1))
+
+-- number, buffer and count
+pub lubdhvani-digest-single : (κs : Lfts 3) (a : Dens κs digest-kinds.ps) (r r′ : ℕ)
+    (x x′ : AtExit (endedOf 3 digest-kinds.ps digest-kinds.r) κs)
+    → digest-reads.Post κs a r x → digest-reads.Post κs a r′ x′
+    → (r ≡ r′) × (x .1 .1 .0 .now ≡ x′ .1 .1 .0 .now) × (x .1 .1 .1 .0 .now ≡ x′ .1 .1 .1 .0 .now)
+lubdhvani-digest-single κs a r r′ x x′ p q = (p .0 ∙ sym (q .0), p .1 .0 ∙ sym (q .1 .0), p .1 .1 ∙ sym (q .1 .1))
+
+-- both places
+pub lubdhvani-next-stretch-single : (κs : Lfts 3) (a : Dens κs next-kinds.ps) (r r′ : Unit {0})
+    (x x′ : AtExit (endedOf 3 next-kinds.ps next-kinds.r) κs)
+    → next-reads.Post κs a r x → next-reads.Post κs a r′ x′
+    → (x .1 .1 .0 .now ≡ x′ .1 .1 .0 .now) × (x .1 .1 .1 .0 .now ≡ x′ .1 .1 .1 .0 .now)
+lubdhvani-next-stretch-single κs a r r′ x x′ p q = (p .0 ∙ sym (q .0), p .1 ∙ sym (q .1))
