@@ -6,6 +6,10 @@ use denote.Triple.Clauses.{AtExit}
 use borrow.Fn.Kinds.{Dens, endedOf}
 use Rattle.lubdhvani.proofs.lubdhvani_next_stretch.Kinds as next-kinds
 use Rattle.lubdhvani.proofs.lubdhvani_next_stretch.Reads as next-reads
+use Rattle.lubdhvani.proofs.lubdhvani_open.Kinds as open-kinds
+use Rattle.lubdhvani.proofs.lubdhvani_open.Reads as open-reads
+use Rattle.lubdhvani.proofs.lubdhvani_seal.Kinds as seal-kinds
+use Rattle.lubdhvani.proofs.lubdhvani_seal.Reads as seal-reads
 use Rattle.lubdhvani.proofs.lubdhvani_permute.Kinds as permute-kinds
 use Rattle.lubdhvani.proofs.lubdhvani_permute.Reads as permute-reads
 use Rattle.lubdhvani.proofs.lubdhvani_unpermute.Kinds as unpermute-kinds
@@ -36,3 +40,19 @@ pub lubdhvani-next-stretch-single : (κs : Lfts 3) (a : Dens κs next-kinds.ps) 
     → next-reads.Post κs a r x → next-reads.Post κs a r′ x′
     → (x .1 .1 .0 .now ≡ x′ .1 .1 .0 .now) × (x .1 .1 .1 .0 .now ≡ x′ .1 .1 .1 .0 .now)
 lubdhvani-next-stretch-single κs a r r′ x x′ p q = (p .0 ∙ sym (q .0), p .1 ∙ sym (q .1))
+
+-- number, both buffers and count
+pub lubdhvani-seal-single : (κs : Lfts 7) (a : Dens κs seal-kinds.ps) (r r′ : ℕ)
+    (x x′ : AtExit (endedOf 7 seal-kinds.ps seal-kinds.r) κs)
+    → seal-reads.Post κs a r x → seal-reads.Post κs a r′ x′
+    → (r ≡ r′) × (x .1 .1 .1 .1 .0 .now ≡ x′ .1 .1 .1 .1 .0 .now) × (x .1 .1 .1 .1 .1 .0 .now ≡ x′ .1 .1 .1 .1 .1 .0 .now)
+    × (x .1 .1 .1 .1 .1 .1 .0 .now ≡ x′ .1 .1 .1 .1 .1 .1 .0 .now)
+lubdhvani-seal-single κs a r r′ x x′ p q =
+    (p .0 ∙ sym (q .0), p .1 .0 ∙ sym (q .1 .0), p .1 .1 .0 ∙ sym (q .1 .1 .0), p .1 .1 .1 ∙ sym (q .1 .1 .1))
+
+-- number, buffer and count
+pub lubdhvani-open-single : (κs : Lfts 7) (a : Dens κs open-kinds.ps) (r r′ : ℕ)
+    (x x′ : AtExit (endedOf 7 open-kinds.ps open-kinds.r) κs)
+    → open-reads.Post κs a r x → open-reads.Post κs a r′ x′
+    → (r ≡ r′) × (x .1 .1 .1 .1 .1 .0 .now ≡ x′ .1 .1 .1 .1 .1 .0 .now) × (x .1 .1 .1 .1 .1 .1 .0 .now ≡ x′ .1 .1 .1 .1 .1 .1 .0 .now)
+lubdhvani-open-single κs a r r′ x x′ p q = (p .0 ∙ sym (q .0), p .1 .0 ∙ sym (q .1 .0), p .1 .1 ∙ sym (q .1 .1))

@@ -7,11 +7,15 @@ ghost use Rattle.digest.specs.Answers.{digestAnswer, digestOut};
 ghost use Rattle.digest.specs.Answers as hashing;
 ghost use Rattle.gage.specs.Sizes.{LARGEST};
 ghost use Rattle.gage.specs.Permutation.{ROUNDS, permute, unpermute};
+ghost use Rattle.ingage.specs.Instances.{first};
+ghost use Rattle.ingage.specs.Answers.{sealCall, openCall, sealNumber, sealCount, openNumber, openCount};
 ghost use Rattle.stream.specs.Stretches.{nextSpan};
 ghost use Rattle.lubdhvani.specs.Calls.{permuteNumber, permuteState};
 use digest::Digested;
 use gage::Answer;
 use gage::LARGEST;
+use ingage::Opened;
+use ingage::Sealed;
 
 // A state of at most LARGEST bytes at the start of a whole one.
 fn widened(state: &[u8]) -> [u8; LARGEST]
@@ -110,4 +114,93 @@ pub extern "C" fn lubdhvani_next_stretch(
     let span = stream::next_span(stream, from);
     *first = span.first;
     *closing = span.closing;
+}
+
+// Document 01's number and the count of a sealing's answer.
+fn seal_number(answer: Sealed) -> u32
+    ensures { λ r. ⌜ r ≡ sealNumber answer ⌝ }
+{
+    match answer {
+        Sealed::Done(_) => 0,
+        Sealed::Sizes => 2,
+        Sealed::TooLong => 3,
+        Sealed::NoRoom => 4,
+    }
+}
+
+fn seal_count(answer: Sealed) -> usize
+    ensures { λ r. ⌜ r ≡ sealCount answer ⌝ }
+{
+    match answer {
+        Sealed::Done(calls) => calls,
+        Sealed::Sizes => 0,
+        Sealed::TooLong => 0,
+        Sealed::NoRoom => 0,
+    }
+}
+
+// Seals a message.
+#[no_mangle]
+pub extern "C" fn lubdhvani_seal(
+    key: &[u8],
+    nonce: &[u8],
+    associated: &[u8],
+    message: &[u8],
+    out: &mut [u8],
+    seal: &mut [u8],
+    calls: &mut usize,
+) -> u32
+    ensures { λ r. ⌜ r ≡ sealNumber (sealCall first (now (key .entry)) (now (nonce .entry)) (now (associated .entry)) (now (message .entry)) (now (out .entry)) (now (seal .entry)) .answer) ⌝ }
+    ensures { λ _. ⌜ now (out .exit) ≡ sealCall first (now (key .entry)) (now (nonce .entry)) (now (associated .entry)) (now (message .entry)) (now (out .entry)) (now (seal .entry)) .out ⌝ }
+    ensures { λ _. ⌜ now (seal .exit) ≡ sealCall first (now (key .entry)) (now (nonce .entry)) (now (associated .entry)) (now (message .entry)) (now (out .entry)) (now (seal .entry)) .seal ⌝ }
+    ensures { λ _. ⌜ now (calls .exit) ≡ sealCount (sealCall first (now (key .entry)) (now (nonce .entry)) (now (associated .entry)) (now (message .entry)) (now (out .entry)) (now (seal .entry)) .answer) ⌝ }
+{
+    let answer = ingage::seal(key, nonce, associated, message, out, seal);
+    *calls = seal_count(answer);
+    seal_number(answer)
+}
+
+// Document 01's number and the count of an opening's answer.
+fn open_number(answer: Opened) -> u32
+    ensures { λ r. ⌜ r ≡ openNumber answer ⌝ }
+{
+    match answer {
+        Opened::Done(_) => 0,
+        Opened::Sizes => 2,
+        Opened::TooLong => 3,
+        Opened::NoRoom => 4,
+        Opened::Seal(_) => 5,
+    }
+}
+
+fn open_count(answer: Opened) -> usize
+    ensures { λ r. ⌜ r ≡ openCount answer ⌝ }
+{
+    match answer {
+        Opened::Done(calls) => calls,
+        Opened::Sizes => 0,
+        Opened::TooLong => 0,
+        Opened::NoRoom => 0,
+        Opened::Seal(calls) => calls,
+    }
+}
+
+// Opens a ciphertext.
+#[no_mangle]
+pub extern "C" fn lubdhvani_open(
+    key: &[u8],
+    nonce: &[u8],
+    associated: &[u8],
+    cipher: &[u8],
+    seal: &[u8],
+    out: &mut [u8],
+    calls: &mut usize,
+) -> u32
+    ensures { λ r. ⌜ r ≡ openNumber (openCall first (now (key .entry)) (now (nonce .entry)) (now (associated .entry)) (now (cipher .entry)) (now (seal .entry)) (now (out .entry)) .answer) ⌝ }
+    ensures { λ _. ⌜ now (out .exit) ≡ openCall first (now (key .entry)) (now (nonce .entry)) (now (associated .entry)) (now (cipher .entry)) (now (seal .entry)) (now (out .entry)) .out ⌝ }
+    ensures { λ _. ⌜ now (calls .exit) ≡ openCount (openCall first (now (key .entry)) (now (nonce .entry)) (now (associated .entry)) (now (cipher .entry)) (now (seal .entry)) (now (out .entry)) .answer) ⌝ }
+{
+    let answer = ingage::open(key, nonce, associated, cipher, seal, out);
+    *calls = open_count(answer);
+    open_number(answer)
 }
