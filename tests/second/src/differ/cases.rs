@@ -14,8 +14,9 @@ use second::permutation::PERMITTED;
 
 /// A size is wrong once in so many times, and a room too small.
 const WRONG_SIZE: usize = 14;
-/// A text has a length near its limit, or over it, once in so many times.
+/// A text is mostly over its limit once in so many times, which costs nothing,
 const OVER: usize = 16;
+/// and just within it once in so many, which takes long here.
 const AT_LIMIT: usize = 1200;
 
 pub fn case(chance: &mut Chance, stock: &Stock) -> Case {
@@ -97,13 +98,16 @@ fn digest(chance: &mut Chance) -> (Call, usize, Vec<Vec<u8>>) {
 fn seal(chance: &mut Chance) -> Vec<Vec<u8>> {
     let associated = text(chance, ASSOCIATED_LIMIT);
     let message = text(chance, CIPHER_LIMIT);
+    let out = room(chance, message.len());
+    let (key, nonce) = (filled(chance, KEY), filled(chance, NONCE));
+    let seal = chance.bytes(SEAL);
     vec![
-        a_key(chance),
-        a_nonce(chance),
+        sized(chance, key),
+        sized(chance, nonce),
         associated,
-        filled(chance, message.len()),
-        room(chance, message.len()),
-        a_seal(chance),
+        message,
+        out,
+        sized(chance, seal),
     ]
 }
 
@@ -148,9 +152,9 @@ fn write(chance: &mut Chance, stock: &Stock) -> Vec<Vec<u8>> {
         0 => stuffy(chance, DIGEST),
         _ => stock.font.clone(),
     };
-    let nonce = stuffy(chance, NONCE);
+    let (key, nonce) = (filled(chance, KEY), stuffy(chance, NONCE));
     vec![
-        a_key(chance),
+        sized(chance, key),
         sized(chance, nonce),
         sized(chance, font),
         line,
@@ -174,21 +178,6 @@ fn read(chance: &mut Chance, stock: &Stock) -> (Call, usize, Vec<Vec<u8>>) {
     let (key, font) = (sized(chance, key), sized(chance, font));
     let line = room(chance, LINE_MOST);
     (Call::Read, from, vec![stream, key, font, line])
-}
-
-fn a_key(chance: &mut Chance) -> Vec<u8> {
-    let key = filled(chance, KEY);
-    sized(chance, key)
-}
-
-fn a_nonce(chance: &mut Chance) -> Vec<u8> {
-    let nonce = filled(chance, NONCE);
-    sized(chance, nonce)
-}
-
-fn a_seal(chance: &mut Chance) -> Vec<u8> {
-    let seal = chance.bytes(SEAL);
-    sized(chance, seal)
 }
 
 /// Mostly as it is; else of another size, one more or less among them.
