@@ -7,7 +7,7 @@ use native.Mathlib.Nat.{not-suc-le-zero, le-of-suc-le-suc, zero-add}
 use native.Mathlib.Omega.{arith}
 use lib.Bits.{bitXor}
 use lib.ListN.{length, getD, set, take, drop, replicate, length-drop, drop-of-length-le}
-use lib.Seq.{take-at, take-take, take-length, length-take-le, take-set-lt, getD-take, drop-drop, take-append-add, drop-append-add}
+use lib.Seq.{take-at, take-length, length-take-le, take-set-lt, getD-take, drop-drop, take-append-add, drop-append-add}
 use Rattle.gage.specs.Permutation.{permitted, answered}
 use Rattle.gage.specs.declared.Permuted.{Permuted}
 use Rattle.sponge.specs.Absorbing.{xored}
@@ -77,12 +77,12 @@ keyed-put z front key s r fits f k e g =
 
 -- the key brought in again, behind zeros
 pub started-mix : (z : Instance) (key nonce s k r : List ℕ) → Fitting z → take (z .state) k ≡ keyed z (take (z .nonce - 0) (replicate 72 0)) key
-    → take (z .state) s ≡ whole (keyed z nonce key) → r ≡ xored (take (z .state - 0) k) s → take (z .state) r ≡ started z key nonce .state
+    → take (z .state) s ≡ whole (keyed z nonce key) → r ≡ xored k s → take (z .state) r ≡ started z key nonce .state
 unfolding started
 started-mix z key nonce s k r fits f g h =
     let b = fits .begins in
     let l = fits .held in
     let n : z .nonce - 0 ≡ z .nonce = omega arith in
-    rw h (xored-take (z .state) (take (z .state - 0) k) s
-    ∙ ap₂ xored (take-take (z .state) (z .state - 0) k (omega arith) ∙ f
+    rw h (xored-take (z .state) k s
+    ∙ ap₂ xored (f
     ∙ ap (λ (x : List ℕ). keyed z x key) (rw n (take-zeros (z .nonce) 72 (omega arith)))) g)

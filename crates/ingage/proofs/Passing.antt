@@ -96,7 +96,7 @@ module _ (z : Instance) (fits : Fitting z) (P s o : List ℕ) (size : length s �
 
   pub sealing-more : {r out : List ℕ} {i : ℕ} (end : ℕ) (b x part r′ : List ℕ) → Sealing n R P s o r out i → i < blockCount R P
       → end ≡ min (i * R + R) (length P) → take R b ≡ block R P i → x ≡ xored (take (R - 0) b) r
-      → part ≡ copied (take (R - 0) x) (take (end - i * R) (drop (i * R) out)) → take n r′ ≡ half (take n x) → length r′ ≡ 72
+      → part ≡ copied x (take (end - i * R) (drop (i * R) out)) → take n r′ ≡ half (take n x) → length r′ ≡ 72
       → Sealing n R P s o r′ (take (i * R) out ++ (part ++ drop (end - i * R) (drop (i * R) out))) (i + 1)
   unfolding encrypting
   sealing-more {r} {out} {i} end b x part r′ w h e f g p q l =
@@ -118,7 +118,7 @@ module _ (z : Instance) (fits : Fitting z) (P s o : List ℕ) (size : length s �
         turns = omega arith;
         long = l;
         state = rw (add-one i) (q ∙ ap half m);
-        text = rw (add-one i) (written text next x o out part (i * R) end (R - 0) (w .text) (grows .long i h) (omega arith) (omega arith) (omega arith) found p
+        text = rw (add-one i) (written text next x o out part (i * R) end (w .text) (grows .long i h) (omega arith) (omega arith) found p
             ∙ ap (λ (t : List ℕ). over t o) (sym (grows .more i h)));
       }
 
@@ -132,7 +132,7 @@ module _ (z : Instance) (fits : Fitting z) (P s o : List ℕ) (size : length s �
 
   pub opening-more : {r out : List ℕ} {i : ℕ} (end : ℕ) (m part b x r′ : List ℕ) → Opening n R P s o r out i → i < blockCount R P
       → end ≡ min (i * R + R) (length P) → m ≡ xored (take (end - i * R) (drop (i * R) P)) r
-      → part ≡ copied (take (R - 0) m) (take (end - i * R) (drop (i * R) out)) → b ≡ lastBlock (take (end - i * R - 0) m)
+      → part ≡ copied m (take (end - i * R) (drop (i * R) out)) → b ≡ lastBlock (take (end - i * R - 0) m)
       → x ≡ xored (take (R - 0) b) r → take n r′ ≡ half (take n x) → length r′ ≡ 72
       → Opening n R P s o r′ (take (i * R) out ++ (part ++ drop (end - i * R) (drop (i * R) out))) (i + 1)
   unfolding decrypting masked
@@ -157,7 +157,7 @@ module _ (z : Instance) (fits : Fitting z) (P s o : List ℕ) (size : length s �
         turns = omega arith;
         long = l;
         state = rw (add-one i) (q ∙ ap half (rw y (mixed n R b r (omega arith) ∙ ap₂ xored blocked (w .state))));
-        text = rw (add-one i) (written text next m o out part (i * R) end (R - 0) (w .text) (grows .long i h) (omega arith) (omega arith) (omega arith) found p);
+        text = rw (add-one i) (written text next m o out part (i * R) end (w .text) (grows .long i h) (omega arith) (omega arith) found p);
       }
 
   -- the buffer keeps its length

@@ -5,8 +5,8 @@ use mathlib.Core.Bool.{Bool, true, false, not, cond}
 use mathlib.Core.List.{List}
 use lib.Dec.{eqb, ltb}
 use lib.ListN.{length}
-use Rattle.lists.specs.Buffers.{over, cleared, same}
-use Rattle.ingage.specs.Cipher.{encrypted, decrypted}
+use Rattle.lists.specs.Buffers.{over, cleared}
+use Rattle.ingage.specs.Cipher.{encrypted, decrypted, accepted}
 use Rattle.ingage.specs.declared.Instance.{Instance}
 use Rattle.ingage.specs.declared.Sealed.{Sealed}
 use Rattle.ingage.specs.declared.Sealed.the-variants as sealed
@@ -54,7 +54,7 @@ openCall z key nonce A C seal out =
     cond (not (sized z (length key) (length nonce) (length seal))) (record { answer = opened.Sizes; out = out })
     (cond (tooLong (length A) (length C)) (record { answer = opened.TooLong; out = out })
     (cond (ltb (length out) (length C)) (record { answer = opened.NoRoom; out = out })
-    (cond (not (same (decrypted z key nonce A C .seal) seal)) (record {
+    (cond (not (accepted (decrypted z key nonce A C .seal) seal)) (record {
       answer = opened.Seal (decrypted z key nonce A C .calls);
       out = cleared (length C) out;
     })

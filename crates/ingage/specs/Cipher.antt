@@ -1,10 +1,11 @@
 -- InGAGE (document 000, section 2.1, Algorithms 5 and 6), over the sizes of an instance. Each algorithm is written as its steps,
 -- and each call of the permutation counts. Assumes nothing: these are definitions.
 use Prim.Native.Nat.{ℕ, zero, suc, _+_, _-_, _*_, _/_}
-use mathlib.Core.Bool.{cond}
+use mathlib.Core.Bool.{Bool, cond}
 use mathlib.Core.List.{List, [], _∷_, _++_}
 use lib.Dec.{eqb}
 use lib.ListN.{length, take, drop, replicate}
+use Rattle.lists.specs.Buffers.{same}
 use Rattle.gage.specs.Permutation.{ROUNDS, permute}
 use Rattle.sponge.specs.Padding.{block, blockCount}
 use Rattle.sponge.specs.Absorbing.{xored, Run, changed, called}
@@ -128,3 +129,7 @@ module _ (z : Instance) where
   decrypted key nonce A C =
       worked (decrypting (z .rate) (begun z key nonce A) C (blockCount (z .rate) C) .text)
       (finished (decrypting (z .rate) (begun z key nonce A) C (blockCount (z .rate) C) .run))
+
+-- Algorithm 6, 'Finalization', step 3: T == T', every byte
+abbrev pub accepted : List ℕ → List ℕ → Bool
+accepted T′ T = same T′ T

@@ -81,7 +81,7 @@ fn start(z: Instance, key: &[u8], nonce: &[u8]) -> [u8; LARGEST]
     let zeros = [0u8; LARGEST];
     let s = whole(keyed(z, nonce, key), n);
     let k = keyed(z, &zeros[0..at], key);
-    sponge::mix(s, &k[0..n])
+    sponge::mix(s, &k)
 }
 
 // Where the piece of a text that starts at a place ends: a block further, or at the text's end.
@@ -152,7 +152,7 @@ pub fn encrypt(z: Instance, s: [u8; LARGEST], message: &[u8], out: &mut [u8]) ->
         let end = end_of(message.len(), at, rate);
         let b = sponge::last_block(&message[at..end]);
         let x = sponge::mix(r, &b[0..rate]);
-        lists::copy(&x[0..rate], &mut out[at..end]);
+        lists::copy(&x, &mut out[at..end]);
         r = half(x, n);
         i += 1;
     }
@@ -174,7 +174,7 @@ pub fn decrypt(z: Instance, s: [u8; LARGEST], cipher: &[u8], out: &mut [u8]) -> 
         let at = i * rate;
         let end = end_of(cipher.len(), at, rate);
         let m = sponge::mix(r, &cipher[at..end]);
-        lists::copy(&m[0..rate], &mut out[at..end]);
+        lists::copy(&m, &mut out[at..end]);
         let b = sponge::last_block(&m[0..end - at]);
         r = half(sponge::mix(r, &b[0..rate]), n);
         i += 1;

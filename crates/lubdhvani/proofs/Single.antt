@@ -10,6 +10,10 @@ use Rattle.lubdhvani.proofs.lubdhvani_open.Kinds as open-kinds
 use Rattle.lubdhvani.proofs.lubdhvani_open.Reads as open-reads
 use Rattle.lubdhvani.proofs.lubdhvani_seal.Kinds as seal-kinds
 use Rattle.lubdhvani.proofs.lubdhvani_seal.Reads as seal-reads
+use Rattle.lubdhvani.proofs.lubdhvani_write.Kinds as write-kinds
+use Rattle.lubdhvani.proofs.lubdhvani_write.Reads as write-reads
+use Rattle.lubdhvani.proofs.lubdhvani_read.Kinds as read-kinds
+use Rattle.lubdhvani.proofs.lubdhvani_read.Reads as read-reads
 use Rattle.lubdhvani.proofs.lubdhvani_permute.Kinds as permute-kinds
 use Rattle.lubdhvani.proofs.lubdhvani_permute.Reads as permute-reads
 use Rattle.lubdhvani.proofs.lubdhvani_unpermute.Kinds as unpermute-kinds
@@ -56,3 +60,26 @@ pub lubdhvani-open-single : (κs : Lfts 7) (a : Dens κs open-kinds.ps) (r r′ 
     → open-reads.Post κs a r x → open-reads.Post κs a r′ x′
     → (r ≡ r′) × (x .1 .1 .1 .1 .1 .0 .now ≡ x′ .1 .1 .1 .1 .1 .0 .now) × (x .1 .1 .1 .1 .1 .1 .0 .now ≡ x′ .1 .1 .1 .1 .1 .1 .0 .now)
 lubdhvani-open-single κs a r r′ x x′ p q = (p .0 ∙ sym (q .0), p .1 .0 ∙ sym (q .1 .0), p .1 .1 ∙ sym (q .1 .1))
+
+-- number, frame, length and count
+pub lubdhvani-write-single : (κs : Lfts 7) (a : Dens κs write-kinds.ps) (r r′ : ℕ)
+    (x x′ : AtExit (endedOf 7 write-kinds.ps write-kinds.r) κs)
+    → write-reads.Post κs a r x → write-reads.Post κs a r′ x′
+    → (r ≡ r′) × (x .1 .1 .1 .1 .0 .now ≡ x′ .1 .1 .1 .1 .0 .now) × (x .1 .1 .1 .1 .1 .0 .now ≡ x′ .1 .1 .1 .1 .1 .0 .now) × (x .1 .1 .1 .1 .1 .1 .0 .now ≡ x′ .1 .1 .1 .1 .1 .1 .0 .now)
+lubdhvani-write-single κs a r r′ x x′ p q =
+    (p .0 ∙ sym (q .0), p .1 .0 ∙ sym (q .1 .0), p .1 .1 .0 ∙ sym (q .1 .1 .0), p .1 .1 .1 ∙ sym (q .1 .1 .1))
+
+-- number, line, both places, length and count
+pub lubdhvani-read-single : (κs : Lfts 8) (a : Dens κs read-kinds.ps) (r r′ : ℕ)
+    (x x′ : AtExit (endedOf 8 read-kinds.ps read-kinds.r) κs)
+    → read-reads.Post κs a r x → read-reads.Post κs a r′ x′
+    → (r ≡ r′) × (x .1 .1 .1 .1 .0 .now ≡ x′ .1 .1 .1 .1 .0 .now) × (x .1 .1 .1 .1 .1 .0 .now ≡ x′ .1 .1 .1 .1 .1 .0 .now) × (x .1 .1 .1 .1 .1 .1 .0 .now ≡ x′ .1 .1 .1 .1 .1 .1 .0 .now) × (x .1 .1 .1 .1 .1 .1 .1 .0 .now ≡ x′ .1 .1 .1 .1 .1 .1 .1 .0 .now)
+    × (x .1 .1 .1 .1 .1 .1 .1 .1 .0 .now ≡ x′ .1 .1 .1 .1 .1 .1 .1 .1 .0 .now)
+lubdhvani-read-single κs a r r′ x x′ p q = (
+  p .0 ∙ sym (q .0),
+  p .1 .0 ∙ sym (q .1 .0),
+  p .1 .1 .0 .0 ∙ sym (q .1 .1 .0 .0),
+  p .1 .1 .0 .1 ∙ sym (q .1 .1 .0 .1),
+  p .1 .1 .1 .0 ∙ sym (q .1 .1 .1 .0),
+  p .1 .1 .1 .1 ∙ sym (q .1 .1 .1 .1),
+)

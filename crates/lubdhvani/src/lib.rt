@@ -1,6 +1,7 @@
 // The C interface: each proved call under its C name, thin. include/lubdhvani.h is its manual; numbers are document 01's, and
 // counts, lengths and places go out through references to numbers. The promises cite specs/Calls.antt.
 ghost use mathlib.Core.Path.{_≡_};
+ghost use Prim.Native.Nat.{_≤_};
 ghost use lib.ListN.{length, replicate};
 ghost use Rattle.lists.specs.Buffers.{copied};
 ghost use Rattle.digest.specs.Answers.{digestAnswer, digestOut};
@@ -9,8 +10,13 @@ ghost use Rattle.gage.specs.Sizes.{LARGEST};
 ghost use Rattle.gage.specs.Permutation.{ROUNDS, permute, unpermute};
 ghost use Rattle.ingage.specs.Instances.{first};
 ghost use Rattle.ingage.specs.Answers.{sealCall, openCall, sealNumber, sealCount, openNumber, openCount};
+ghost use Rattle.frame.specs.Answers.{writeCall};
+ghost use Rattle.frame.specs.Answers as writing;
+ghost use Rattle.frame.specs.Told.{told};
+ghost use Rattle.reader.specs.Answers.{readAnswer, readOut};
+ghost use Rattle.reader.specs.Answers as reading;
 ghost use Rattle.stream.specs.Stretches.{nextSpan};
-ghost use Rattle.lubdhvani.specs.Calls.{permuteNumber, permuteState};
+ghost use Rattle.lubdhvani.specs.Calls.{LARGEST-NUMBER, permuteNumber, permuteState};
 use digest::Digested;
 use gage::Answer;
 use gage::LARGEST;
@@ -203,4 +209,60 @@ pub extern "C" fn lubdhvani_open(
     let answer = ingage::open(key, nonce, associated, cipher, seal, out);
     *calls = open_count(answer);
     open_number(answer)
+}
+
+// One of document 01's numbers, as C takes it.
+fn number(n: usize) -> u32
+    requires { ⌜ n ≤ LARGEST-NUMBER ⌝ }
+    ensures { λ r. ⌜ r ≡ n ⌝ }
+{
+    n as u32
+}
+
+// Writes the frame of a line.
+#[no_mangle]
+pub extern "C" fn lubdhvani_write(
+    key: &[u8],
+    nonce: &[u8],
+    font: &[u8],
+    line: &[u8],
+    frame: &mut [u8],
+    length: &mut usize,
+    calls: &mut usize,
+) -> u32
+    ensures { λ r. ⌜ r ≡ writing.numberOf (writeCall (told (now (key .entry)) (now (font .entry))) (now (nonce .entry)) (now (line .entry)) (now (frame .entry)) .answer) ⌝ }
+    ensures { λ _. ⌜ now (frame .exit) ≡ writeCall (told (now (key .entry)) (now (font .entry))) (now (nonce .entry)) (now (line .entry)) (now (frame .entry)) .frame ⌝ }
+    ensures { λ _. ⌜ now (length .exit) ≡ writing.lengthOf (writeCall (told (now (key .entry)) (now (font .entry))) (now (nonce .entry)) (now (line .entry)) (now (frame .entry)) .answer) ⌝ }
+    ensures { λ _. ⌜ now (calls .exit) ≡ writing.countOf (writeCall (told (now (key .entry)) (now (font .entry))) (now (nonce .entry)) (now (line .entry)) (now (frame .entry)) .answer) ⌝ }
+{
+    let answer = frame::write(key, nonce, font, line, frame);
+    *length = values::written_length(answer);
+    *calls = values::written_calls(answer);
+    number(values::written_number(answer))
+}
+
+// Judges the next stretch from a place, and gives out its line.
+#[no_mangle]
+pub extern "C" fn lubdhvani_read(
+    stream: &[u8],
+    from: usize,
+    key: &[u8],
+    font: &[u8],
+    line: &mut [u8],
+    first: &mut usize,
+    closing: &mut usize,
+    length: &mut usize,
+    calls: &mut usize,
+) -> u32
+    ensures { λ r. ⌜ r ≡ reading.numberOf (readAnswer (told (now (key .entry)) (now (font .entry))) (now (stream .entry)) from (now (line .entry))) ⌝ }
+    ensures { λ _. ⌜ now (line .exit) ≡ readOut (told (now (key .entry)) (now (font .entry))) (now (stream .entry)) from (now (line .entry)) ⌝ }
+    ensures { λ _. ⌜ (now (first .exit) ≡ reading.firstOf (readAnswer (told (now (key .entry)) (now (font .entry))) (now (stream .entry)) from (now (line .entry)))) × (now (closing .exit) ≡ reading.closingOf (readAnswer (told (now (key .entry)) (now (font .entry))) (now (stream .entry)) from (now (line .entry)))) ⌝ }
+    ensures { λ _. ⌜ (now (length .exit) ≡ reading.lengthOf (readAnswer (told (now (key .entry)) (now (font .entry))) (now (stream .entry)) from (now (line .entry)))) × (now (calls .exit) ≡ reading.callsOf (readAnswer (told (now (key .entry)) (now (font .entry))) (now (stream .entry)) from (now (line .entry)))) ⌝ }
+{
+    let answer = reader::read(stream, from, key, font, line);
+    *first = values::first_of(answer);
+    *closing = values::closing_of(answer);
+    *length = values::length_of(answer);
+    *calls = values::calls_of(answer);
+    number(values::number_of(answer))
 }

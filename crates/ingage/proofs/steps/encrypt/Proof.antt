@@ -5,8 +5,8 @@ use Rattle.ingage.proofs.Pads.{part-block}
 use Rattle.ingage.specs.Pieces.{piece-starts}
 use native.Mathlib.Nat.{div-le-self}
 use Prim.Native.Nat.{_-_}
-use native.Mathlib.Omega.{arith}
 use lib.ListN.{length}
+use native.Mathlib.Omega.{arith}
 use borrow.Author.Needs.{needs}
 use Rattle.ingage.proofs.steps.encrypt.Statement.{statement}
 use Rattle.ingage.proofs.steps.encrypt.Tie as tie
@@ -56,38 +56,32 @@ part-mix-end c = let m = c .before .before .before .before .before .before .befo
 mix-requires : tie.Need-mix-requires Inv-loop μ-loop
 mix-requires c κs = search needs
 
+slice-aggregate-copy : tie.Need-slice-aggregate-copy Inv-loop μ-loop
+slice-aggregate-copy c = search needs
+
 sub-copy : tie.Need-sub-copy Inv-loop μ-loop
-sub-copy c = search needs
+sub-copy c = omega (arith, piece-starts (c .before .before .before .before .before .before .before .before .before .before .before .args .z .rate) (c .before .before .before .before .before .before .before .before .before .before .before .args .message .now) (c .before .before .before .before .before .before .before .before .loop .i) (c .before .before .before .before .before .before .before .loop-test .taken))
 
 part-copy-start : tie.Need-part-copy-start Inv-loop μ-loop
-part-copy-start c = search needs
+part-copy-start c = omega (arith, piece-starts (c .before .before .before .before .before .before .before .before .before .before .before .args .z .rate) (c .before .before .before .before .before .before .before .before .before .before .before .args .message .now) (c .before .before .before .before .before .before .before .before .loop .i) (c .before .before .before .before .before .before .before .loop-test .taken))
 
 part-copy-end : tie.Need-part-copy-end Inv-loop μ-loop
-part-copy-end c = let m = c .before .before .before .before .before .before .before .before .before .before .before .pre .0 .small in omega arith
-
-sub-copy-2 : tie.Need-sub-copy-2 Inv-loop μ-loop
-sub-copy-2 c = omega (arith, piece-starts (c .before .before .before .before .before .before .before .before .before .before .before .before .args .z .rate) (c .before .before .before .before .before .before .before .before .before .before .before .before .args .message .now) (c .before .before .before .before .before .before .before .before .before .loop .i) (c .before .before .before .before .before .before .before .before .loop-test .taken))
-
-part-copy-start-2 : tie.Need-part-copy-start-2 Inv-loop μ-loop
-part-copy-start-2 c = omega (arith, piece-starts (c .before .before .before .before .before .before .before .before .before .before .before .before .args .z .rate) (c .before .before .before .before .before .before .before .before .before .before .before .before .args .message .now) (c .before .before .before .before .before .before .before .before .before .loop .i) (c .before .before .before .before .before .before .before .before .loop-test .taken))
-
-part-copy-end-2 : tie.Need-part-copy-end-2 Inv-loop μ-loop
-part-copy-end-2 c = omega (arith, length-sealing (c .before .before .before .before .before .before .before .before .before .before .before .before .args .z) (c .before .before .before .before .before .before .before .before .before .before .before .before .pre .0) (c .before .before .before .before .before .before .before .before .before .before .before .before .args .message .now) (c .before .before .before .before .before .before .before .before .before .before .before .before .args .s) (c .before .before .before .before .before .before .before .before .before .before .before .before .args .out .now) (search needs) (c .before .before .before .before .before .before .before .before .before .before .before .before .pre .1) (c .before .before .before .before .before .before .before .before .before .loop .inv))
+part-copy-end c = omega (arith, length-sealing (c .before .before .before .before .before .before .before .before .before .before .before .args .z) (c .before .before .before .before .before .before .before .before .before .before .before .pre .0) (c .before .before .before .before .before .before .before .before .before .before .before .args .message .now) (c .before .before .before .before .before .before .before .before .before .before .before .args .s) (c .before .before .before .before .before .before .before .before .before .before .before .args .out .now) (search needs) (c .before .before .before .before .before .before .before .before .before .before .before .pre .1) (c .before .before .before .before .before .before .before .before .loop .inv))
 
 copy-requires : tie.Need-copy-requires Inv-loop μ-loop
 copy-requires c κs = search needs
 
 half-requires : tie.Need-half-requires Inv-loop μ-loop
-half-requires c κs = c .before .before .before .before .before .before .before .before .before .before .before .before .before .before .before .before .pre .0 .allowed
+half-requires c κs = c .before .before .before .before .before .before .before .before .before .before .before .before .before .before .before .pre .0 .allowed
 
 add-i : tie.Need-add-i Inv-loop μ-loop
-add-i c = omega (arith, div-le-self (length (c .before .before .before .before .before .before .before .before .before .before .before .before .before .before .before .before .before .args .message .now)) (c .before .before .before .before .before .before .before .before .before .before .before .before .before .before .before .before .before .args .z .rate))
+add-i c = omega (arith, div-le-self (length (c .before .before .before .before .before .before .before .before .before .before .before .before .before .before .before .before .args .message .now)) (c .before .before .before .before .before .before .before .before .before .before .before .before .before .before .before .before .args .z .rate))
 
 loop-less : tie.Need-loop-less Inv-loop μ-loop
 loop-less c = search needs
 
 loop-again : tie.Need-loop-again Inv-loop μ-loop
-loop-again c = sealing-more (c .before .before .before .before .before .before .before .before .before .before .before .before .before .before .before .before .before .args .z) (c .before .before .before .before .before .before .before .before .before .before .before .before .before .before .before .before .before .pre .0) (c .before .before .before .before .before .before .before .before .before .before .before .before .before .before .before .before .before .args .message .now) (c .before .before .before .before .before .before .before .before .before .before .before .before .before .before .before .before .before .args .s) (c .before .before .before .before .before .before .before .before .before .before .before .before .before .before .before .before .before .args .out .now) (search needs) (c .before .before .before .before .before .before .before .before .before .before .before .before .before .before .before .before .before .pre .1) (c .before .before .before .before .before .before .before .before .before .before .before .before .end-of .result) (c .before .before .before .before .before .before .before .before .before .before .last-block .result) (c .before .before .before .before .before .before .before .mix .result) _ (c .half .result) (c .before .before .before .before .before .before .before .before .before .before .before .before .before .before .loop .inv) (c .before .before .before .before .before .before .before .before .before .before .before .before .before .loop-test .taken) (c .before .before .before .before .before .before .before .before .before .before .before .before .end-of .ensures) (part-block (c .before .before .before .before .before .before .before .before .before .before .before .before .before .before .before .before .before .args .z) (c .before .before .before .before .before .before .before .before .before .before .before .before .before .before .before .before .before .args .message .now) (c .before .before .before .before .before .before .before .before .before .before .before .before .before .before .loop .i) (c .before .before .before .before .before .before .before .before .before .before .before .before .end-of .result) (c .before .before .before .before .before .before .before .before .before .before .last-block .result) (c .before .before .before .before .before .before .before .before .before .before .before .before .before .before .before .before .before .pre .0) (c .before .before .before .before .before .before .before .before .before .before .before .before .before .loop-test .taken) (c .before .before .before .before .before .before .before .before .before .before .before .before .end-of .ensures) (c .before .before .before .before .before .before .before .before .before .before .last-block .ensures)) (c .before .before .before .before .before .before .before .mix .ensures) (c .before .before .before .copy .ensures) (c .half .ensures) (search needs)
+loop-again c = sealing-more (c .before .before .before .before .before .before .before .before .before .before .before .before .before .before .before .before .args .z) (c .before .before .before .before .before .before .before .before .before .before .before .before .before .before .before .before .pre .0) (c .before .before .before .before .before .before .before .before .before .before .before .before .before .before .before .before .args .message .now) (c .before .before .before .before .before .before .before .before .before .before .before .before .before .before .before .before .args .s) (c .before .before .before .before .before .before .before .before .before .before .before .before .before .before .before .before .args .out .now) (search needs) (c .before .before .before .before .before .before .before .before .before .before .before .before .before .before .before .before .pre .1) (c .before .before .before .before .before .before .before .before .before .before .before .end-of .result) (c .before .before .before .before .before .before .before .before .before .last-block .result) (c .before .before .before .before .before .before .mix .result) _ (c .half .result) (c .before .before .before .before .before .before .before .before .before .before .before .before .before .loop .inv) (c .before .before .before .before .before .before .before .before .before .before .before .before .loop-test .taken) (c .before .before .before .before .before .before .before .before .before .before .before .end-of .ensures) (part-block (c .before .before .before .before .before .before .before .before .before .before .before .before .before .before .before .before .args .z) (c .before .before .before .before .before .before .before .before .before .before .before .before .before .before .before .before .args .message .now) (c .before .before .before .before .before .before .before .before .before .before .before .before .before .loop .i) (c .before .before .before .before .before .before .before .before .before .before .before .end-of .result) (c .before .before .before .before .before .before .before .before .before .last-block .result) (c .before .before .before .before .before .before .before .before .before .before .before .before .before .before .before .before .pre .0) (c .before .before .before .before .before .before .before .before .before .before .before .before .loop-test .taken) (c .before .before .before .before .before .before .before .before .before .before .before .end-of .ensures) (c .before .before .before .before .before .before .before .before .before .last-block .ensures)) (c .before .before .before .before .before .before .mix .ensures) (c .before .before .before .copy .ensures) (c .half .ensures) (search needs)
 
 same-length : tie.Need-same-length Inv-loop μ-loop
 same-length c = length-sealing (c .before .before .before .before .args .z) (c .before .before .before .before .pre .0) (c .before .before .before .before .args .message .now) (c .before .before .before .before .args .s) (c .before .before .before .before .args .out .now) (search needs) (c .before .before .before .before .pre .1) (c .before .loop .inv)
@@ -114,12 +108,10 @@ encrypt-spec =
     part-mix-start
     part-mix-end
     mix-requires
+    slice-aggregate-copy
     sub-copy
     part-copy-start
     part-copy-end
-    sub-copy-2
-    part-copy-start-2
-    part-copy-end-2
     copy-requires
     half-requires
     add-i

@@ -1,6 +1,5 @@
 -- `start` meets its promise: N||K||0* permuted, and 0||K||0* XORed in. Assumes nothing.
 use Rattle.ingage.proofs.Arrays.{started-mix}
--- `start` meets its promise: N||K||0* permuted, and 0||K||0* XORed in. Assumes nothing.
 use Rattle.ingage.specs.Cipher.{whole}
 use mathlib.Core.Path.{ap, _∙_}
 use borrow.Author.Needs.{needs}
@@ -25,20 +24,14 @@ part-keyed-end c = search needs
 keyed-requires-2 : tie.Need-keyed-requires-2
 keyed-requires-2 c κs = search needs
 
-sub-mix : tie.Need-sub-mix
-sub-mix c = search needs
-
-part-mix-start : tie.Need-part-mix-start
-part-mix-start c = search needs
-
-part-mix-end : tie.Need-part-mix-end
-part-mix-end c = search needs
+slice-aggregate-mix : tie.Need-slice-aggregate-mix
+slice-aggregate-mix c = search needs
 
 mix-requires : tie.Need-mix-requires
 mix-requires c κs = search needs
 
 returns : tie.Need-returns
-returns c = started-mix (c .before .before .before .before .before .before .before .before .before .before .args .z) (c .before .before .before .before .before .before .before .before .before .before .args .key .now) (c .before .before .before .before .before .before .before .before .before .before .args .nonce .now) (c .before .before .before .before .before .before .whole .result) (c .before .before .before .keyed2 .result) (c .mix .result) (c .before .before .before .before .before .before .before .before .before .before .pre .0) (c .before .before .before .keyed2 .ensures) (c .before .before .before .before .before .before .whole .ensures ∙ ap whole (c .before .before .before .before .before .before .before .keyed .ensures)) (c .mix .ensures)
+returns c = started-mix (c .before .before .before .before .before .before .before .before .before .args .z) (c .before .before .before .before .before .before .before .before .before .args .key .now) (c .before .before .before .before .before .before .before .before .before .args .nonce .now) (c .before .before .before .before .before .whole .result) (c .before .before .keyed2 .result) (c .mix .result) (c .before .before .before .before .before .before .before .before .before .pre .0) (c .before .before .keyed2 .ensures) (c .before .before .before .before .before .whole .ensures ∙ ap whole (c .before .before .before .before .before .before .keyed .ensures)) (c .mix .ensures)
 
 pub start-spec : {M : Type 1} → statement M
 start-spec =
@@ -50,8 +43,6 @@ start-spec =
     part-keyed-start
     part-keyed-end
     keyed-requires-2
-    sub-mix
-    part-mix-start
-    part-mix-end
+    slice-aggregate-mix
     mix-requires
     returns)

@@ -1,0 +1,134 @@
+use mathlib.Core.Path.{sym, _∙_}
+use mathlib.Core.List.{List, _++_}
+use Prim.Native.Nat.{ℕ}
+use native.Mathlib.Omega.{arith}
+use borrow.Author.Tests.{not-true, not-false}
+use borrow.Author.Needs.{needs}
+use Rattle.body.specs.Outcomes.{put-refused, put-small}
+use Rattle.body.proofs.Putting.{Ready, Laid, laid-none, laid-more, laid-room, room-nonce, room-digest, room-cipher, room-seal, put-whole}
+use Rattle.body.specs.Lengths.{Sized, length-body, fitting-sized}
+use Rattle.body.specs.Fields.{nonceTag, digestTag, cipherTag, sealTag, field}
+use Rattle.body.proofs.put_body.Statement.{statement}
+use Rattle.body.proofs.put_body.Tie as tie
+
+-- `put_body` meets its promise: the fields are laid one behind the other from the buffer's start (`Laid`). Assumes nothing.
+
+-- the start, from where the values fit and the buffer has room; and that place, from behind each field written
+abbrev start : tie.Else2 → tie.Start
+start c = c .before .before .before .before .before .before .before .before
+
+abbrev from1 : tie.After-put-field → tie.Else2
+from1 c = c .before .before
+
+abbrev from2 : tie.After-put-field2 → tie.Else2
+from2 c = from1 (c .before .before .before .before)
+
+abbrev from3 : tie.After-put-field3 → tie.Else2
+from3 c = from2 (c .before .before .before .before)
+
+abbrev from4 : tie.After-put-field4 → tie.Else2
+from4 c = from3 (c .before .before .before .before)
+
+-- the values at the start, one behind the other as fields
+abbrev first : tie.Start → List ℕ
+first s = field nonceTag (s .args .nonce .now)
+
+abbrev second : tie.Start → List ℕ
+second s = first s ++ field digestTag (s .args .digest .now)
+
+abbrev third : tie.Start → List ℕ
+third s = second s ++ field cipherTag (s .args .cipher .now)
+
+abbrev fourth : tie.Start → List ℕ
+fourth s = third s ++ field sealTag (s .args .seal .now)
+
+-- the values have their lengths and the buffer has room
+abbrev Good : tie.Start → Type 0
+Good s = Ready (s .args .nonce .now) (s .args .digest .now) (s .args .cipher .now) (s .args .seal .now) (s .args .out .now)
+
+sized : (c : tie.Else1) →
+    let s = c .before .before .before .before .before .before .before in
+    Sized (s .args .nonce .now) (s .args .digest .now) (s .args .cipher .now) (s .args .seal .now)
+sized c = fitting-sized _ _ _ _ (sym (c .before .fit .ensures) ∙ not-false _ (c .if1 .left))
+
+ready : (c : tie.Else2) → Good (start c)
+ready c = record { sized = sized (c .before); room = omega arith }
+
+-- the fields written so far
+laid1 : (c : tie.After-put-field) →
+    let s = start (from1 c) in Laid (s .args .out .now) (c .put-field .last .0) (first s) (c .put-field .result)
+laid1 c = laid-more (laid-none _) (room-nonce (ready (from1 c))) (c .put-field .ensures .0) (c .put-field .ensures .1)
+
+laid2 : (c : tie.After-put-field2) →
+    let s = start (from2 c) in Laid (s .args .out .now) (c .put-field2 .last .0) (second s) (c .put-field2 .result)
+laid2 c =
+    laid-more (laid1 (c .before .before .before .before)) (room-digest (ready (from2 c))) (c .put-field2 .ensures .0) (c .put-field2 .ensures .1)
+
+laid3 : (c : tie.After-put-field3) →
+    let s = start (from3 c) in Laid (s .args .out .now) (c .put-field3 .last .0) (third s) (c .put-field3 .result)
+laid3 c =
+    laid-more (laid2 (c .before .before .before .before)) (room-cipher (ready (from3 c))) (c .put-field3 .ensures .0) (c .put-field3 .ensures .1)
+
+laid4 : (c : tie.After-put-field4) →
+    let s = start (from4 c) in Laid (s .args .out .now) (c .put-field4 .last .0) (fourth s) (c .put-field4 .result)
+laid4 c =
+    laid-more (laid3 (c .before .before .before .before)) (room-seal (ready (from4 c))) (c .put-field4 .ensures .0) (c .put-field4 .ensures .1)
+
+fit-requires : tie.Need-fit-requires
+fit-requires c κs = search needs
+
+returns : tie.Need-returns
+returns c =
+    let told = put-refused _ _ _ _ _ (sym (c .before .fit .ensures) ∙ not-true _ (c .if1 .taken)) in (sym (told .0), sym (told .1))
+
+add-if2 : tie.Need-add-if2
+add-if2 c = search needs
+
+returns-2 : tie.Need-returns-2
+returns-2 c =
+    let s = c .before .before .before .before .before .before .before .before in
+    let z = sized (c .before) in
+    let told = put-small _ _ _ _ (s .args .out .now) z (omega (arith, length-body z)) in
+    (sym (told .0), sym (told .1))
+
+put-field-requires : tie.Need-put-field-requires
+put-field-requires c κs = let r = ready (c .before) in (laid-room (laid-none _) (room-nonce r), omega (arith, r .sized))
+
+put-field-requires-2 : tie.Need-put-field-requires-2
+put-field-requires-2 c κs =
+    let d = c .before .before .before in
+    let r = ready (from1 d) in
+    (laid-room (laid1 d) (room-digest r), omega (arith, r .sized))
+
+put-field-requires-3 : tie.Need-put-field-requires-3
+put-field-requires-3 c κs =
+    let d = c .before .before .before in
+    let r = ready (from2 d) in
+    (laid-room (laid2 d) (room-cipher r), omega (arith, r .sized))
+
+put-field-requires-4 : tie.Need-put-field-requires-4
+put-field-requires-4 c κs =
+    let d = c .before .before .before in
+    let r = ready (from3 d) in
+    (laid-room (laid3 d) (room-seal r), omega (arith, r .sized))
+
+same-length : tie.Need-same-length
+same-length c = search needs
+
+returns-3 : tie.Need-returns-3
+returns-3 c = let d = c .before .before in put-whole (ready (from4 d) .sized) (laid4 d)
+
+pub put-body-spec : {M : Type 1} → statement M
+put-body-spec =
+    tie.close
+    (tie.spec
+    fit-requires
+    returns
+    add-if2
+    returns-2
+    put-field-requires
+    put-field-requires-2
+    put-field-requires-3
+    put-field-requires-4
+    same-length
+    returns-3)

@@ -1,0 +1,38 @@
+-- A call's answer and its buffer, read off what it comes to. Assumes nothing.
+use mathlib.Core.Path.{_≡_, sym, ap, _∙_}
+use mathlib.Core.List.{List}
+use Prim.Native.Nat.{ℕ, _+_, _-_, _*_, _≤_}
+use native.Mathlib.Omega.{arith}
+use lib.ListN.{length, take}
+use Rattle.lists.specs.Buffers.{over}
+use Rattle.lists.specs.Over.{take-over}
+use Rattle.line.specs.Lines.{lineRule}
+use Rattle.line.specs.declared.Judged.the-variants.{Accepted}
+use Rattle.frame.specs.Outcomes.{write-done}
+use Rattle.frame.specs.declared.Written.{Written}
+use Rattle.frame.specs.declared.Written.the-variants.{Done}
+use Rattle.frame.specs.Told.{Told}
+use Rattle.frame.specs.Frames.{sealedLine, sealedBody, framed, frameOf}
+use Rattle.frame.specs.Lengths.{Sealable, sealed-body-lengths}
+use Rattle.frame.specs.Answers.{WriteCall, frameRoom, framedCall, writeCall}
+
+pub met : {x : WriteCall} {r : Written} {o : List ℕ} → x ≡ record { answer = r; frame = o } → (r ≡ x .answer) × (o ≡ x .frame)
+met e = (sym (ap (λ (x : WriteCall). x .answer) e), sym (ap (λ (x : WriteCall). x .frame) e))
+
+module _ {t : Told} {nonce line : List ℕ} (z : Sealable t nonce line) where
+  -- the body is the first bytes of its scratch
+  pub scratch-holds : (o x : List ℕ) (n : ℕ) → n ≡ length (sealedBody t nonce line) → x ≡ over (sealedBody t nonce line) o
+      → take (n - 0) x ≡ sealedBody t nonce line
+  scratch-holds o x n e g = rw g (take-over (sealedBody t nonce line) o (n - 0) (omega arith))
+
+  -- a frame's room is enough for what stuffing asks and two marks
+  pub frame-fits : (b : List ℕ) → b ≡ sealedBody t nonce line → 2 * length b + 2 ≤ frameRoom
+  frame-fits b e = omega (arith, ap length e, sealed-body-lengths z)
+
+  -- the frame of that body is the writer's
+  pub framed-met : (r : lineRule line ≡ Accepted) (o : List ℕ) → frameRoom ≤ length o → (b out : List ℕ) (n calls : ℕ)
+      → b ≡ sealedBody t nonce line → n ≡ length (framed b) → calls ≡ sealedLine t nonce line .calls → out ≡ over (framed b) o
+      → (Done n calls ≡ writeCall t nonce line o .answer) × (out ≡ writeCall t nonce line o .frame)
+  unfolding framedCall frameOf
+  framed-met r o h b out n calls e l k w =
+      let m = met (write-done t nonce line o z r h) in (rw (l, k, e) (m .0), w ∙ rw e (m .1))

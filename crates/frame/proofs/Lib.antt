@@ -1,0 +1,4 @@
+pub mod Sealing
+pub mod Framing
+pub mod Answering
+pub mod Single

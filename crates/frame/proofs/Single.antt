@@ -1,0 +1,12 @@
+-- The promise of `write`, as the check reads it (`Post`), admits a single answer. Assumes nothing.
+use mathlib.Core.Path.{_≡_, sym, _∙_}
+use contract.Lifetimes.{Lfts}
+use denote.Triple.Clauses.{AtExit}
+use borrow.Fn.Kinds.{Dens, endedOf}
+use Rattle.frame.specs.declared.Written.{Written}
+use Rattle.frame.proofs.write.Kinds as write-kinds
+use Rattle.frame.proofs.write.Reads as write-reads
+
+pub write-single : (κs : Lfts 5) (a : Dens κs write-kinds.ps) (r r′ : Written) (x x′ : AtExit (endedOf 5 write-kinds.ps write-kinds.r) κs)
+    → write-reads.Post κs a r x → write-reads.Post κs a r′ x′ → (r ≡ r′) × (x .1 .1 .1 .1 .0 .now ≡ x′ .1 .1 .1 .1 .0 .now)
+write-single κs a r r′ x x′ p q = (p .0 ∙ sym (q .0), p .1 ∙ sym (q .1))

@@ -1,0 +1,125 @@
+use mathlib.Core.Path.{_≡_, sym, _∙_}
+use mathlib.Core.List.{List}
+use Prim.Native.Nat.{ℕ, _-_}
+use native.Mathlib.Omega.{arith}
+use lib.ListN.{take, length}
+use borrow.Author.Tests.{not-true, not-false}
+use borrow.Author.Needs.{needs}
+use Rattle.frame.specs.Outcomes.{right-sealable, write-sizes, write-too-long, write-unlisted, write-no-room}
+use Rattle.frame.proofs.Answering.{met, scratch-holds, frame-fits, framed-met}
+use Rattle.frame.specs.Lengths.{sealed-body-lengths, Sealable}
+use Rattle.frame.specs.Frames.{sealedBody}
+use Rattle.line.specs.declared.Judged.the-variants as line-is
+use Rattle.line.specs.Lines.{lineRule}
+use Rattle.frame.specs.Told.{Told, told}
+use Rattle.frame.proofs.write.Statement.{statement}
+use Rattle.frame.proofs.write.Tie as tie
+
+-- `write` meets its promise: document 01's refusals in their order, then the sealed body and its frame. Assumes nothing.
+
+-- the start, from where sizes and lengths are right, and what is told there
+abbrev start : tie.Else2 → tie.Start
+start c = c .before .before .before .before .before .before .before .before .before
+
+abbrev asked : tie.Start → Told
+asked s = told (s .args .key .now) (s .args .font .now)
+
+abbrev bodyOf : tie.Start → List ℕ
+bodyOf s = sealedBody (asked s) (s .args .nonce .now) (s .args .line .now)
+
+sealable : (c : tie.Else2) → let s = start c in Sealable (asked s) (s .args .nonce .now) (s .args .line .now)
+sealable c =
+    right-sealable _ _ _ (sym (c .before .before .before .sizes-right .ensures) ∙ not-false _ (c .before .before .if1 .left))
+    (sym (c .before .length-right .ensures) ∙ not-false _ (c .if2 .left))
+
+accepted : (c : tie.After-enum-told) → lineRule (start (c .before .before .before) .args .line .now) ≡ line-is.Accepted
+accepted c = sym (c .before .before .judge-line .ensures) ∙ c .enum-told .given .1
+
+-- the place where the line is known to be accepted, from behind the sealing
+abbrev earlier : tie.After-seal-body → tie.After-enum-told
+earlier c = c .before .before .before
+
+abbrev passed : tie.After-seal-body → tie.Else2
+passed c = earlier c .before .before .before
+
+body-is : (c : tie.After-seal-body) → take (c .seal-body .result .length - 0) (c .seal-body .last .1 .1 .1 .1 .0) ≡ bodyOf (start (passed c))
+body-is c = scratch-holds (sealable (passed c)) _ _ _ (c .seal-body .ensures .0) (c .seal-body .ensures .1 .1)
+
+sizes-right-requires : tie.Need-sizes-right-requires
+sizes-right-requires c κs = search needs
+
+returns : tie.Need-returns
+returns c = met (write-sizes _ _ _ _ (sym (c .before .sizes-right .ensures) ∙ not-true _ (c .if1 .taken)))
+
+length-right-requires : tie.Need-length-right-requires
+length-right-requires c κs = search needs
+
+returns-2 : tie.Need-returns-2
+returns-2 c =
+    met
+    (write-too-long _ _ _ _ (sym (c .before .before .before .sizes-right .ensures) ∙ not-false _ (c .before .before .if1 .left))
+    (sym (c .before .length-right .ensures) ∙ not-true _ (c .if2 .taken)))
+
+judge-line-requires : tie.Need-judge-line-requires
+judge-line-requires c κs = search needs
+
+enum-told : tie.Need-enum-told
+enum-told c = search needs
+
+enum-told-2 : tie.Need-enum-told-2
+enum-told-2 c = search needs
+
+returns-3 : tie.Need-returns-3
+returns-3 c = met (write-unlisted _ _ _ _ (sealable (c .before .before .before)) (sym (c .before .before .judge-line .ensures) ∙ c .enum-told2 .given .1))
+
+returns-4 : tie.Need-returns-4
+returns-4 c = met (write-no-room _ _ _ _ (sealable (c .before .before .before .before)) (accepted (c .before)) (omega arith))
+
+slice-aggregate-seal-body : tie.Need-slice-aggregate-seal-body
+slice-aggregate-seal-body c = search needs
+
+seal-body-requires : tie.Need-seal-body-requires
+seal-body-requires c κs = (sealable (c .before .before .before .before .before), omega arith)
+
+sub-put-frame : tie.Need-sub-put-frame
+sub-put-frame c = search needs
+
+part-put-frame-start : tie.Need-part-put-frame-start
+part-put-frame-start c = search needs
+
+part-put-frame-end : tie.Need-part-put-frame-end
+part-put-frame-end c = let d = c .before .before in omega (arith, d .seal-body .ensures .0, sealed-body-lengths (sealable (passed d)))
+
+put-frame-requires : tie.Need-put-frame-requires
+put-frame-requires c κs = let d = c .before .before .before .before in omega (arith, frame-fits (sealable (passed d)) _ (body-is d))
+
+same-length : tie.Need-same-length
+same-length c = search needs
+
+returns-5 : tie.Need-returns-5
+returns-5 c =
+    let d = c .before .before .before .before .before .before .before in
+    let p = c .before .before .put-frame in
+    framed-met (sealable (passed d)) (accepted (earlier d)) _ (omega arith) _ _ _ _ (body-is d) (p .ensures .0) (d .seal-body .ensures .1 .0) (p .ensures .1)
+
+pub write-spec : {M : Type 1} → statement M
+write-spec =
+    tie.close
+    (tie.spec
+    sizes-right-requires
+    returns
+    length-right-requires
+    returns-2
+    judge-line-requires
+    enum-told
+    enum-told-2
+    returns-3
+    returns-4
+    slice-aggregate-seal-body
+    seal-body-requires
+    sub-put-frame
+    part-put-frame-start
+    part-put-frame-end
+    put-frame-requires
+    same-length
+    returns-5)

@@ -1,0 +1,88 @@
+-- What `write` answers, and what the lent buffer then holds: document 01's order of refusals (2, 3, 9, 4), one line each.
+-- Assumes nothing: these are definitions.
+use mathlib.Core.Bool.{Bool, false, not, cond}
+use mathlib.Core.List.{List}
+use Prim.Native.Nat.{ℕ}
+use lib.Dec.{eqb, leb, ltb}
+use lib.ListN.{length}
+use Rattle.lists.specs.Buffers.{over}
+use Rattle.line.specs.Lines.{longest, lineRule}
+use Rattle.line.specs.declared.Judged.{Judged}
+use Rattle.line.specs.declared.Judged.the-variants as line-is
+use Rattle.body.specs.Fields.{nonceLength, digestLength, shortest}
+use Rattle.frame.specs.declared.Written.{Written}
+use Rattle.frame.specs.declared.Written.the-variants as written-is
+use Rattle.frame.specs.Told.{Told}
+use Rattle.frame.specs.Frames.{sealedLine, frameOf}
+
+-- the length of a key in bytes (document 01, number 2)
+abbrev pub keyLength : ℕ
+keyLength = 16
+
+-- the room that a frame asks for, whatever its own length (document 01, number 4)
+abbrev pub frameRoom : ℕ
+frameRoom = 276
+
+-- number 2: key, nonce and font digest of 16, 12 and 32 bytes
+unfoldable pub sizesRight : Told → List ℕ → Bool
+sizesRight t nonce =
+    cond (eqb (length (t .key)) keyLength) (cond (eqb (length nonce) nonceLength) (eqb (length (t .font)) digestLength) false) false
+
+-- number 3: a line of 1 to 65 bytes
+unfoldable pub lengthRight : List ℕ → Bool
+lengthRight line = cond (leb shortest (length line)) (leb (length line) longest) false
+
+-- the answer, and the buffer afterwards
+pub record WriteCall : Type 0 where
+  pub answer : Written
+  pub frame : List ℕ
+
+-- a refusal leaves the buffer as it was
+abbrev pub refused : Written → List ℕ → WriteCall
+refused r frame = record { answer = r; frame = frame }
+
+-- number 9, and later ones of the line's rule
+abbrev pub byRule : Judged → WriteCall → List ℕ → WriteCall
+byRule line-is.Accepted go frame = go
+byRule line-is.Unlisted go frame = refused written-is.Unlisted frame
+
+-- number 4
+abbrev pub byRoom : List ℕ → WriteCall → WriteCall
+byRoom frame go = cond (ltb (length frame) frameRoom) (refused written-is.NoRoom frame) go
+
+-- the frame over the start of the buffer, its length and the calls of the permutation
+unfoldable pub framedCall : Told → List ℕ → List ℕ → List ℕ → WriteCall
+framedCall t nonce line frame = record {
+  answer = written-is.Done (length (frameOf t nonce line)) (sealedLine t nonce line .calls);
+  frame = over (frameOf t nonce line) frame;
+}
+
+unfoldable pub writeCall : Told → List ℕ → List ℕ → List ℕ → WriteCall
+writeCall t nonce line frame =
+    cond (not (sizesRight t nonce)) (refused written-is.Sizes frame)
+    (cond (not (lengthRight line)) (refused written-is.TooLong frame)
+    (byRule (lineRule line) (byRoom frame (framedCall t nonce line frame)) frame))
+
+-- document 01's number of each answer ('Numbers returned')
+abbrev pub numberOf : Written → ℕ
+numberOf (written-is.Done length calls) = 0
+numberOf written-is.Sizes = 2
+numberOf written-is.TooLong = 3
+numberOf written-is.Unlisted = 9
+numberOf written-is.NoRoom = 4
+
+-- the frame's length, 0 on a refusal
+abbrev pub lengthOf : Written → ℕ
+lengthOf (written-is.Done length calls) = length
+lengthOf written-is.Sizes = 0
+lengthOf written-is.TooLong = 0
+lengthOf written-is.Unlisted = 0
+lengthOf written-is.NoRoom = 0
+
+-- the count, 0 on a refusal
+abbrev pub countOf : Written → ℕ
+countOf (written-is.Done length calls) = calls
+countOf written-is.Sizes = 0
+countOf written-is.TooLong = 0
+countOf written-is.Unlisted = 0
+countOf written-is.NoRoom = 0

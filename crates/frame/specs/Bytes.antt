@@ -1,0 +1,33 @@
+-- Key, nonce, font digest and line of bytes make a frame of bytes. Assumes nothing.
+use mathlib.Core.List.{List, [], _∷_}
+use Prim.Native.Nat.{ℕ}
+use native.Mathlib.Omega.{arith}
+use Rattle.lists.specs.Below.{Below, below-append}
+use Rattle.ingage.specs.Instances.{first}
+use Rattle.ingage.specs.Results.{encrypted-below}
+use Rattle.body.specs.Fields.{associated}
+use Rattle.body.specs.Bytes.{associated-below, body-below}
+use Rattle.stuffing.specs.Stuffing.{mark, stuffed}
+use Rattle.stuffing.specs.Bytes.{stuffed-below}
+use Rattle.frame.specs.Told.{Told}
+use Rattle.frame.specs.Frames.{sealedLine, sealedBody, framed, frameOf}
+use Rattle.frame.specs.Lengths.{Sealable, sealed-sized}
+
+pub framed-below : (b : List ℕ) → Below 256 b → Below 256 (framed b)
+unfolding framed
+framed-below b h = (omega arith, below-append 256 (stuffed b) (mark ∷ []) (stuffed-below b h) (omega arith, tt))
+
+module _ {t : Told} {nonce line : List ℕ} (z : Sealable t nonce line)
+    (key : Below 256 (t .key)) (font : Below 256 (t .font)) (n : Below 256 nonce) (l : Below 256 line) where
+  sealed-below : Below 256 (sealedLine t nonce line .text) × Below 256 (sealedLine t nonce line .seal)
+  unfolding sealedLine
+  sealed-below =
+      encrypted-below first (t .key) nonce (associated (t .font)) key n (associated-below (t .font) (omega (arith, z .font-is)) font) line l
+
+  pub sealed-body-below : Below 256 (sealedBody t nonce line)
+  unfolding sealedBody
+  sealed-body-below = body-below (sealed-sized z) n font (sealed-below .0) (sealed-below .1)
+
+  pub frame-below : Below 256 (frameOf t nonce line)
+  unfolding frameOf
+  frame-below = framed-below (sealedBody t nonce line) sealed-body-below

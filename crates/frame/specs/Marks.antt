@@ -1,0 +1,36 @@
+-- A frame holds marks at its two ends and nowhere else. Assumes nothing.
+use mathlib.Core.Path.{_≡_, refl, sym, _∙_}
+use mathlib.Core.Logic.{_⊎_, inl, inr}
+use mathlib.Core.List.{List, [], _∷_}
+use Prim.Native.Nat.{ℕ, zero, suc, _-_, _<_}
+use native.Mathlib.Decide.{decLt}
+use native.Mathlib.Omega.{arith}
+use lib.ListN.{length, getD, List·getD-append}
+use lib.Seq.{getD-at}
+use Rattle.lists.specs.Free.{free-at}
+use Rattle.stuffing.specs.Stuffing.{mark, stuffed}
+use Rattle.stuffing.specs.Marks.{stuffed-free}
+use Rattle.frame.specs.Told.{Told}
+use Rattle.frame.specs.Frames.{sealedBody, framed, frameOf}
+use Rattle.frame.specs.Lengths.{length-framed}
+
+pub framed-opens : (b : List ℕ) → getD (framed b) 0 0 ≡ mark
+unfolding framed
+framed-opens b = refl
+
+pub framed-closes : (b : List ℕ) → getD (framed b) (length (framed b) - 1) 0 ≡ mark
+unfolding framed
+framed-closes b = getD-at (mark ∷ stuffed b) mark [] 0 (length (framed b) - 1) (omega (arith, length-framed b))
+
+pub framed-marks : (b : List ℕ) (k : ℕ) → k < length (framed b) → getD (framed b) k 0 ≡ mark → (k ≡ 0) ⊎ (k ≡ length (framed b) - 1)
+unfolding framed
+framed-marks b zero h e = inl refl
+framed-marks b (suc j) h e = elim (decLt j (length (stuffed b))) [
+  | yes l ↦ absurd (free-at mark (stuffed b) j (stuffed-free b) l (sym (List·getD-append (stuffed b) (mark ∷ []) 0 j l) ∙ e))
+  | no l ↦ inr (omega (arith, l, length-framed b))
+]
+
+pub frame-marks : (t : Told) (nonce line : List ℕ) (k : ℕ) → k < length (frameOf t nonce line) → getD (frameOf t nonce line) k 0 ≡ mark
+    → (k ≡ 0) ⊎ (k ≡ length (frameOf t nonce line) - 1)
+unfolding frameOf
+frame-marks t nonce line = framed-marks (sealedBody t nonce line)

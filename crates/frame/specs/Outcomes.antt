@@ -1,0 +1,117 @@
+-- The answers of `write`, case by case, in the words of lengths, the line's rule and room: it is done exactly for what it accepts,
+-- with room. Assumes nothing.
+use mathlib.Core.Path.{_≡_, refl, sym, ap, _∙_}
+use mathlib.Core.Bool.{Bool, true, false, not, cond}
+use mathlib.Core.List.{List}
+use Prim.Native.Nat.{ℕ, _+_, _≤_, _<_}
+use native.Mathlib.Omega.{arith}
+use lib.Dec.{eqb, leb, ltb}
+use lib.ListN.{length}
+use borrow.Author.Tests.{eq-eqb, eqb-true, le-leb, leb-true, lt-ltb, le-ltb, ltb-false}
+use Rattle.lists.specs.Buffers.{over}
+use Rattle.line.specs.Lines.{longest, lineRule}
+use Rattle.line.specs.declared.Judged.{Judged}
+use Rattle.line.specs.declared.Judged.the-variants as line-is
+use Rattle.body.specs.Fields.{nonceLength, digestLength, shortest}
+use Rattle.frame.specs.declared.Written.the-variants.{Done, Sizes, TooLong, Unlisted, NoRoom}
+use Rattle.frame.specs.Told.{Told}
+use Rattle.frame.specs.Frames.{frameOf}
+use Rattle.frame.specs.Answers.{keyLength, frameRoom, sizesRight, lengthRight, WriteCall, refused, byRule, framedCall, writeCall, lengthOf, countOf}
+use Rattle.frame.specs.Lengths.{Sealable, besideLine, write-calls}
+
+never : {X : Type 0} → false ≡ true → X
+never e = absurd (let z : _≡_ {A = ℕ} 0 1 = cc e in omega arith)
+
+-- the tests say what the lengths are
+pub sizes-right : {t : Told} {nonce line : List ℕ} → Sealable t nonce line → sizesRight t nonce ≡ true
+unfolding sizesRight
+sizes-right {t} {nonce} z =
+    rw (eq-eqb (length (t .key)) keyLength (z .key-is), eq-eqb (length nonce) nonceLength (z .nonce-is))
+    (eq-eqb (length (t .font)) digestLength (z .font-is))
+
+pub length-right : {t : Told} {nonce line : List ℕ} → Sealable t nonce line → lengthRight line ≡ true
+unfolding lengthRight
+length-right {t} {nonce} {line} z = rw (le-leb shortest (length line) (z .line-from)) (le-leb (length line) longest (z .line-to))
+
+pub right-sealable : (t : Told) (nonce line : List ℕ) → sizesRight t nonce ≡ true → lengthRight line ≡ true → Sealable t nonce line
+unfolding sizesRight lengthRight
+right-sealable t nonce line =
+    go (eqb (length (t .key)) keyLength) refl (eqb (length nonce) nonceLength) refl (leb shortest (length line)) refl
+  where
+    go : (x : Bool) → eqb (length (t .key)) keyLength ≡ x → (y : Bool) → eqb (length nonce) nonceLength ≡ y
+        → (w : Bool) → leb shortest (length line) ≡ w → cond x (cond y (eqb (length (t .font)) digestLength) false) false ≡ true
+        → cond w (leb (length line) longest) false ≡ true → Sealable t nonce line
+    go true p true q true r e f = record {
+      key-is = eqb-true (length (t .key)) keyLength p;
+      nonce-is = eqb-true (length nonce) nonceLength q;
+      font-is = eqb-true (length (t .font)) digestLength e;
+      line-from = leb-true shortest (length line) r;
+      line-to = leb-true (length line) longest f;
+    }
+    go true p true q false r e f = never f
+    go true p false q w r e f = never e
+    go false p y q w r e f = never e
+
+module _ (t : Told) (nonce line o : List ℕ) where
+  pub write-sizes : sizesRight t nonce ≡ false → writeCall t nonce line o ≡ refused Sizes o
+  unfolding writeCall
+  write-sizes h = rw h
+
+  pub write-too-long : sizesRight t nonce ≡ true → lengthRight line ≡ false → writeCall t nonce line o ≡ refused TooLong o
+  unfolding writeCall
+  write-too-long h l = rw (h, l)
+
+  module _ (z : Sealable t nonce line) where
+    pub write-unlisted : lineRule line ≡ line-is.Unlisted → writeCall t nonce line o ≡ refused Unlisted o
+    unfolding writeCall
+    write-unlisted r = rw (sizes-right z, length-right z, r)
+
+    pub write-no-room : lineRule line ≡ line-is.Accepted → length o < frameRoom → writeCall t nonce line o ≡ refused NoRoom o
+    unfolding writeCall
+    write-no-room r h = rw (sizes-right z, length-right z, r, lt-ltb (length o) frameRoom h)
+
+    pub write-done : lineRule line ≡ line-is.Accepted → frameRoom ≤ length o → writeCall t nonce line o ≡ framedCall t nonce line o
+    unfolding writeCall
+    write-done r h = rw (sizes-right z, length-right z, r, le-ltb (length o) frameRoom h)
+
+-- what the writer accepts
+pub record Accepts (t : Told) (nonce line : List ℕ) : Type 0 where
+  pub sealable : Sealable t nonce line
+  pub listed : lineRule line ≡ line-is.Accepted
+
+-- done only for what it accepts, and with room
+pub done-accepts : (t : Told) (nonce line o : List ℕ) (n calls : ℕ) → writeCall t nonce line o .answer ≡ Done n calls
+    → Accepts t nonce line × (frameRoom ≤ length o)
+unfolding writeCall
+done-accepts t nonce line o n calls =
+    by-sizes (sizesRight t nonce) refl (lengthRight line) refl
+  where
+    room : Bool → WriteCall
+    room x = cond x (refused NoRoom o) (framedCall t nonce line o)
+
+    by-room : Sealable t nonce line → lineRule line ≡ line-is.Accepted → (x : Bool) → ltb (length o) frameRoom ≡ x
+        → room x .answer ≡ Done n calls → Accepts t nonce line × (frameRoom ≤ length o)
+    by-room z r true p e = absurd (let i : _≡_ {A = ℕ} 0 1 = cc e in omega arith)
+    by-room z r false p e = (record { sealable = z; listed = r }, ltb-false (length o) frameRoom p)
+
+    by-rule : Sealable t nonce line → (j : Judged) → lineRule line ≡ j
+        → byRule j (room (ltb (length o) frameRoom)) o .answer ≡ Done n calls → Accepts t nonce line × (frameRoom ≤ length o)
+    by-rule z line-is.Accepted r e = by-room z r (ltb (length o) frameRoom) refl e
+    by-rule z line-is.Unlisted r e = absurd (let i : _≡_ {A = ℕ} 0 1 = cc e in omega arith)
+
+    by-sizes : (x : Bool) → sizesRight t nonce ≡ x → (y : Bool) → lengthRight line ≡ y
+        → cond (not x) (refused Sizes o) (cond (not y) (refused TooLong o) (byRule (lineRule line) (room (ltb (length o) frameRoom)) o)) .answer
+        ≡ Done n calls → Accepts t nonce line × (frameRoom ≤ length o)
+    by-sizes true p true q e = by-rule (right-sealable t nonce line p q) (lineRule line) refl e
+    by-sizes true p false q e = absurd (let i : _≡_ {A = ℕ} 0 1 = cc e in omega arith)
+    by-sizes false p y q e = absurd (let i : _≡_ {A = ℕ} 0 1 = cc e in omega arith)
+
+-- and then with the frame's length, the count n + 39 and the frame over the buffer
+pub done-told : (t : Told) (nonce line o : List ℕ) (n calls : ℕ) → writeCall t nonce line o .answer ≡ Done n calls
+    → (n ≡ length (frameOf t nonce line)) × (calls ≡ length line + besideLine) × (writeCall t nonce line o .frame ≡ over (frameOf t nonce line) o)
+unfolding framedCall
+done-told t nonce line o n calls e =
+    let a = done-accepts t nonce line o n calls e in
+    let w = write-done t nonce line o (a .0 .sealable) (a .0 .listed) (a .1) in
+    let d = sym (ap (λ (x : WriteCall). x .answer) w) ∙ e in
+    (sym (ap lengthOf d), sym (ap countOf d) ∙ write-calls (a .0 .sealable), ap (λ (x : WriteCall). x .frame) w)

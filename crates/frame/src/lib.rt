@@ -1,0 +1,136 @@
+// The writer (document 01, 'A frame and a stream'): a line sealed, put in a body, stuffed and set between two marks.
+// The promise cites specs/Answers.antt; the paper's words stand in specs/Frames.antt.
+ghost use mathlib.Core.Path.{_≡_};
+ghost use Prim.Native.Nat.{_+_, _*_, _≤_};
+ghost use lib.ListN.{length};
+ghost use Rattle.lists.specs.Buffers.{over};
+ghost use Rattle.body.specs.Lengths.{longestBody};
+ghost use Rattle.frame.specs.Told.{told};
+ghost use Rattle.frame.specs.Frames.{sealedLine, sealedBody, framed};
+ghost use Rattle.frame.specs.Lengths.{Sealable};
+ghost use Rattle.frame.specs.Answers.{sizesRight, lengthRight, writeCall};
+use body::Put;
+use ingage::Sealed;
+use line::Judged;
+use stuffing::MARK;
+use stuffing::Stuffed;
+
+// The length of a key in bytes (document 01, number 2).
+pub const KEY_LENGTH: usize = 16;
+
+// The room that a frame asks for, whatever its own length (document 01, number 4).
+pub const FRAME_ROOM: usize = 276;
+
+// What writing a frame comes to.
+pub enum Written {
+    // The frame's length, and the calls of the permutation.
+    Done { length: usize, calls: usize },
+    // Key, nonce or font digest not of its size.
+    Sizes,
+    // A line not of 1 to 65 bytes.
+    TooLong,
+    // A line that holds a byte not listed.
+    Unlisted,
+    // A buffer of fewer than FRAME_ROOM bytes.
+    NoRoom,
+}
+
+// How long a sealed body is, and how many calls of the permutation it took.
+struct Work {
+    length: usize,
+    calls: usize,
+}
+
+// Whether key, nonce and font digest have their sizes.
+fn sizes_right(key: &[u8], nonce: &[u8], font: &[u8]) -> bool
+    ensures { λ r. ⌜ r ≡ sizesRight (told (now (key .entry)) (now (font .entry))) (now (nonce .entry)) ⌝ }
+{
+    if key.len() != KEY_LENGTH {
+        return false;
+    }
+    if nonce.len() != body::NONCE_LENGTH {
+        return false;
+    }
+    font.len() == body::DIGEST_LENGTH
+}
+
+// Whether the line has 1 to 65 bytes.
+fn length_right(line: &[u8]) -> bool
+    ensures { λ r. ⌜ r ≡ lengthRight (now (line .entry)) ⌝ }
+{
+    let n = line.len();
+    match n {
+        body::SHORTEST..=body::LONGEST => true,
+        _ => false,
+    }
+}
+
+// Seals the line and writes its body to the start of out, which has room for the longest.
+fn seal_body(key: &[u8], nonce: &[u8], font: &[u8], line: &[u8], out: &mut [u8]) -> Work
+    requires { ⌜ Sealable (told (now key) (now font)) (now nonce) (now line) ⌝ }
+    requires { ⌜ longestBody ≤ length (now out) ⌝ }
+    ensures { λ r. ⌜ r .length ≡ length (sealedBody (told (now (key .entry)) (now (font .entry))) (now (nonce .entry)) (now (line .entry))) ⌝ }
+    ensures { λ r. ⌜ r .calls ≡ sealedLine (told (now (key .entry)) (now (font .entry))) (now (nonce .entry)) (now (line .entry)) .calls ⌝ }
+    ensures { λ _. ⌜ now (out .exit) ≡ over (sealedBody (told (now (key .entry)) (now (font .entry))) (now (nonce .entry)) (now (line .entry))) (now (out .entry)) ⌝ }
+{
+    let mut assoc = [0u8; body::ASSOCIATED_LENGTH];
+    body::put_associated(font, &mut assoc);
+    let mut cipher = [0u8; body::LONGEST];
+    let mut seal = [0u8; body::SEAL_LENGTH];
+    let Sealed::Done(calls) = ingage::seal(key, nonce, &assoc, line, &mut cipher, &mut seal) else {
+        return Work {
+            length: 0,
+            calls: 0,
+        };
+    };
+    let n = line.len();
+    let Put::Done(length) = body::put_body(nonce, font, &cipher[0..n], &seal, out) else {
+        return Work {
+            length: 0,
+            calls: 0,
+        };
+    };
+    Work { length, calls }
+}
+
+// Writes the body, stuffed and between two marks, to the start of out, which has room for it, and gives the number of bytes.
+fn put_frame(body: &[u8], out: &mut [u8]) -> usize
+    requires { ⌜ 2 * length (now body) + 2 ≤ length (now out) ⌝ }
+    ensures { λ r. ⌜ r ≡ length (framed (now (body .entry))) ⌝ }
+    ensures { λ _. ⌜ now (out .exit) ≡ over (framed (now (body .entry))) (now (out .entry)) ⌝ }
+{
+    out[0] = MARK;
+    let Stuffed::Done(n) = stuffing::stuff(body, &mut out[1..]) else {
+        return 0;
+    };
+    out[n + 1] = MARK;
+    n + 2
+}
+
+// Seals the line under the key and the nonce, for the font, and writes its frame to the start of frame; the rest of it stays.
+// A refusal writes nothing.
+pub fn write(key: &[u8], nonce: &[u8], font: &[u8], line: &[u8], frame: &mut [u8]) -> Written
+    ensures { λ r. ⌜ r ≡ writeCall (told (now (key .entry)) (now (font .entry))) (now (nonce .entry)) (now (line .entry)) (now (frame .entry)) .answer ⌝ }
+    ensures { λ _. ⌜ now (frame .exit) ≡ writeCall (told (now (key .entry)) (now (font .entry))) (now (nonce .entry)) (now (line .entry)) (now (frame .entry)) .frame ⌝ }
+{
+    if !sizes_right(key, nonce, font) {
+        return Written::Sizes;
+    }
+    if !length_right(line) {
+        return Written::TooLong;
+    }
+    let Judged::Accepted = line::judge_line(line) else {
+        return Written::Unlisted;
+    };
+    if frame.len() < FRAME_ROOM {
+        return Written::NoRoom;
+    }
+    let mut scratch = [0u8; body::LONGEST_BODY];
+    let work = seal_body(key, nonce, font, line, &mut scratch);
+    let n = work.length;
+    let length = put_frame(&scratch[0..n], frame);
+    Written::Done {
+        length,
+        calls: work.calls,
+    }
+}

@@ -1,0 +1,158 @@
+// Lists the lines of a job stream (document 01, 'The listing program'): key.bin, font.bin, then the stream on standard input, one
+// 65,536-byte buffer reused. Thin over the proved calls: every row is what `reader::read` answers.
+use digest::Digested;
+use files::Loaded;
+use libc::STDIN_FILENO;
+use libc::STDOUT_FILENO;
+use reader::Answer;
+
+// How the listing stands: where the next reading starts, and how many rows were lines and how many refusals.
+pub struct Tally {
+    pub next: usize,
+    pub lines: u64,
+    pub refused: u64,
+    pub ended: bool,
+}
+
+fn say(text: &[u8]) {
+    io::write_all(STDOUT_FILENO, text);
+}
+
+fn print(n: u64) {
+    io::print_decimal(STDOUT_FILENO, n);
+}
+
+// A row of a refused stretch.
+fn refused(t: Tally, first: usize, closing: usize, number: u64) -> Tally {
+    print(first as u64);
+    say(b" ");
+    print(number);
+    say(b"\n");
+    Tally {
+        next: closing,
+        lines: t.lines,
+        refused: std::num::wrapping_add_u64(t.refused, 1),
+        ended: false,
+    }
+}
+
+// A row of a line.
+fn line_row(t: Tally, first: usize, closing: usize, line: &[u8], length: usize) -> Tally {
+    print(first as u64);
+    say(b" 0 ");
+    if length <= line.len() {
+        say(&line[0..length]);
+    }
+    say(b"\n");
+    Tally {
+        next: closing,
+        lines: std::num::wrapping_add_u64(t.lines, 1),
+        refused: t.refused,
+        ended: false,
+    }
+}
+
+fn ended(t: Tally) -> Tally {
+    Tally {
+        next: t.next,
+        lines: t.lines,
+        refused: t.refused,
+        ended: true,
+    }
+}
+
+// One reading and its row.
+fn one(stream: &[u8], key: &[u8], font: &[u8], line: &mut [u8], t: Tally) -> Tally {
+    let from = t.next;
+    let answer = reader::read(stream, from, key, font, line);
+    let number = values::number_of(answer) as u64;
+    match answer {
+        Answer::Line {
+            first,
+            closing,
+            length,
+            calls: _,
+        } => line_row(t, first, closing, line, length),
+        Answer::Shape { first, closing } => refused(t, first, closing, number),
+        Answer::Stuffing { first, closing } => refused(t, first, closing, number),
+        Answer::Font { first, closing } => refused(t, first, closing, number),
+        Answer::Seal {
+            first,
+            closing,
+            calls: _,
+        } => refused(t, first, closing, number),
+        Answer::Unlisted {
+            first,
+            closing,
+            calls: _,
+        } => refused(t, first, closing, number),
+        _ => ended(t),
+    }
+}
+
+// Every stretch of the stream, and the last row. Each reading ends further on, so as many turns as the stream has bytes are enough.
+fn list(stream: &[u8], key: &[u8], font: &[u8]) {
+    let mut line = [0u8; 65];
+    let mut t = Tally {
+        next: 0,
+        lines: 0,
+        refused: 0,
+        ended: false,
+    };
+    let mut turns = stream.len();
+    while turns > 0 {
+        t = one(stream, key, font, &mut line, t);
+        let done = t.ended;
+        if done {
+            turns = 0;
+        } else {
+            turns -= 1;
+        }
+    }
+    say(b"lines ");
+    print(t.lines);
+    say(b" refused ");
+    print(t.refused);
+    say(b"\n");
+}
+
+// The font's digest, where font.bin is a font of at most 65,536 bytes.
+fn font_digest(buffer: &mut [u8], font: &mut [u8]) -> bool {
+    let Loaded::Bytes(n) = files::load(b"font.bin", buffer) else {
+        return false;
+    };
+    if n > buffer.len() {
+        return false;
+    }
+    match digest::digest(1, &buffer[0..n], font) {
+        Digested::Done(_) => true,
+        _ => false,
+    }
+}
+
+fn main() {
+    let mut key = [0u8; 16];
+    let mut font = [0u8; 32];
+    let Loaded::Bytes(k) = files::load(b"key.bin", &mut key) else {
+        say(b"no key\n");
+        return;
+    };
+    if k != 16 {
+        say(b"no key\n");
+        return;
+    }
+    let mut buffer = io::large_buffer();
+    if !font_digest(&mut buffer, &mut font) {
+        say(b"no font\n");
+        return;
+    }
+    match files::take_in(STDIN_FILENO, &mut buffer) {
+        Loaded::Bytes(n) => {
+            if n <= buffer.len() {
+                list(&buffer[0..n], &key, &font);
+            }
+        }
+        Loaded::Long => say(b"too long\n"),
+        Loaded::Failed => say(b"no stream\n"),
+    }
+}

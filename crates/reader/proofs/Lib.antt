@@ -1,0 +1,5 @@
+pub mod Shown
+pub mod Calls
+pub mod Unstuffing
+pub mod Parts
+pub mod Opening

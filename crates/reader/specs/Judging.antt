@@ -1,0 +1,51 @@
+-- What a stretch's bytes are found to be (document 01, 'Numbers returned', order of a stretch): 7 for its length, 6, 7 for its fields,
+-- 8, 5, 9, else its line. Assumes nothing: these are definitions.
+use mathlib.Core.Bool.{not, cond}
+use mathlib.Core.List.{List}
+use Prim.Native.Nat.{ℕ}
+use Rattle.lists.specs.Buffers.{same}
+use Rattle.stuffing.specs.declared.Unstuffed.{Unstuffed}
+use Rattle.stuffing.specs.declared.Unstuffed.the-variants as unstuffed-is
+use Rattle.stuffing.specs.Stuffing.{unstuffed}
+use Rattle.stuffing.specs.Answers.{lengthAnswer}
+use Rattle.line.specs.declared.Judged as line-judged
+use Rattle.line.specs.declared.Judged.the-variants.{Accepted, Unlisted}
+use Rattle.line.specs.Lines.{lineRule}
+use Rattle.ingage.specs.Instances.{first}
+use Rattle.ingage.specs.Cipher.{Work, decrypted}
+use Rattle.body.specs.Fields.{Fields, fields, no-body, fieldsOf, associated}
+use Rattle.frame.specs.Told.{Told}
+use Rattle.reader.specs.Judged.{Judged, shape, stuffing, font, seal, unlisted, line}
+
+-- by the rule of a line: 9
+abbrev pub byRule : line-judged.Judged → Work → Judged
+byRule Unlisted w = unlisted (w .calls)
+byRule Accepted w = line (w .text) (w .calls)
+
+-- what opening finds under the seal T: 5, then 9
+abbrev pub judgeWork : Work → List ℕ → Judged
+judgeWork w T =
+    cond (not (same (w .seal) T)) (seal (w .calls))
+    (byRule (lineRule (w .text)) w)
+
+-- sealed fields are opened under the first instance
+unfoldable pub judgeSealed : List ℕ → List ℕ → List ℕ → List ℕ → List ℕ → Judged
+judgeSealed key nonce A cipher T = judgeWork (decrypted first key nonce A cipher) T
+
+-- what a body's fields hold: 7, then 8
+abbrev pub judgeFields : Told → Fields → Judged
+judgeFields t no-body = shape
+judgeFields t (fields nonce digest cipher T) =
+    cond (not (same digest (t .font))) font
+    (judgeSealed (t .key) nonce (associated digest) cipher T)
+
+-- what the unstuffed length is found to be: 7 for the stretch's length, then 6 (there is no buffer, so room never lacks)
+abbrev pub byStuffing : Unstuffed → Judged → Judged
+byStuffing unstuffed-is.TooLong j = shape
+byStuffing unstuffed-is.NoRoom j = shape
+byStuffing unstuffed-is.Bad j = stuffing
+byStuffing (unstuffed-is.Length n) j = j
+
+-- a stretch: 7 for its length, 6, then what its body's fields hold
+unfoldable pub judge : Told → List ℕ → Judged
+judge t s = byStuffing (lengthAnswer s) (judgeFields t (fieldsOf (unstuffed s)))

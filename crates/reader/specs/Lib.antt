@@ -1,0 +1,7 @@
+pub mod Sizes
+pub mod Judged
+pub mod Readings
+pub mod Resync
+pub mod Judging
+pub mod Answers
+pub mod Cases

@@ -1,0 +1,214 @@
+// The reader (document 01, 'A frame and a stream'): judging a stretch and the read call.
+// The promises cite specs/Answers.antt; the order in which a stretch is judged stands in specs/Judging.antt.
+ghost use mathlib.Core.Path.{_≡_};
+ghost use Prim.Native.Nat.{_≤_};
+ghost use lib.ListN.{length, replicate};
+ghost use Rattle.stream.specs.Stretches.{span};
+ghost use Rattle.line.specs.Lines.{longest};
+ghost use Rattle.ingage.specs.Instances.{first as firstInstance};
+ghost use Rattle.ingage.specs.Exactly.{Within};
+ghost use Rattle.body.specs.Fields.{fieldsOf};
+ghost use Rattle.reader.specs.Judging.{judgeSealed, judgeFields, judge};
+ghost use Rattle.reader.specs.Answers.{answerAt, lineOver, readAnswer, readOut};
+ghost use Rattle.frame.specs.Told.{told};
+ghost use Rattle.reader.specs.Sizes.{Sizes};
+use body::ASSOCIATED_AT;
+use body::CIPHER_AT;
+use body::DIGEST_AT;
+use body::DIGEST_LENGTH;
+use body::HEAD_LENGTH;
+use body::LONGEST;
+use body::NONCE_AT;
+use body::NONCE_LENGTH;
+use body::SEAL_LENGTH;
+use body::judge_body;
+use frame::KEY_LENGTH;
+use ingage::Opened;
+use ingage::open;
+use line::judge_line;
+use lists::compare;
+use lists::copy;
+use stream::next_span;
+use stuffing::LONGEST_STRETCH;
+use stuffing::Unstuffed;
+use stuffing::unstuff;
+
+// The longest stream in bytes (document 01, number 3).
+pub const LONGEST_STREAM: usize = 65536;
+
+// What one read call answers. Each answer carries its places: that of the stretch's first byte and that of its closing mark.
+pub enum Answer {
+    // The call is refused: key or font digest not of their sizes, stream too long, line buffer too short, place beyond the end.
+    // Each carries the place asked for, which both places are.
+    Sizes(usize),
+    TooLong(usize),
+    NoRoom(usize),
+    Beyond(usize),
+    // The end of the stream: both places are its length.
+    End(usize),
+    // A stretch that is too long, or whose fields are not as listed.
+    Shape {
+        first: usize,
+        closing: usize,
+    },
+    // Bad stuffing.
+    Stuffing {
+        first: usize,
+        closing: usize,
+    },
+    // Sealed to another font.
+    Font {
+        first: usize,
+        closing: usize,
+    },
+    // The seal is not the one worked out; with the calls of the permutation made.
+    Seal {
+        first: usize,
+        closing: usize,
+        calls: usize,
+    },
+    // The line holds a byte that is not listed.
+    Unlisted {
+        first: usize,
+        closing: usize,
+        calls: usize,
+    },
+    // A line of that length is given.
+    Line {
+        first: usize,
+        closing: usize,
+        length: usize,
+        calls: usize,
+    },
+}
+
+// Opens sealed fields and judges the line found. It is opened into a buffer of its own: the caller's is written only where a line
+// is given.
+fn judge_sealed(
+    key: &[u8],
+    nonce: &[u8],
+    assoc: &[u8],
+    cipher: &[u8],
+    seal: &[u8],
+    first: usize,
+    closing: usize,
+    line: &mut [u8],
+) -> Answer
+    requires { ⌜ Within firstInstance (now key) (now nonce) (now assoc) (now cipher) (now seal) (replicate longest 0) ⌝ }
+    requires { ⌜ longest ≤ length (now line) ⌝ }
+    ensures { λ r. ⌜ r ≡ answerAt (span first closing) (judgeSealed (now (key .entry)) (now (nonce .entry)) (now (assoc .entry)) (now (cipher .entry)) (now (seal .entry))) ⌝ }
+    ensures { λ _. ⌜ now (line .exit) ≡ lineOver (judgeSealed (now (key .entry)) (now (nonce .entry)) (now (assoc .entry)) (now (cipher .entry)) (now (seal .entry))) (now (line .entry)) ⌝ }
+{
+    let mut text = [0u8; LONGEST];
+    let length = cipher.len();
+    match open(key, nonce, assoc, cipher, seal, &mut text) {
+        Opened::Seal(calls) => return Answer::Seal {
+            first,
+            closing,
+            calls,
+        },
+        Opened::Done(calls) => {
+            let found = &text[0..length];
+            match judge_line(found) {
+                line::Judged::Unlisted => return Answer::Unlisted {
+                    first,
+                    closing,
+                    calls,
+                },
+                line::Judged::Accepted => {
+                    copy(found, line);
+                    return Answer::Line {
+                        first,
+                        closing,
+                        length,
+                        calls,
+                    };
+                }
+            }
+        }
+        _ => return Answer::Shape { first, closing },
+    }
+}
+
+// Judges a body by its fields, the font it was sealed to, its seal and its line.
+fn judge_fields(
+    body: &[u8],
+    first: usize,
+    closing: usize,
+    key: &[u8],
+    font: &[u8],
+    line: &mut [u8],
+) -> Answer
+    requires { ⌜ Sizes (told (now key) (now font)) ⌝ }
+    requires { ⌜ longest ≤ length (now line) ⌝ }
+    ensures { λ r. ⌜ r ≡ answerAt (span first closing) (judgeFields (told (now (key .entry)) (now (font .entry))) (fieldsOf (now (body .entry)))) ⌝ }
+    ensures { λ _. ⌜ now (line .exit) ≡ lineOver (judgeFields (told (now (key .entry)) (now (font .entry))) (fieldsOf (now (body .entry)))) (now (line .entry)) ⌝ }
+{
+    let n = match judge_body(body) {
+        body::Judged::Shape => return Answer::Shape { first, closing },
+        body::Judged::Fields(n) => n,
+    };
+    let digest = &body[DIGEST_AT..DIGEST_AT + DIGEST_LENGTH];
+    if !compare(digest, font) {
+        return Answer::Font { first, closing };
+    }
+    let nonce = &body[NONCE_AT..NONCE_AT + NONCE_LENGTH];
+    let assoc = &body[ASSOCIATED_AT..DIGEST_AT + DIGEST_LENGTH];
+    let cipher = &body[CIPHER_AT..CIPHER_AT + n];
+    let seal_at = CIPHER_AT + n + HEAD_LENGTH;
+    let seal = &body[seal_at..seal_at + SEAL_LENGTH];
+    judge_sealed(key, nonce, assoc, cipher, seal, first, closing, line)
+}
+
+// Judges the bytes of a stretch.
+fn judge_stretch(
+    stretch: &[u8],
+    first: usize,
+    closing: usize,
+    key: &[u8],
+    font: &[u8],
+    line: &mut [u8],
+) -> Answer
+    requires { ⌜ Sizes (told (now key) (now font)) ⌝ }
+    requires { ⌜ longest ≤ length (now line) ⌝ }
+    ensures { λ r. ⌜ r ≡ answerAt (span first closing) (judge (told (now (key .entry)) (now (font .entry))) (now (stretch .entry))) ⌝ }
+    ensures { λ _. ⌜ now (line .exit) ≡ lineOver (judge (told (now (key .entry)) (now (font .entry))) (now (stretch .entry))) (now (line .entry)) ⌝ }
+{
+    let mut body = [0u8; LONGEST_STRETCH];
+    let n = match unstuff(stretch, &mut body) {
+        Unstuffed::TooLong => return Answer::Shape { first, closing },
+        Unstuffed::Bad => return Answer::Stuffing { first, closing },
+        Unstuffed::NoRoom => return Answer::Shape { first, closing },
+        Unstuffed::Length(n) => n,
+    };
+    judge_fields(&body[0..n], first, closing, key, font, line)
+}
+
+// Judges the next stretch from a place. A line that is given is written to the start of line; nothing else is written.
+pub fn read(stream: &[u8], from: usize, key: &[u8], font: &[u8], line: &mut [u8]) -> Answer
+    ensures { λ r. ⌜ r ≡ readAnswer (told (now (key .entry)) (now (font .entry))) (now (stream .entry)) from (now (line .entry)) ⌝ }
+    ensures { λ _. ⌜ now (line .exit) ≡ readOut (told (now (key .entry)) (now (font .entry))) (now (stream .entry)) from (now (line .entry)) ⌝ }
+{
+    if key.len() != KEY_LENGTH {
+        return Answer::Sizes(from);
+    }
+    if font.len() != DIGEST_LENGTH {
+        return Answer::Sizes(from);
+    }
+    if stream.len() > LONGEST_STREAM {
+        return Answer::TooLong(from);
+    }
+    if line.len() < LONGEST {
+        return Answer::NoRoom(from);
+    }
+    if from > stream.len() {
+        return Answer::Beyond(from);
+    }
+    let span = next_span(stream, from);
+    let first = span.first;
+    let closing = span.closing;
+    if first == closing {
+        return Answer::End(closing);
+    }
+    judge_stretch(&stream[first..closing], first, closing, key, font, line)
+}
