@@ -1,0 +1,239 @@
+/* A composer and a press in small, over include/lubdhvani.h: twelve lines are sealed and sent, the link damages some of them,
+ * and the press lists what arrives. Every answer is compared with the one expected; the status is 1 if one differs. */
+#include "lubdhvani.h"
+
+#include <stdio.h>
+#include <string.h>
+
+static int wrong;
+
+static void check(int holds, const char *what)
+{
+    if (!holds) {
+        printf("client-c: WRONG: %s\n", what);
+        wrong = 1;
+    }
+}
+
+static int all_are(uint8_t byte, const uint8_t *bytes, size_t length)
+{
+    for (size_t i = 0; i < length; i++)
+        if (bytes[i] != byte)
+            return 0;
+    return 1;
+}
+
+/* What the composer and the press share: a key, and the digest of the font. */
+static const uint8_t key[LUBDHVANI_KEY] = "the press's key";
+static const uint8_t font_file[] = "fourteen characters, all of one width";
+static uint8_t font[LUBDHVANI_DIGEST];
+
+/* The permutation and its inverse. */
+
+static void check_permutation(void)
+{
+    uint8_t state[30] = "thirty bytes are permitted", before[30];
+    memcpy(before, state, sizeof state);
+
+    check(lubdhvani_permute(state, 30) == LUBDHVANI_DONE, "30 bytes are permuted");
+    check(memcmp(state, before, 30) != 0, "the state has changed");
+    check(lubdhvani_unpermute(state, 30) == LUBDHVANI_DONE, "30 bytes are permuted back");
+    check(memcmp(state, before, 30) == 0, "the inverse gives the state back");
+    check(lubdhvani_permute(state, 28) == LUBDHVANI_INSTANCE, "28 bytes are not permitted");
+    check(memcmp(state, before, 30) == 0, "a refused state stays");
+}
+
+/* A digest: of the empty message with instance 1, as tests/second prints it with `second kat hash 1`. */
+
+static void check_digest(void)
+{
+    static const uint8_t expected[LUBDHVANI_DIGEST] = {
+        0x3D, 0x55, 0x7E, 0x63, 0x35, 0xEB, 0xC0, 0x69, 0xB1, 0x35, 0x18, 0xF3, 0x9D, 0x50, 0xAB, 0xD8,
+        0x7B, 0xA7, 0xA6, 0x7A, 0xE3, 0xC3, 0xEB, 0x93, 0x56, 0xFA, 0xD5, 0x18, 0x9B, 0x2B, 0xA9, 0xF0};
+    uint8_t digest[LUBDHVANI_DIGEST];
+    size_t calls;
+
+    check(lubdhvani_digest(1, NULL, 0, digest, sizeof digest, &calls) == LUBDHVANI_DONE, "the empty message is digested");
+    check(memcmp(digest, expected, sizeof digest) == 0, "its digest");
+    check(calls == 33, "the calls of its digest");
+    check(lubdhvani_digest(11, NULL, 0, digest, sizeof digest, &calls) == LUBDHVANI_INSTANCE && calls == 0, "there is no instance 11");
+}
+
+/* Sealing and opening, and a seal with one bit changed. */
+
+static void check_seal(void)
+{
+    static const uint8_t nonce[LUBDHVANI_NONCE] = "never again", message[] = "0000012500B";
+    uint8_t cipher[sizeof message], seal[LUBDHVANI_SEAL], back[sizeof message + 1];
+    const size_t n = sizeof message;
+    size_t calls;
+
+    check(lubdhvani_seal(key, sizeof key, nonce, sizeof nonce, font, sizeof font, message, n, cipher, sizeof cipher, seal,
+                         sizeof seal, &calls) == LUBDHVANI_DONE,
+          "a message is sealed");
+    check(calls == sizeof font + n + 4, "the calls of sealing");
+
+    memset(back, 0xEE, sizeof back);
+    check(lubdhvani_open(key, sizeof key, nonce, sizeof nonce, font, sizeof font, cipher, n, seal, sizeof seal, back, sizeof back,
+                         &calls) == LUBDHVANI_DONE,
+          "it is opened");
+    check(memcmp(back, message, n) == 0 && back[n] == 0xEE, "the message comes back, and nothing behind it");
+
+    seal[15] ^= 0x01;
+    check(lubdhvani_open(key, sizeof key, nonce, sizeof nonce, font, sizeof font, cipher, n, seal, sizeof seal, back, sizeof back,
+                         &calls) == LUBDHVANI_BAD_SEAL,
+          "a wrong seal is refused");
+    check(all_are(0, back, n) && back[n] == 0xEE, "nothing of the message is left, and nothing behind it changed");
+}
+
+/* The composer's orders, and what the link does to the frame of each. */
+
+enum damage { WHOLE, FLIPPED, LOST, DOUBLED, NO_OPENING, NO_CLOSING, OTHER_FONT };
+
+static const struct {
+    const char *line;
+    enum damage damage;
+} orders[] = {
+    {"A123456780A 0012345678C 0000012500B", WHOLE},
+    {"A123456780A 0012345678C 0000009975B", FLIPPED},
+    {"A987654320A 4400012345C 0001000000B", WHOLE},
+    {"A987654320A 4400012345C 0000000001B", LOST},
+    {"A011000015A 1002003004C 0000420000B", DOUBLED},
+    {"A011000015A 1002003004C 0000000200B", WHOLE},
+    {"A123456780A 55D66D77C", NO_CLOSING}, /* no harm: the next line's opening mark closes it */
+    {"A123456780A 55D66D78C", WHOLE},
+    {"A123456780A 55D66D79C", NO_CLOSING}, /* these two run together */
+    {"A123456780A 55D66D80C", NO_OPENING},
+    {"A011000015A 9C", OTHER_FONT},
+    {"7", WHOLE},
+};
+enum { ORDERS = sizeof orders / sizeof orders[0] };
+
+/* What the press must find. Noise comes before the first line. */
+static const struct {
+    uint32_t number;
+    const char *line;
+} expected[] = {
+    {LUBDHVANI_BAD_STUFFING, ""},
+    {LUBDHVANI_DONE, "A123456780A 0012345678C 0000012500B"},
+    {LUBDHVANI_BAD_SEAL, ""},
+    {LUBDHVANI_DONE, "A987654320A 4400012345C 0001000000B"},
+    {LUBDHVANI_BAD_SHAPE, ""},
+    {LUBDHVANI_BAD_SHAPE, ""},
+    {LUBDHVANI_DONE, "A011000015A 1002003004C 0000000200B"},
+    {LUBDHVANI_DONE, "A123456780A 55D66D77C"},
+    {LUBDHVANI_DONE, "A123456780A 55D66D78C"},
+    {LUBDHVANI_BAD_SHAPE, ""},
+    {LUBDHVANI_OTHER_FONT, ""},
+    {LUBDHVANI_DONE, "7"},
+};
+enum { EXPECTED = sizeof expected / sizeof expected[0] };
+
+static uint8_t stream[ORDERS * (LUBDHVANI_FRAME + 1) + 64];
+static size_t stream_length;
+
+static void send(const uint8_t *bytes, size_t length)
+{
+    memcpy(stream + stream_length, bytes, length);
+    stream_length += length;
+}
+
+/* Damages a frame where it stands; the frame's length afterwards. Byte 5 is one of the nonce's. */
+static size_t damaged(enum damage damage, uint8_t *frame, size_t length)
+{
+    switch (damage) {
+    case FLIPPED:
+        frame[5] ^= 0x01;
+        return length;
+    case LOST:
+        memmove(frame + 5, frame + 6, length - 6);
+        return length - 1;
+    case DOUBLED:
+        memmove(frame + 6, frame + 5, length - 5);
+        return length + 1;
+    case NO_OPENING:
+        memmove(frame, frame + 1, length - 1);
+        return length - 1;
+    case NO_CLOSING:
+        return length - 1;
+    default:
+        return length;
+    }
+}
+
+static void compose(void)
+{
+    static const uint8_t noise[] = {0x41, 0x00, 0x7E, 0x7D, 0x41}, cut_off[] = {0x01, 0x00, 0x0C};
+    static const uint8_t other_font[LUBDHVANI_DIGEST] = "a font with narrower digits";
+
+    send(noise, sizeof noise); /* it has a mark, so what follows that mark is a stretch */
+    for (size_t k = 0; k < ORDERS; k++) {
+        const uint8_t *line = (const uint8_t *)orders[k].line, *its_font = orders[k].damage == OTHER_FONT ? other_font : font;
+        uint8_t nonce[LUBDHVANI_NONCE] = {0}, frame[LUBDHVANI_FRAME + 1];
+        size_t length, calls, n = strlen(orders[k].line);
+
+        nonce[11] = (uint8_t)k; /* the line's number; a nonce is never used twice with one key */
+        check(lubdhvani_write(key, sizeof key, nonce, sizeof nonce, its_font, LUBDHVANI_DIGEST, line, n, frame, sizeof frame,
+                              &length, &calls) == LUBDHVANI_DONE,
+              "a line is written");
+        check(length >= n + 74 && length <= LUBDHVANI_FRAME && calls == n + 39, "the frame's length and calls");
+        send(frame, damaged(orders[k].damage, frame, length));
+    }
+    send(cut_off, sizeof cut_off); /* the start of a frame that never came: no stretch */
+}
+
+/* The press: reads from place to place up to the end of the stream, and lists what it finds. */
+
+static const char *const meaning[] = {"",           "unknown instance", "wrong size",  "too long",      "no room",        "wrong seal",
+                                      "bad stuffing", "not a frame",      "other font", "unlisted byte", "beyond the end"};
+
+static void press(void)
+{
+    size_t place = 0, row = 0, printed = 0;
+
+    for (;;) {
+        uint8_t line[LUBDHVANI_LONGEST_LINE];
+        size_t first, closing, length, calls, its_first, its_closing;
+        memset(line, '#', sizeof line);
+        uint32_t number = lubdhvani_read(stream, stream_length, place, key, sizeof key, font, sizeof font, line, sizeof line, &first,
+                                         &closing, &length, &calls);
+        lubdhvani_next_stretch(stream, stream_length, place, &its_first, &its_closing);
+        check(first == its_first && closing == its_closing, "next_stretch finds the stretch that was read");
+        if (number == LUBDHVANI_DONE && length == 0) {
+            check(first == stream_length && closing == stream_length, "the end of the stream is its length");
+            break;
+        }
+        if (number == LUBDHVANI_DONE)
+            printf("%5zu  line     %.*s\n", first, (int)length, (const char *)line);
+        else
+            printf("%5zu  refused  %u %s\n", first, (unsigned)number, number <= LUBDHVANI_BEYOND ? meaning[number] : "no number");
+
+        if (!(place < first && first < closing && closing < stream_length && row < EXPECTED)) {
+            check(0, "reading goes on, from stretch to stretch, as many as there are");
+            return;
+        }
+        size_t n = strlen(expected[row].line);
+        check(number == expected[row].number, "the number of this stretch");
+        check(length == n && memcmp(line, expected[row].line, n) == 0, "its line is the one that was sealed, or none");
+        check(all_are('#', line + n, sizeof line - n), "nothing else is written");
+        if (number == LUBDHVANI_DONE)
+            printed++;
+        row++;
+        place = closing;
+    }
+    check(row == EXPECTED, "every stretch was read");
+    printf("client-c: %d lines sent, %zu printed, %zu stretches refused\n", ORDERS, printed, row - printed);
+}
+
+int main(void)
+{
+    size_t calls;
+    check(lubdhvani_digest(1, font_file, sizeof font_file - 1, font, sizeof font, &calls) == LUBDHVANI_DONE, "the font is digested");
+    check_permutation();
+    check_digest();
+    check_seal();
+    compose();
+    press();
+    puts(wrong ? "client-c: not as expected" : "client-c: all as expected");
+    return wrong;
+}

@@ -1,0 +1,398 @@
+//! A composer and a press in small, over the static library: twelve lines are
+//! sealed and sent, the link damages some of them, and the press lists what
+//! arrives. Every answer is compared with the one expected; the status is 1 if
+//! one differs.
+
+use std::process::exit;
+
+/// The calls of include/lubdhvani.h as safe functions: a slice is a pointer and
+/// its length, and what goes out through pointers is given back.
+mod lubdhvani {
+    pub const KEY: usize = 16;
+    pub const NONCE: usize = 12;
+    pub const DIGEST: usize = 32;
+    pub const SEAL: usize = 16;
+    pub const LONGEST_LINE: usize = 65;
+    pub const FRAME: usize = 276;
+
+    pub const DONE: u32 = 0;
+    pub const INSTANCE: u32 = 1;
+    pub const BAD_SEAL: u32 = 5;
+    pub const BAD_STUFFING: u32 = 6;
+    pub const BAD_SHAPE: u32 = 7;
+    pub const OTHER_FONT: u32 = 8;
+    pub const UNLISTED: u32 = 9;
+
+    #[rustfmt::skip]
+    extern "C" {
+        fn lubdhvani_permute(state: *mut u8, size: usize) -> u32;
+        fn lubdhvani_unpermute(state: *mut u8, size: usize) -> u32;
+        fn lubdhvani_digest(
+            instance: usize, message: *const u8, message_length: usize, out: *mut u8, room: usize,
+            calls: *mut usize,
+        ) -> u32;
+        fn lubdhvani_seal(
+            key: *const u8, key_length: usize, nonce: *const u8, nonce_length: usize,
+            associated: *const u8, associated_length: usize, message: *const u8, message_length: usize,
+            out: *mut u8, room: usize, seal: *mut u8, seal_length: usize, calls: *mut usize,
+        ) -> u32;
+        fn lubdhvani_open(
+            key: *const u8, key_length: usize, nonce: *const u8, nonce_length: usize,
+            associated: *const u8, associated_length: usize, cipher: *const u8, cipher_length: usize,
+            seal: *const u8, seal_length: usize, out: *mut u8, room: usize, calls: *mut usize,
+        ) -> u32;
+        fn lubdhvani_write(
+            key: *const u8, key_length: usize, nonce: *const u8, nonce_length: usize,
+            font: *const u8, font_length: usize, line: *const u8, line_length: usize,
+            frame: *mut u8, room: usize, length: *mut usize, calls: *mut usize,
+        ) -> u32;
+        fn lubdhvani_next_stretch(
+            stream: *const u8, stream_length: usize, from: usize, first: *mut usize, closing: *mut usize,
+        );
+        fn lubdhvani_read(
+            stream: *const u8, stream_length: usize, from: usize, key: *const u8, key_length: usize,
+            font: *const u8, font_length: usize, line: *mut u8, room: usize,
+            first: *mut usize, closing: *mut usize, length: *mut usize, calls: *mut usize,
+        ) -> u32;
+    }
+
+    // SAFETY, here and below: each pointer is to as many bytes as are said, and
+    // what is written is borrowed for writing, so that nothing else shares it.
+    pub fn permute(state: &mut [u8]) -> u32 {
+        unsafe { lubdhvani_permute(state.as_mut_ptr(), state.len()) }
+    }
+
+    pub fn unpermute(state: &mut [u8]) -> u32 {
+        unsafe { lubdhvani_unpermute(state.as_mut_ptr(), state.len()) }
+    }
+
+    /// Number and calls.
+    #[rustfmt::skip]
+    pub fn digest(instance: usize, message: &[u8], out: &mut [u8]) -> (u32, usize) {
+        let mut calls = 0;
+        let number = unsafe {
+            lubdhvani_digest(
+                instance, message.as_ptr(), message.len(), out.as_mut_ptr(), out.len(), &mut calls,
+            )
+        };
+        (number, calls)
+    }
+
+    /// Number and calls.
+    #[rustfmt::skip]
+    pub fn seal(
+        key: &[u8], nonce: &[u8], associated: &[u8], message: &[u8], out: &mut [u8], seal: &mut [u8],
+    ) -> (u32, usize) {
+        let mut calls = 0;
+        let number = unsafe {
+            lubdhvani_seal(
+                key.as_ptr(), key.len(), nonce.as_ptr(), nonce.len(),
+                associated.as_ptr(), associated.len(), message.as_ptr(), message.len(),
+                out.as_mut_ptr(), out.len(), seal.as_mut_ptr(), seal.len(), &mut calls,
+            )
+        };
+        (number, calls)
+    }
+
+    /// Number and calls.
+    #[rustfmt::skip]
+    pub fn open(
+        key: &[u8], nonce: &[u8], associated: &[u8], cipher: &[u8], seal: &[u8], out: &mut [u8],
+    ) -> (u32, usize) {
+        let mut calls = 0;
+        let number = unsafe {
+            lubdhvani_open(
+                key.as_ptr(), key.len(), nonce.as_ptr(), nonce.len(),
+                associated.as_ptr(), associated.len(), cipher.as_ptr(), cipher.len(),
+                seal.as_ptr(), seal.len(), out.as_mut_ptr(), out.len(), &mut calls,
+            )
+        };
+        (number, calls)
+    }
+
+    /// Number, the frame's length and calls.
+    #[rustfmt::skip]
+    pub fn write(
+        key: &[u8], nonce: &[u8], font: &[u8], line: &[u8], frame: &mut [u8],
+    ) -> (u32, usize, usize) {
+        let (mut length, mut calls) = (0, 0);
+        let number = unsafe {
+            lubdhvani_write(
+                key.as_ptr(), key.len(), nonce.as_ptr(), nonce.len(), font.as_ptr(), font.len(),
+                line.as_ptr(), line.len(), frame.as_mut_ptr(), frame.len(), &mut length, &mut calls,
+            )
+        };
+        (number, length, calls)
+    }
+
+    /// The next stretch itself, a part of the stream; empty where there is none.
+    pub fn next_stretch(stream: &[u8], from: usize) -> &[u8] {
+        let (mut first, mut closing) = (0, 0);
+        unsafe {
+            lubdhvani_next_stretch(
+                stream.as_ptr(),
+                stream.len(),
+                from,
+                &mut first,
+                &mut closing,
+            )
+        };
+        &stream[first..closing]
+    }
+
+    pub struct Reading {
+        pub number: u32,
+        pub first: usize,
+        pub closing: usize,
+        pub length: usize,
+        pub calls: usize,
+    }
+
+    #[rustfmt::skip]
+    pub fn read(stream: &[u8], from: usize, key: &[u8], font: &[u8], line: &mut [u8]) -> Reading {
+        let mut reading = Reading { number: 0, first: 0, closing: 0, length: 0, calls: 0 };
+        reading.number = unsafe {
+            lubdhvani_read(
+                stream.as_ptr(), stream.len(), from, key.as_ptr(), key.len(), font.as_ptr(), font.len(),
+                line.as_mut_ptr(), line.len(), &mut reading.first, &mut reading.closing,
+                &mut reading.length, &mut reading.calls,
+            )
+        };
+        reading
+    }
+}
+
+use lubdhvani::{BAD_SEAL, BAD_SHAPE, BAD_STUFFING, DONE, INSTANCE, OTHER_FONT, UNLISTED};
+use lubdhvani::{DIGEST, FRAME, KEY, LONGEST_LINE, NONCE, SEAL};
+
+/// What the composer and the press share, beside the font's digest.
+const THE_KEY: &[u8; KEY] = b"the press's key\0";
+const FONT_FILE: &[u8] = b"fourteen characters, all of one width";
+const OTHER_FONTS_DIGEST: &[u8; DIGEST] = b"a font with narrower digits\0\0\0\0\0";
+
+/// Counts the answers that are not as expected.
+struct Checks {
+    wrong: usize,
+}
+
+impl Checks {
+    fn check(&mut self, holds: bool, what: &str) {
+        if !holds {
+            println!("client-rust: WRONG: {}", what);
+            self.wrong += 1;
+        }
+    }
+
+    fn permutation(&mut self) {
+        let before = *b"thirty bytes are permitted....";
+        let mut state = before;
+        self.check(
+            lubdhvani::permute(&mut state) == DONE,
+            "30 bytes are permuted",
+        );
+        self.check(state != before, "the state has changed");
+        self.check(
+            lubdhvani::unpermute(&mut state) == DONE,
+            "30 bytes are permuted back",
+        );
+        self.check(state == before, "the inverse gives the state back");
+        let refused = lubdhvani::permute(&mut state[..28]);
+        self.check(
+            refused == INSTANCE && state == before,
+            "28 bytes are not permitted, and stay",
+        );
+    }
+
+    /// Of the empty message with instance 1, as `second kat hash 1` prints it.
+    fn digest(&mut self) {
+        let expected = "3D557E6335EBC069B13518F39D50ABD87BA7A67AE3C3EB9356FAD5189B2BA9F0";
+        let mut digest = [0; DIGEST];
+        let done = lubdhvani::digest(1, &[], &mut digest);
+        self.check(
+            done == (DONE, 33),
+            "the empty message is digested in 33 calls",
+        );
+        let hex: String = digest.iter().map(|byte| format!("{:02X}", byte)).collect();
+        self.check(hex == expected, "its digest");
+        let refused = lubdhvani::digest(11, &[], &mut digest);
+        self.check(refused == (INSTANCE, 0), "there is no instance 11");
+    }
+
+    fn seal(&mut self, font: &[u8]) {
+        let nonce: &[u8; NONCE] = b"never again.";
+        let message = b"0000012500B";
+        let (mut cipher, mut seal) = ([0; 11], [0; SEAL]);
+        let done = lubdhvani::seal(THE_KEY, nonce, font, message, &mut cipher, &mut seal);
+        self.check(done == (DONE, DIGEST + 11 + 4), "a message is sealed");
+
+        let mut back = [0xee; 12];
+        let done = lubdhvani::open(THE_KEY, nonce, font, &cipher, &seal, &mut back);
+        self.check(done == (DONE, DIGEST + 11 + 4), "it is opened");
+        self.check(
+            back[..11] == *message && back[11] == 0xee,
+            "the message comes back, alone",
+        );
+
+        seal[15] ^= 0x01;
+        let refused = lubdhvani::open(THE_KEY, nonce, font, &cipher, &seal, &mut back);
+        self.check(
+            refused == (BAD_SEAL, DIGEST + 11 + 4),
+            "a wrong seal is refused",
+        );
+        self.check(
+            back[..11] == [0; 11] && back[11] == 0xee,
+            "nothing of the message is left",
+        );
+    }
+
+    /// Twelve lines, each with what the link does to it; what it all becomes.
+    fn compose(&mut self, font: &[u8]) -> Vec<u8> {
+        let mut stream = vec![0x41, 0x00, 0x7e, 0x7d, 0x41]; // noise, with a mark in it
+        for (number, (line, damage)) in ORDERS.iter().enumerate() {
+            let mut nonce = [0; NONCE];
+            nonce[11] = number as u8; // a nonce is never used twice with one key
+            let its_font = match damage {
+                Damage::OtherFont => OTHER_FONTS_DIGEST,
+                _ => font,
+            };
+            let mut frame = [0; FRAME];
+            let (number, length, calls) =
+                lubdhvani::write(THE_KEY, &nonce, its_font, line.as_bytes(), &mut frame);
+            self.check(
+                number == DONE && calls == line.len() + 39,
+                "a line is written",
+            );
+            stream.extend(damaged(*damage, &frame[..length]));
+        }
+        stream.extend([0x01, 0x00, 0x0c]); // a frame that never came: no stretch
+        stream
+    }
+
+    /// Reads from place to place up to the end, and lists what is found.
+    fn press(&mut self, font: &[u8], stream: &[u8]) {
+        let mut found = Vec::new();
+        let mut place = 0;
+        loop {
+            let mut line = [b'#'; LONGEST_LINE];
+            let reading = lubdhvani::read(stream, place, THE_KEY, font, &mut line);
+            let stretch = lubdhvani::next_stretch(stream, place);
+            let same = stream.get(reading.first..reading.closing) == Some(stretch);
+            self.check(same, "next_stretch finds the stretch that was read");
+            let (given, rest) = line.split_at(reading.length);
+            let kept = rest.iter().all(|&byte| byte == b'#');
+            self.check(kept, "nothing is written but the line");
+
+            if reading.number == DONE && reading.length == 0 {
+                let at_end = reading.first == stream.len() && reading.closing == stream.len();
+                self.check(at_end, "the end of the stream is its length");
+                break;
+            }
+            let line = String::from_utf8_lossy(given).into_owned();
+            match reading.number {
+                DONE => println!("{:5}  line     {}", reading.first, line),
+                no => println!("{:5}  refused  {} {}", reading.first, no, meaning(no)),
+            }
+            found.push((reading.number, line));
+            if reading.first <= place || reading.closing <= reading.first {
+                return self.check(false, "reading goes on from stretch to stretch");
+            }
+            place = reading.closing;
+        }
+        let as_expected = found
+            .iter()
+            .map(|(no, line)| (*no, line.as_str()))
+            .eq(EXPECTED);
+        self.check(as_expected, "every stretch has its number and its line");
+
+        let printed = found.iter().filter(|row| row.0 == DONE).count();
+        let refused = found.len() - printed;
+        let sent = ORDERS.len();
+        println!("client-rust: {sent} lines sent, {printed} printed, {refused} stretches refused");
+    }
+}
+
+#[derive(Clone, Copy)]
+enum Damage {
+    Whole,
+    Flipped,
+    Lost,
+    Doubled,
+    NoOpening,
+    NoClosing,
+    OtherFont,
+}
+
+const ORDERS: [(&str, Damage); 12] = [
+    ("A123456780A 0012345678C 0000012500B", Damage::Whole),
+    ("A123456780A 0012345678C 0000009975B", Damage::Flipped),
+    ("A987654320A 4400012345C 0001000000B", Damage::Whole),
+    ("A987654320A 4400012345C 0000000001B", Damage::Lost),
+    ("A011000015A 1002003004C 0000420000B", Damage::Doubled),
+    ("A011000015A 1002003004C 0000000200B", Damage::Whole),
+    // No harm: the next line's opening mark closes it.
+    ("A123456780A 55D66D77C", Damage::NoClosing),
+    ("A123456780A 55D66D78C", Damage::Whole),
+    // These two run together.
+    ("A123456780A 55D66D79C", Damage::NoClosing),
+    ("A123456780A 55D66D80C", Damage::NoOpening),
+    ("A011000015A 9C", Damage::OtherFont),
+    ("7", Damage::Whole),
+];
+
+/// What the press must find. Noise comes before the first line.
+const EXPECTED: [(u32, &str); 12] = [
+    (BAD_STUFFING, ""),
+    (DONE, "A123456780A 0012345678C 0000012500B"),
+    (BAD_SEAL, ""),
+    (DONE, "A987654320A 4400012345C 0001000000B"),
+    (BAD_SHAPE, ""),
+    (BAD_SHAPE, ""),
+    (DONE, "A011000015A 1002003004C 0000000200B"),
+    (DONE, "A123456780A 55D66D77C"),
+    (DONE, "A123456780A 55D66D78C"),
+    (BAD_SHAPE, ""),
+    (OTHER_FONT, ""),
+    (DONE, "7"),
+];
+
+fn meaning(number: u32) -> &'static str {
+    match number {
+        BAD_SEAL => "wrong seal",
+        BAD_STUFFING => "bad stuffing",
+        BAD_SHAPE => "not a frame",
+        OTHER_FONT => "other font",
+        UNLISTED => "unlisted byte",
+        _ => "the call is refused",
+    }
+}
+
+/// Byte 5 of a frame is one of the nonce's.
+fn damaged(damage: Damage, frame: &[u8]) -> Vec<u8> {
+    let mut frame = frame.to_vec();
+    match damage {
+        Damage::Whole | Damage::OtherFont => {}
+        Damage::Flipped => frame[5] ^= 0x01,
+        Damage::Lost => drop(frame.remove(5)),
+        Damage::Doubled => frame.insert(5, frame[5]),
+        Damage::NoOpening => drop(frame.remove(0)),
+        Damage::NoClosing => drop(frame.pop()),
+    }
+    frame
+}
+
+fn main() {
+    let mut checks = Checks { wrong: 0 };
+    let mut font = [0; DIGEST];
+    let (number, _) = lubdhvani::digest(1, FONT_FILE, &mut font);
+    checks.check(number == DONE, "the font is digested");
+    checks.permutation();
+    checks.digest();
+    checks.seal(&font);
+    let stream = checks.compose(&font);
+    checks.press(&font, &stream);
+    if checks.wrong > 0 {
+        println!("client-rust: not as expected");
+        exit(1)
+    }
+    println!("client-rust: all as expected");
+}

@@ -1,0 +1,161 @@
+//! The calls of include/lubdhvani.h as data: what each takes and gives, what a
+//! case of it is, and what an answer is.
+
+use crate::memory::Stand;
+
+#[derive(Clone, Copy, Debug, PartialEq, Eq)]
+pub enum Call {
+    Permute,
+    Unpermute,
+    Digest,
+    Seal,
+    Open,
+    Write,
+    NextStretch,
+    Read,
+}
+
+pub const CALLS: [Call; 8] = [
+    Call::Permute,
+    Call::Unpermute,
+    Call::Digest,
+    Call::Seal,
+    Call::Open,
+    Call::Write,
+    Call::NextStretch,
+    Call::Read,
+];
+
+/// What the header says of a call. Buffers stand in the header's order; the
+/// last `written` of them are the ones it may write.
+pub struct Signature {
+    pub name: &'static str,
+    /// The argument that is a plain number.
+    pub number: Option<&'static str>,
+    pub buffers: &'static [&'static str],
+    pub written: usize,
+    /// The numbers that go out through pointers.
+    pub outs: &'static [&'static str],
+    /// Every answer it can give: a test that misses one has not tested it.
+    pub outcomes: &'static [&'static str],
+}
+
+impl Call {
+    pub fn signature(self) -> &'static Signature {
+        match self {
+            Call::Permute => &Signature {
+                name: "lubdhvani_permute",
+                number: None,
+                buffers: &["state"],
+                written: 1,
+                outs: &[],
+                outcomes: &["0", "1"],
+            },
+            Call::Unpermute => &Signature {
+                name: "lubdhvani_unpermute",
+                number: None,
+                buffers: &["state"],
+                written: 1,
+                outs: &[],
+                outcomes: &["0", "1"],
+            },
+            Call::Digest => &Signature {
+                name: "lubdhvani_digest",
+                number: Some("instance"),
+                buffers: &["message", "out"],
+                written: 1,
+                outs: &["calls"],
+                outcomes: &["0", "1", "3", "4"],
+            },
+            Call::Seal => &Signature {
+                name: "lubdhvani_seal",
+                number: None,
+                buffers: &["key", "nonce", "associated", "message", "out", "seal"],
+                written: 2,
+                outs: &["calls"],
+                outcomes: &["0", "2", "3", "4"],
+            },
+            Call::Open => &Signature {
+                name: "lubdhvani_open",
+                number: None,
+                buffers: &["key", "nonce", "associated", "cipher", "seal", "out"],
+                written: 1,
+                outs: &["calls"],
+                outcomes: &["0", "2", "3", "4", "5"],
+            },
+            Call::Write => &Signature {
+                name: "lubdhvani_write",
+                number: None,
+                buffers: &["key", "nonce", "font", "line", "frame"],
+                written: 1,
+                outs: &["length", "calls"],
+                outcomes: &["0", "2", "3", "9", "4"],
+            },
+            Call::NextStretch => &Signature {
+                name: "lubdhvani_next_stretch",
+                number: Some("from"),
+                buffers: &["stream"],
+                written: 0,
+                outs: &["first", "closing"],
+                outcomes: &["stretch", "none"],
+            },
+            Call::Read => &Signature {
+                name: "lubdhvani_read",
+                number: Some("from"),
+                buffers: &["stream", "key", "font", "line"],
+                written: 1,
+                outs: &["first", "closing", "length", "calls"],
+                outcomes: &["line", "end", "2", "3", "4", "10", "7", "6", "8", "5", "9"],
+            },
+        }
+    }
+}
+
+/// A buffer to lend: its bytes before the call, then `more` zeros where its
+/// length shall not fit 32 bits, and where it stands.
+pub struct Buffer {
+    pub bytes: Vec<u8>,
+    pub more: usize,
+    pub stand: Stand,
+}
+
+impl Buffer {
+    pub fn length(&self) -> usize {
+        self.bytes.len() + self.more
+    }
+}
+
+pub struct Case {
+    pub call: Call,
+    /// The instance or the place asked for; else 0.
+    pub number: usize,
+    pub buffers: Vec<Buffer>,
+    /// What stands in every number that goes out, before the call.
+    pub before: usize,
+}
+
+/// What a call leaves behind. `number` is 0 where the call returns none.
+#[derive(PartialEq, Eq)]
+pub struct Answer {
+    pub number: u32,
+    pub outs: Vec<usize>,
+    /// The bytes of every buffer, in order.
+    pub after: Vec<Vec<u8>>,
+    /// Names of buffers and numbers beside which something was written.
+    pub strayed: Vec<&'static str>,
+}
+
+impl Answer {
+    /// The answer's name among its call's outcomes.
+    pub fn outcome(&self, call: Call) -> String {
+        match (call, &self.outs[..]) {
+            (Call::NextStretch, [first, closing]) if first < closing => "stretch".to_string(),
+            (Call::NextStretch, _) => "none".to_string(),
+            (Call::Read, [_, _, length, _]) if self.number == 0 && *length > 0 => {
+                "line".to_string()
+            }
+            (Call::Read, _) if self.number == 0 => "end".to_string(),
+            _ => self.number.to_string(),
+        }
+    }
+}

@@ -1,0 +1,226 @@
+//! A case answered by the static library, through include/lubdhvani.h.
+
+use crate::calls::{Answer, Call, Case};
+use crate::memory::{Ground, Put, Slot, Stand};
+
+#[link(name = "lubdhvani", kind = "static")]
+extern "C" {
+    fn lubdhvani_permute(state: *mut u8, size: usize) -> u32;
+    fn lubdhvani_unpermute(state: *mut u8, size: usize) -> u32;
+    fn lubdhvani_digest(
+        instance: usize,
+        message: *const u8,
+        message_length: usize,
+        out: *mut u8,
+        room: usize,
+        calls: *mut usize,
+    ) -> u32;
+    fn lubdhvani_seal(
+        key: *const u8,
+        key_length: usize,
+        nonce: *const u8,
+        nonce_length: usize,
+        associated: *const u8,
+        associated_length: usize,
+        message: *const u8,
+        message_length: usize,
+        out: *mut u8,
+        room: usize,
+        seal: *mut u8,
+        seal_length: usize,
+        calls: *mut usize,
+    ) -> u32;
+    fn lubdhvani_open(
+        key: *const u8,
+        key_length: usize,
+        nonce: *const u8,
+        nonce_length: usize,
+        associated: *const u8,
+        associated_length: usize,
+        cipher: *const u8,
+        cipher_length: usize,
+        seal: *const u8,
+        seal_length: usize,
+        out: *mut u8,
+        room: usize,
+        calls: *mut usize,
+    ) -> u32;
+    fn lubdhvani_write(
+        key: *const u8,
+        key_length: usize,
+        nonce: *const u8,
+        nonce_length: usize,
+        font: *const u8,
+        font_length: usize,
+        line: *const u8,
+        line_length: usize,
+        frame: *mut u8,
+        room: usize,
+        length: *mut usize,
+        calls: *mut usize,
+    ) -> u32;
+    fn lubdhvani_next_stretch(
+        stream: *const u8,
+        stream_length: usize,
+        from: usize,
+        first: *mut usize,
+        closing: *mut usize,
+    );
+    fn lubdhvani_read(
+        stream: *const u8,
+        stream_length: usize,
+        from: usize,
+        key: *const u8,
+        key_length: usize,
+        font: *const u8,
+        font_length: usize,
+        line: *mut u8,
+        room: usize,
+        first: *mut usize,
+        closing: *mut usize,
+        length: *mut usize,
+        calls: *mut usize,
+    ) -> u32;
+}
+
+/// Memory for every buffer of a call, and a vast one.
+pub struct Grounds {
+    pub each: Vec<Ground>,
+    pub vast: Ground,
+}
+
+/// Puts every buffer of the case into memory, calls, and looks at all of it.
+pub fn answer(case: &Case, grounds: &mut Grounds) -> Answer {
+    let signature = case.call.signature();
+    let mut puts: Vec<Put> = Vec::new();
+    for (buffer, ground) in case.buffers.iter().zip(&mut grounds.each) {
+        let put = match buffer.stand {
+            _ if buffer.more > 0 => grounds.vast.put_vast(&buffer.bytes, buffer.more),
+            Stand::Nowhere(address) => Put::nowhere(address),
+            Stand::Within(other, from) => puts[other].part(from, buffer.bytes.len()),
+            stand => ground.put(&buffer.bytes, stand),
+        };
+        puts.push(put);
+    }
+    let mut slots: Vec<Slot> = signature
+        .outs
+        .iter()
+        .map(|_| Slot::new(case.before))
+        .collect();
+    let pointers: Vec<*mut usize> = slots.iter_mut().map(Slot::pointer).collect();
+
+    // SAFETY: what the header asks for. Each pointer is to as many bytes as are
+    // said, the written ones to memory of their own.
+    let number = unsafe { called(case, &puts, &pointers) };
+
+    let mut strayed = Vec::new();
+    let mut after = Vec::new();
+    for (index, (buffer, ground)) in case.buffers.iter().zip(&mut grounds.each).enumerate() {
+        let (bytes, kept) = match buffer.stand {
+            _ if buffer.more > 0 => grounds.vast.left_vast(buffer.bytes.len()),
+            Stand::Nowhere(_) => (Vec::new(), true),
+            // SAFETY: part of an earlier buffer, which still stands.
+            Stand::Within(..) => (unsafe { puts[index].bytes() }.to_vec(), true),
+            _ => ground.left(&puts[index]),
+        };
+        after.push(bytes);
+        if !kept {
+            strayed.push(signature.buffers[index]);
+        }
+    }
+    let mut outs = Vec::new();
+    for (slot, name) in slots.iter().zip(signature.outs) {
+        let (number, kept) = slot.left();
+        outs.push(number);
+        if !kept {
+            strayed.push(name);
+        }
+    }
+    Answer {
+        number,
+        outs,
+        after,
+        strayed,
+    }
+}
+
+unsafe fn called(case: &Case, puts: &[Put], outs: &[*mut usize]) -> u32 {
+    match (case.call, puts, outs) {
+        (Call::Permute, [state], []) => lubdhvani_permute(state.at, state.length),
+        (Call::Unpermute, [state], []) => lubdhvani_unpermute(state.at, state.length),
+        (Call::Digest, [message, out], &[calls]) => lubdhvani_digest(
+            case.number,
+            message.at,
+            message.length,
+            out.at,
+            out.length,
+            calls,
+        ),
+        (Call::Seal, [key, nonce, associated, message, out, seal], &[calls]) => lubdhvani_seal(
+            key.at,
+            key.length,
+            nonce.at,
+            nonce.length,
+            associated.at,
+            associated.length,
+            message.at,
+            message.length,
+            out.at,
+            out.length,
+            seal.at,
+            seal.length,
+            calls,
+        ),
+        (Call::Open, [key, nonce, associated, cipher, seal, out], &[calls]) => lubdhvani_open(
+            key.at,
+            key.length,
+            nonce.at,
+            nonce.length,
+            associated.at,
+            associated.length,
+            cipher.at,
+            cipher.length,
+            seal.at,
+            seal.length,
+            out.at,
+            out.length,
+            calls,
+        ),
+        (Call::Write, [key, nonce, font, line, frame], &[length, calls]) => lubdhvani_write(
+            key.at,
+            key.length,
+            nonce.at,
+            nonce.length,
+            font.at,
+            font.length,
+            line.at,
+            line.length,
+            frame.at,
+            frame.length,
+            length,
+            calls,
+        ),
+        (Call::NextStretch, [stream], &[first, closing]) => {
+            lubdhvani_next_stretch(stream.at, stream.length, case.number, first, closing);
+            0
+        }
+        (Call::Read, [stream, key, font, line], &[first, closing, length, calls]) => {
+            lubdhvani_read(
+                stream.at,
+                stream.length,
+                case.number,
+                key.at,
+                key.length,
+                font.at,
+                font.length,
+                line.at,
+                line.length,
+                first,
+                closing,
+                length,
+                calls,
+            )
+        }
+        _ => unreachable!("a case has its call's buffers"),
+    }
+}

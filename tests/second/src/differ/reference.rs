@@ -1,0 +1,66 @@
+//! A case answered by the second program.
+
+use crate::calls::{Answer, Call, Case};
+use crate::memory::Ground;
+use second::reader::{read, Told};
+use second::{cipher, digest, frame, permutation, stream};
+
+pub fn answer(case: &Case, vast: &mut Ground) -> Answer {
+    let mut own: Vec<Vec<u8>> = case.buffers.iter().map(|b| b.bytes.clone()).collect();
+    let mut lent: Vec<&mut [u8]> = own.iter_mut().map(|bytes| &mut bytes[..]).collect();
+    let its_vast = case.buffers.iter().position(|buffer| buffer.more > 0);
+    if let Some(which) = its_vast {
+        let buffer = &case.buffers[which];
+        // SAFETY: nothing else looks at the vast ground before the answer.
+        lent[which] = unsafe { vast.put_vast(&buffer.bytes, buffer.more).bytes() };
+    }
+    let (number, outs) = answered(case, &mut lent);
+    if let Some(which) = its_vast {
+        own[which] = vast.left_vast(case.buffers[which].bytes.len()).0;
+    }
+    Answer {
+        number,
+        outs,
+        after: own,
+        strayed: Vec::new(),
+    }
+}
+
+fn answered(case: &Case, lent: &mut [&mut [u8]]) -> (u32, Vec<usize>) {
+    match (case.call, lent) {
+        (Call::Permute, [state]) => (permutation::permute(state).into(), vec![]),
+        (Call::Unpermute, [state]) => (permutation::unpermute(state).into(), vec![]),
+        (Call::Digest, [message, out]) => {
+            let counted = digest::digest(case.number, message, out);
+            (counted.number.into(), vec![counted.count])
+        }
+        (Call::Seal, [key, nonce, associated, message, out, seal]) => {
+            let counted = cipher::seal(key, nonce, associated, message, out, seal);
+            (counted.number.into(), vec![counted.count])
+        }
+        (Call::Open, [key, nonce, associated, ciphertext, seal, out]) => {
+            let counted = cipher::open(key, nonce, associated, ciphertext, seal, out);
+            (counted.number.into(), vec![counted.count])
+        }
+        (Call::Write, [key, nonce, font, line, out]) => {
+            let written = frame::write(key, nonce, font, line, out);
+            (written.number.into(), vec![written.length, written.count])
+        }
+        (Call::NextStretch, [stream]) => {
+            let part = stream::next_stretch(stream, case.number);
+            (0, vec![part.first, part.first + part.length])
+        }
+        (Call::Read, [stream, key, digest, line]) => {
+            let told = Told { key, digest };
+            let reading = read(told, stream, case.number, line);
+            let outs = vec![
+                reading.first,
+                reading.closing,
+                reading.length,
+                reading.count,
+            ];
+            (reading.number.into(), outs)
+        }
+        _ => unreachable!("a case has its call's buffers"),
+    }
+}

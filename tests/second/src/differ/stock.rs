@@ -1,0 +1,262 @@
+//! Sealed texts and frames to choose from. Sealing is slow here, so a stock is
+//! made once for every `SERVES` calls, from the seed and its own number alone.
+
+use crate::chance::Chance;
+use second::cipher::{encrypt, INSTANCE_1};
+use second::frame::{field, framed, Fields, TAG_DIGEST, TAG_LINE, TAG_NONCE, TAG_SEAL};
+use second::numbers::{DIGEST, KEY, LINE_MOST, NONCE};
+use second::readings::PRODUCT;
+use second::stuffing::{stuff, ESCAPE, MARK};
+
+/// Calls that take from one stock.
+pub const SERVES: u64 = 2048;
+
+const TEXTS: usize = 24;
+const FRAMES: usize = 64;
+
+/// The bytes that stuffing is about.
+pub const STUFFING: [u8; 4] = [MARK, ESCAPE, 0x5e, 0x5d];
+
+/// A text sealed under the stock's key.
+pub struct Text {
+    pub nonce: Vec<u8>,
+    pub associated: Vec<u8>,
+    pub ciphertext: Vec<u8>,
+    pub seal: Vec<u8>,
+}
+
+pub struct Stock {
+    pub key: Vec<u8>,
+    pub font: Vec<u8>,
+    pub other_key: Vec<u8>,
+    pub other_font: Vec<u8>,
+    pub texts: Vec<Text>,
+    /// Frames of the writer, under the key and the font.
+    pub good: Vec<Vec<u8>>,
+    /// Frames with something wrong that their marks and stuffing don't show.
+    pub wrong: Vec<Vec<u8>>,
+}
+
+impl Stock {
+    pub fn of(seed: u64, number: u64) -> Stock {
+        let chance = &mut Chance::of(!seed, number);
+        let (key, font) = (chance.bytes(KEY), stuffy(chance, DIGEST));
+        let (mut other_key, mut other_font) = (key.clone(), font.clone());
+        flip(chance, &mut other_key);
+        flip(chance, &mut other_font);
+        let mut stock = Stock {
+            key,
+            font,
+            other_key,
+            other_font,
+            texts: Vec::new(),
+            good: Vec::new(),
+            wrong: Vec::new(),
+        };
+        for _ in 0..TEXTS {
+            let text = stock.text(chance);
+            stock.texts.push(text);
+        }
+        for index in 0..FRAMES {
+            if index % 2 == 0 {
+                let fields = stock.fields(chance);
+                stock.good.push(framed(&fields.body()));
+            } else {
+                let frame = stock.wrong_frame(chance);
+                stock.wrong.push(frame);
+            }
+        }
+        stock
+    }
+
+    fn text(&self, chance: &mut Chance) -> Text {
+        let nonce = chance.bytes(NONCE);
+        let (a, p) = (chance.below(20), chance.below(24));
+        let (associated, message) = (chance.bytes(a), chance.bytes(p));
+        let (ciphertext, seal, _) = encrypt(
+            &PRODUCT,
+            &INSTANCE_1,
+            &self.key,
+            &nonce,
+            &associated,
+            &message,
+        );
+        Text {
+            nonce,
+            associated,
+            ciphertext,
+            seal,
+        }
+    }
+
+    fn fields(&self, chance: &mut Chance) -> Fields {
+        let line = line(chance);
+        self.fields_of(chance, &line)
+    }
+
+    fn fields_of(&self, chance: &mut Chance, line: &[u8]) -> Fields {
+        let nonce = stuffy(chance, NONCE);
+        Fields::sealing(&self.key, &nonce, &self.font, line).0
+    }
+
+    /// Sealed as it should be, over a line that no writer takes.
+    fn fields_unlisted(&self, chance: &mut Chance) -> Fields {
+        let mut line = line(chance);
+        spoil(chance, &mut line);
+        self.fields_of(chance, &line)
+    }
+
+    /// Sealed as it should be, but to the digest of another font.
+    fn fields_other_font(&self, chance: &mut Chance) -> Fields {
+        let (nonce, line) = (stuffy(chance, NONCE), line(chance));
+        Fields::sealing(&self.key, &nonce, &self.other_font, &line).0
+    }
+
+    fn wrong_frame(&self, chance: &mut Chance) -> Vec<u8> {
+        match chance.below(18) {
+            0 => {
+                let (nonce, line) = (stuffy(chance, NONCE), line(chance));
+                framed(
+                    &Fields::sealing(&self.other_key, &nonce, &self.font, &line)
+                        .0
+                        .body(),
+                )
+            }
+            1 => framed(&self.fields_other_font(chance).body()),
+            2..=4 => framed(&self.fields_unlisted(chance).body()),
+            // 5 comes before 9, and 8 before 5.
+            5 => {
+                let mut fields = self.fields_unlisted(chance);
+                flip(chance, &mut fields.seal);
+                framed(&fields.body())
+            }
+            6 => {
+                let mut fields = self.fields_other_font(chance);
+                flip(chance, &mut fields.seal);
+                framed(&fields.body())
+            }
+            7 => {
+                let mut fields = self.fields(chance);
+                flip(chance, &mut fields.seal);
+                framed(&fields.body())
+            }
+            8 => {
+                let mut fields = self.fields(chance);
+                flip(chance, &mut fields.nonce);
+                framed(&fields.body())
+            }
+            9 => {
+                let mut fields = self.fields(chance);
+                flip(chance, &mut fields.ciphertext);
+                framed(&fields.body())
+            }
+            // Fields exchanged, doubled, left out.
+            10 | 11 => {
+                let mut whole = whole_fields(&self.fields(chance)).to_vec();
+                let one = chance.below(4);
+                match chance.below(3) {
+                    0 => whole.swap(one, (one + 1) % 4),
+                    1 => whole.insert(one, whole[one].clone()),
+                    _ => drop(whole.remove(one)),
+                }
+                framed(&whole.concat())
+            }
+            // A tag or a length changed.
+            12 | 13 => {
+                let fields = self.fields(chance);
+                let mut body = fields.body();
+                let places: Vec<usize> = whole_fields(&fields)
+                    .iter()
+                    .scan(0, |place, field| {
+                        *place += field.len();
+                        Some(*place - field.len())
+                    })
+                    .collect();
+                let tag = chance.one_of(&places);
+                body[tag + chance.below(3)] ^= chance.one_of(&[1, 2, 3, 4, 0x10, 0x80]);
+                framed(&body)
+            }
+            // Field 03 of a length that no line has, sealed as it should be.
+            14 => {
+                let length = chance.one_of(&[0, 66, 67, 256]);
+                framed(&self.fields_of(chance, &vec![b'5'; length]).body())
+            }
+            15 => {
+                let mut body = self.fields(chance).body();
+                let more = chance.between(1, 5);
+                body.extend(chance.bytes(more));
+                framed(&body)
+            }
+            16 => {
+                let mut body = self.fields(chance).body();
+                body.truncate(chance.between(1, body.len() - 1));
+                framed(&body)
+            }
+            // A byte escaped that is no mark and no escape.
+            _ => {
+                let body = self.fields(chance).body();
+                let at = chance.below(body.len());
+                let mut frame = vec![MARK];
+                frame.extend(stuff(&body[..at]));
+                frame.extend([ESCAPE, body[at] ^ 0x20]);
+                frame.extend(stuff(&body[at + 1..]));
+                frame.push(MARK);
+                frame
+            }
+        }
+    }
+}
+
+fn whole_fields(fields: &Fields) -> [Vec<u8>; 4] {
+    [
+        field(TAG_NONCE, &fields.nonce),
+        field(TAG_DIGEST, &fields.digest),
+        field(TAG_LINE, &fields.ciphertext),
+        field(TAG_SEAL, &fields.seal),
+    ]
+}
+
+/// A line of listed bytes, mostly short.
+pub fn line(chance: &mut Chance) -> Vec<u8> {
+    let length = match chance.below(12) {
+        0 => 1,
+        1 => chance.between(LINE_MOST - 1, LINE_MOST),
+        2 => chance.between(1, LINE_MOST),
+        _ => chance.between(1, 14),
+    };
+    (0..length)
+        .map(|_| chance.one_of(b"0123456789ABCD "))
+        .collect()
+}
+
+/// Puts a byte into the line that is not listed: mostly one next to those that
+/// are.
+pub fn spoil(chance: &mut Chance, line: &mut [u8]) {
+    let at = chance.below(line.len());
+    let beside = chance.one_of(b"\x1f\x21\x2f\x3a\x40E\0\xff~}abcd");
+    let any = chance.byte();
+    line[at] = if second::line::listed(any) {
+        beside
+    } else {
+        chance.one_of(&[any, beside])
+    };
+}
+
+/// Bytes with many marks and escapes among them, so that much is stuffed.
+pub fn stuffy(chance: &mut Chance, length: usize) -> Vec<u8> {
+    let often = chance.one_of(&[1, 2, 5, 100]);
+    (0..length)
+        .map(|_| {
+            if chance.once_in(often) {
+                chance.one_of(&STUFFING)
+            } else {
+                chance.byte()
+            }
+        })
+        .collect()
+}
+
+pub fn flip(chance: &mut Chance, bytes: &mut [u8]) {
+    let at = chance.below(bytes.len());
+    bytes[at] ^= 1 << chance.below(8);
+}
