@@ -12,33 +12,15 @@ fn say(text: &[u8]) {
     io::write_all(STDOUT_FILENO, text);
 }
 
-fn byte(x: u8) {
-    io::print_hex(STDOUT_FILENO, x as u64, 2);
-}
-
 fn number(n: usize) {
     io::print_decimal(STDOUT_FILENO, n as u64);
 }
 
 fn hex(bytes: &[u8]) {
-    let mut i = 0;
-    while i < bytes.len() {
-        byte(bytes[i]);
-        i += 1;
-    }
-}
-
-// Byte i of a message of n bytes is 7*i + n, mod 256.
-fn fill(message: &mut [u8], n: usize) {
-    let mut x = (n % 256) as u8;
-    let mut i = 0;
-    while i < n {
-        if i >= message.len() {
-            return;
-        }
-        message[i] = x;
-        x = std::num::wrapping_add_u8(x, 7);
-        i += 1;
+    let mut digits = [0u8; 128];
+    let n = text::put_hex(bytes, &mut digits);
+    if n <= digits.len() {
+        say(&digits[0..n]);
     }
 }
 
@@ -81,12 +63,12 @@ fn show_refused(instance: usize, length: usize, room: usize, answer: Digested) {
     say(b"\n");
 }
 
-// The digest of the message of that length.
+// The digest of the message of n bytes, whose byte i is 7*i + n.
 fn tried(instance: usize, message: &mut [u8], length: usize, out: &mut [u8]) -> Digested {
     if length > message.len() {
         return Digested::TooLong;
     }
-    fill(message, length);
+    ramp::fill(&mut message[0..length], (length % 256) as u8, 7);
     digest::digest(instance, &message[0..length], out)
 }
 

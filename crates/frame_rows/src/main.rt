@@ -50,53 +50,11 @@ fn cell(n: usize) {
     say(b" ");
 }
 
-fn byte(x: u8) {
-    io::print_hex(STDOUT_FILENO, x as u64, 2);
-}
-
 fn hex(bytes: &[u8]) {
-    let mut i = 0;
-    while i < bytes.len() {
-        byte(bytes[i]);
-        i += 1;
-    }
-}
-
-fn number_of(answer: Written) -> usize {
-    match answer {
-        Written::Done {
-            length: _,
-            calls: _,
-        } => 0,
-        Written::Sizes => 2,
-        Written::TooLong => 3,
-        Written::Unlisted => 9,
-        Written::NoRoom => 4,
-    }
-}
-
-fn length_of(answer: Written) -> usize {
-    match answer {
-        Written::Done { length, calls: _ } => length,
-        _ => 0,
-    }
-}
-
-fn count_of(answer: Written) -> usize {
-    match answer {
-        Written::Done { length: _, calls } => calls,
-        _ => 0,
-    }
-}
-
-// Byte i is start + step*i, mod 256.
-fn ramp(out: &mut [u8], start: usize, step: u8) {
-    let mut x = (start % 256) as u8;
-    let mut i = 0;
-    while i < out.len() {
-        out[i] = x;
-        x = std::num::wrapping_add_u8(x, step);
-        i += 1;
+    let mut digits = [0u8; 2 * FRAME_ROOM];
+    let n = text::put_hex(bytes, &mut digits);
+    if n <= digits.len() {
+        say(&digits[0..n]);
     }
 }
 
@@ -128,9 +86,9 @@ fn tried(seed: u8, case: Case, frame: &mut [u8]) -> Written {
     let mut digest = [0u8; LONGEST_DIGEST];
     let mut line = [0u8; LONGEST_LINE];
     let seed = seed as usize;
-    ramp(&mut key, 0x10, 1);
-    ramp(&mut nonce, seed * 17, 29);
-    ramp(&mut digest, seed * 5, 3);
+    ramp::fill(&mut key, 0x10, 1);
+    ramp::fill(&mut nonce, (seed * 17 % 256) as u8, 29);
+    ramp::fill(&mut digest, (seed * 5 % 256) as u8, 3);
     listed(&mut line, seed);
     put_first(&mut line, case.byte);
     let k = case.key;
@@ -166,13 +124,13 @@ fn accepted(line: usize) -> Case {
 fn write_row(seed: u8, line: usize) {
     let mut out = [0u8; FRAME_ROOM];
     let answer = tried(seed, accepted(line), &mut out);
-    let length = length_of(answer);
+    let length = values::written_length(answer);
     say(b"write ");
     cell(seed as usize);
     cell(line);
-    cell(number_of(answer));
+    cell(values::written_number(answer));
     cell(length);
-    cell(count_of(answer));
+    cell(values::written_calls(answer));
     if length <= FRAME_ROOM {
         hex(&out[0..length]);
     }
@@ -209,7 +167,7 @@ fn refused(case: Case, room: usize) {
         say(b"- ");
     }
     cell(room);
-    io::print_decimal(STDOUT_FILENO, number_of(answer) as u64);
+    io::print_decimal(STDOUT_FILENO, values::written_number(answer) as u64);
     say(b"\n");
 }
 

@@ -47,11 +47,7 @@ fn count(n: usize) {
 // 00 01 02 ..
 fn ramp() -> [u8; LONGEST_MESSAGE] {
     let mut bytes = [0u8; LONGEST_MESSAGE];
-    let mut i = 0;
-    while i < LONGEST_MESSAGE {
-        bytes[i] = (i % 256) as u8;
-        i += 1;
-    }
+    ramp::fill(&mut bytes, 0, 1);
     bytes
 }
 

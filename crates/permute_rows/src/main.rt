@@ -14,36 +14,23 @@ fn say(text: &[u8]) {
     io::write_all(STDOUT_FILENO, text);
 }
 
-fn byte(x: u8) {
-    io::print_hex(STDOUT_FILENO, x as u64, 2);
-}
-
 fn number(n: usize) {
     io::print_decimal(STDOUT_FILENO, n as u64);
 }
 
-// The first n bytes.
-fn hex(bytes: &[u8], n: usize) {
-    let mut i = 0;
-    while i < bytes.len() {
-        if i >= n {
-            return;
-        }
-        byte(bytes[i]);
-        i += 1;
+// The first n bytes of a state.
+fn hex(state: [u8; LARGEST], n: usize) {
+    let mut digits = [0u8; 2 * LARGEST];
+    if n <= LARGEST {
+        text::put_hex(&state, &mut digits);
+        say(&digits[0..2 * n]);
     }
 }
 
 // Byte i of the ramp is 31*i + n, mod 256.
 fn ramp(n: usize) -> [u8; LARGEST] {
     let mut s = [0u8; LARGEST];
-    let mut x = (n % 256) as u8;
-    let mut i = 0;
-    while i < LARGEST {
-        s[i] = x;
-        x = std::num::wrapping_add_u8(x, 31);
-        i += 1;
-    }
+    ramp::fill(&mut s, (n % 256) as u8, 31);
     s
 }
 
@@ -55,14 +42,14 @@ fn rows(n: usize, kind: &[u8], s: [u8; LARGEST]) {
     say(kind);
     say(b" ");
     let there = gage::permute(s, n).state;
-    hex(&there, n);
+    hex(there, n);
     say(b"\nunpermute ");
     number(n);
     say(b" ");
     say(kind);
     say(b" ");
     let back = gage::unpermute(s, n).state;
-    hex(&back, n);
+    hex(back, n);
     say(b"\n");
 }
 
@@ -85,27 +72,16 @@ fn number_of(answer: Answer) -> usize {
     }
 }
 
-// Whether two states are the same.
-fn same(a: [u8; LARGEST], b: [u8; LARGEST]) -> bool {
-    let mut i = 0;
-    while i < LARGEST {
-        if a[i] != b[i] {
-            return false;
-        }
-        i += 1;
-    }
-    true
-}
-
 fn refused(n: usize) {
-    let p = gage::permute(ramp(n), n);
+    let before = ramp(n);
+    let p = gage::permute(before, n);
     let answer = p.answer;
-    let state = p.state;
+    let after = p.state;
     say(b"refused ");
     number(n);
     say(b" ");
     number(number_of(answer));
-    if same(state, ramp(n)) {
+    if lists::compare(&before, &after) {
         say(b" same\n");
     } else {
         say(b" changed\n");

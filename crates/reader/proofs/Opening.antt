@@ -1,18 +1,18 @@
--- What each answer of `open` says of sealed fields, opened into a buffer for the longest line. Assumes nothing.
+-- What each answer of `open` says of sealed fields, opened into a buffer no longer than the line's. Assumes nothing.
 use mathlib.Core.Path.{_≡_, refl, sym, ap, subst, _∙_}
 use mathlib.Core.Bool.{Bool, true, false, not, cond}
 use mathlib.Core.Logic.{_⊎_, inl, inr, ⊎-elim}
 use mathlib.Core.List.{List, [], _∷_}
 use Prim.Native.Nat.{ℕ, _-_, _≤_}
 use native.Mathlib.Omega.{arith}
-use lib.ListN.{length, take, drop, replicate}
+use lib.ListN.{length, take, drop}
 use lib.Seq.{take-at, take-all}
 use denote.Enum.Declared.{tagOf}
 use types.Run.{OneOf}
 use Rattle.lists.specs.Buffers.{over, copied, cleared, same}
 use Rattle.line.specs.declared.Judged as line-judged
 use Rattle.line.specs.declared.Judged.the-variants.{Accepted, Unlisted}
-use Rattle.line.specs.Lines.{longest, lineRule}
+use Rattle.line.specs.Lines.{lineRule}
 use Rattle.ingage.specs.declared.Opened.{Opened}
 use Rattle.ingage.specs.declared.Opened.the-variants as opened
 use Rattle.ingage.specs.Instances.{first, first-fits}
@@ -27,10 +27,7 @@ use Rattle.reader.specs.Judged.{Judged, seal, unlisted, line}
 use Rattle.reader.specs.Judging.{judgeWork, judgeSealed}
 use Rattle.reader.proofs.Shown.{Shows, shown}
 
-module _ (key nonce A C T : List ℕ) (w : Within first key nonce A C T (replicate longest 0)) where
-  abbrev room : List ℕ
-  room = replicate longest 0
-
+module _ (key nonce A C T : List ℕ) {room : List ℕ} (w : Within first key nonce A C T room) where
   abbrev work : Work
   work = decrypted first key nonce A C
 
@@ -118,7 +115,7 @@ module _ (key nonce A C T : List ℕ) (w : Within first key nonce A C T (replica
 
       -- the line is as long as the ciphertext, and copied whole
       pub gives : (p : Span) (j : line-judged.Judged) → j ≡ lineRule lent → j ≡ Accepted
-          → (l l′ : List ℕ) → longest ≤ length l → l′ ≡ copied lent l
+          → (l l′ : List ℕ) → length room ≤ length l → l′ ≡ copied lent l
           → Shows p (judgeSealed key nonce A C T) l (answer-is.Line (p .first) (p .closing) (length C) n) l′
       gives p j x y l l′ h c =
           let m = shown p (judgeSealed key nonce A C T) l (line (work .text) n) (told-line j x y) in

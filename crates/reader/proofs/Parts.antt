@@ -4,7 +4,7 @@ use mathlib.Core.Bool.{true, false}
 use mathlib.Core.List.{List}
 use Prim.Native.Nat.{ℕ, _+_, _-_}
 use native.Mathlib.Omega.{arith}
-use lib.ListN.{length, take, drop, replicate}
+use lib.ListN.{length, take, drop}
 use Rattle.lists.specs.Below.{Below}
 use Rattle.lists.specs.Buffers.{same}
 use Rattle.line.specs.Lines.{longest}
@@ -88,8 +88,8 @@ module _ (t : Told) (b : List ℕ) (n : ℕ) (p : Parts b n) where
   its-font e = ap (judgeFields t) (p .fields-are) ∙ rw (e, p .associated-is)
 
   -- what `open` asks of them
-  pub within : Sizes t → Within first (t .key) (nonceIn b) (associatedIn b) (cipherIn n b) (sealIn n b) (replicate longest 0)
-  within z =
+  pub within : Sizes t → (o : List ℕ) → length o ≡ longest → Within first (t .key) (nonceIn b) (associatedIn b) (cipherIn n b) (sealIn n b) o
+  within z o l =
       let y = p .sized in
       record {
         key-size = z .key-is;
@@ -97,5 +97,5 @@ module _ (t : Told) (b : List ℕ) (n : ℕ) (p : Parts b n) where
         seal-size = y .seal-is;
         associated = omega (arith, ap length (p .associated-is), length-associated (digestIn b) (y .digest-is));
         short = omega (arith, y .cipher-to);
-        room = omega (arith, y .cipher-to);
+        room = omega (arith, y .cipher-to, l);
       }

@@ -2,7 +2,7 @@
 // The promises cite specs/Answers.antt; the order in which a stretch is judged stands in specs/Judging.antt.
 ghost use mathlib.Core.Path.{_≡_};
 ghost use Prim.Native.Nat.{_≤_};
-ghost use lib.ListN.{length, replicate};
+ghost use lib.ListN.{length};
 ghost use Rattle.stream.specs.Stretches.{span};
 ghost use Rattle.line.specs.Lines.{longest};
 ghost use Rattle.ingage.specs.Instances.{first as firstInstance};
@@ -82,8 +82,8 @@ pub enum Answer {
     },
 }
 
-// Opens sealed fields and judges the line found. It is opened into a buffer of its own: the caller's is written only where a line
-// is given.
+// Opens sealed fields and judges the line found. They are opened into a buffer beside the caller's, which is written only where a
+// line is given.
 fn judge_sealed(
     key: &[u8],
     nonce: &[u8],
@@ -92,16 +92,16 @@ fn judge_sealed(
     seal: &[u8],
     first: usize,
     closing: usize,
+    text: &mut [u8],
     line: &mut [u8],
 ) -> Answer
-    requires { ⌜ Within firstInstance (now key) (now nonce) (now assoc) (now cipher) (now seal) (replicate longest 0) ⌝ }
-    requires { ⌜ longest ≤ length (now line) ⌝ }
+    requires { ⌜ Within firstInstance (now key) (now nonce) (now assoc) (now cipher) (now seal) (now text) ⌝ }
+    requires { ⌜ (length (now text) ≡ longest) × (longest ≤ length (now line)) ⌝ }
     ensures { λ r. ⌜ r ≡ answerAt (span first closing) (judgeSealed (now (key .entry)) (now (nonce .entry)) (now (assoc .entry)) (now (cipher .entry)) (now (seal .entry))) ⌝ }
     ensures { λ _. ⌜ now (line .exit) ≡ lineOver (judgeSealed (now (key .entry)) (now (nonce .entry)) (now (assoc .entry)) (now (cipher .entry)) (now (seal .entry))) (now (line .entry)) ⌝ }
 {
-    let mut text = [0u8; LONGEST];
     let length = cipher.len();
-    match open(key, nonce, assoc, cipher, seal, &mut text) {
+    match open(key, nonce, assoc, cipher, seal, text) {
         Opened::Seal(calls) => return Answer::Seal {
             first,
             closing,
@@ -157,7 +157,18 @@ fn judge_fields(
     let cipher = &body[CIPHER_AT..CIPHER_AT + n];
     let seal_at = CIPHER_AT + n + HEAD_LENGTH;
     let seal = &body[seal_at..seal_at + SEAL_LENGTH];
-    judge_sealed(key, nonce, assoc, cipher, seal, first, closing, line)
+    let mut text = [0u8; LONGEST];
+    judge_sealed(
+        key,
+        nonce,
+        assoc,
+        cipher,
+        seal,
+        first,
+        closing,
+        &mut text,
+        line,
+    )
 }
 
 // Judges the bytes of a stretch.

@@ -74,43 +74,16 @@ fn row(
     answer
 }
 
-// Key byte i is 0x10 + i, font digest byte i is 3 i + 1.
-fn key_byte(i: usize) -> u8 {
-    ((0x10 + i % 256) % 256) as u8
-}
-
-fn font_byte(i: usize) -> u8 {
-    ((3 * (i % 256) + 1) % 256) as u8
-}
-
-fn key() -> [u8; 16] {
-    let mut k = [0u8; 16];
-    let mut i = 0;
-    while i < 16 {
-        k[i] = key_byte(i);
-        i += 1;
-    }
-    k
-}
-
-fn font() -> [u8; 32] {
-    let mut f = [0u8; 32];
-    let mut i = 0;
-    while i < 32 {
-        f[i] = font_byte(i);
-        i += 1;
-    }
-    f
-}
-
 // All readings of a case. Each ends further on, so one more than the stream has bytes is enough.
 fn case_rows(case: usize, stream: &[u8], place: usize, line: &mut [u8]) {
-    let k = key();
-    let f = font();
+    let mut key = [0u8; 16];
+    let mut font = [0u8; 32];
+    ramp::fill(&mut key, 0x10, 1);
+    ramp::fill(&mut font, 1, 3);
     let mut from = place;
     let mut turns: u64 = 70000;
     while turns > 0 {
-        let answer = row(case, stream, from, &k, &f, line);
+        let answer = row(case, stream, from, &key, &font, line);
         from = values::closing_of(answer);
         if goes_on(answer) {
             turns -= 1;

@@ -12,13 +12,13 @@ fn number(n: usize) {
 
 // In hexadecimal, or - where there is none.
 fn hex(bytes: &[u8]) {
-    if bytes.len() == 0 {
+    let mut digits = [0u8; 64];
+    let n = text::put_hex(bytes, &mut digits);
+    if n == 0 {
         say(b"-");
     }
-    let mut i = 0;
-    while i < bytes.len() {
-        io::print_hex(STDOUT_FILENO, bytes[i] as u64, 2);
-        i += 1;
+    if n <= digits.len() {
+        say(&digits[0..n]);
     }
 }
 

@@ -8,18 +8,18 @@ use crate::digest::{sizes, sponge};
 use crate::numbers::{KEY, NONCE};
 use crate::permutation::ROUNDS;
 use crate::readings::{every_combination, Readings, PRODUCT};
-use crate::text::upper_hex;
+use crate::text::hex;
 
 fn digest_1(readings: &Readings, message: &[u8]) -> String {
     let shape = sizes(1).expect("instance 1 is known");
-    upper_hex(&sponge(readings, shape, message).0)
+    hex(&sponge(readings, shape, message).0)
 }
 
 /// The ciphertext of empty data is empty, so that CT is the seal.
 fn seal_of_empty(readings: &Readings) -> String {
     let key: Vec<u8> = (0..KEY as u8).collect();
     let nonce: Vec<u8> = (0..NONCE as u8).collect();
-    upper_hex(&encrypt(readings, &INSTANCE_1, &key, &nonce, &[], &[]).1)
+    hex(&encrypt(readings, &INSTANCE_1, &key, &nonce, &[], &[]).1)
 }
 
 pub fn table() -> String {

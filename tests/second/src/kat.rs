@@ -7,7 +7,7 @@ use crate::cipher::{encrypt, INSTANCE_1};
 use crate::digest::{sizes, sponge};
 use crate::numbers::{KEY, NONCE};
 use crate::readings::PRODUCT;
-use crate::text::upper_hex;
+use crate::text::hex;
 
 const HASH_MOST: usize = 1024;
 const AEAD_MOST: usize = 32;
@@ -24,8 +24,8 @@ pub fn hash(instance: usize) -> Option<String> {
         let message = counting(length);
         let (digest, _) = sponge(&PRODUCT, shape, &message);
         writeln!(entries, "Count = {}", length + 1).unwrap();
-        writeln!(entries, "Msg = {}", upper_hex(&message)).unwrap();
-        writeln!(entries, "MD = {}\n", upper_hex(&digest)).unwrap();
+        writeln!(entries, "Msg = {}", hex(&message)).unwrap();
+        writeln!(entries, "MD = {}\n", hex(&digest)).unwrap();
     }
     Some(entries)
 }
@@ -47,11 +47,11 @@ pub fn aead(instance: usize) -> Option<String> {
             ciphertext.extend(seal);
             count += 1;
             writeln!(entries, "Count = {}", count).unwrap();
-            writeln!(entries, "Key = {}", upper_hex(&key)).unwrap();
-            writeln!(entries, "Nonce = {}", upper_hex(&nonce)).unwrap();
-            writeln!(entries, "PT = {}", upper_hex(&message)).unwrap();
-            writeln!(entries, "AD = {}", upper_hex(&associated)).unwrap();
-            writeln!(entries, "CT = {}\n", upper_hex(&ciphertext)).unwrap();
+            writeln!(entries, "Key = {}", hex(&key)).unwrap();
+            writeln!(entries, "Nonce = {}", hex(&nonce)).unwrap();
+            writeln!(entries, "PT = {}", hex(&message)).unwrap();
+            writeln!(entries, "AD = {}", hex(&associated)).unwrap();
+            writeln!(entries, "CT = {}\n", hex(&ciphertext)).unwrap();
         }
     }
     Some(entries)

@@ -1,10 +1,6 @@
 //! Bytes as hex text, the way the rows and the known-answer files print them.
 
 pub fn hex(bytes: &[u8]) -> String {
-    bytes.iter().map(|byte| format!("{:02x}", byte)).collect()
-}
-
-pub fn upper_hex(bytes: &[u8]) -> String {
     bytes.iter().map(|byte| format!("{:02X}", byte)).collect()
 }
 
@@ -40,7 +36,10 @@ mod tests {
     fn there_and_back() {
         let bytes: Vec<u8> = (0..=255).collect();
         assert_eq!(unhex(hex(&bytes).as_bytes()), Some(bytes.clone()));
-        assert_eq!(unhex(upper_hex(&bytes).as_bytes()), Some(bytes));
+        assert_eq!(
+            unhex(hex(&bytes).to_lowercase().as_bytes()),
+            Some(bytes)
+        );
         assert_eq!(unhex(b"0"), None);
         assert_eq!(unhex(b"0g"), None);
         assert_eq!(value(&[]), "-");

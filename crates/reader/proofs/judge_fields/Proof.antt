@@ -9,7 +9,7 @@ use Rattle.body.specs.Fields.{fieldsOf}
 use Rattle.lists.specs.Below.{below-all}
 use borrow.Author.Tests.{not-true, not-false}
 use Rattle.stream.specs.Stretches.{span}
-use mathlib.Core.Path.{sym, _∙_}
+use mathlib.Core.Path.{refl, sym, _∙_}
 use native.Mathlib.Omega.{arith}
 use borrow.Author.Needs.{needs}
 use Rattle.reader.proofs.judge_fields.Statement.{statement}
@@ -113,22 +113,25 @@ part-seal-start c = search needs
 part-seal-end : tie.Need-part-seal-end
 part-seal-end c = omega (arith, found (c .before .before .before .before .before .before .before) .length-is)
 
+slice-aggregate-judge-sealed : tie.Need-slice-aggregate-judge-sealed
+slice-aggregate-judge-sealed c = search needs
+
 judge-sealed-requires : tie.Need-judge-sealed-requires
 judge-sealed-requires c κs =
-    let s = c .before .before .before .before .before .before .before .before .before .before .before .before .before .before .before .before in
+    let s = c .before .before .before .before .before .before .before .before .before .before .before .before .before .before .before .before .before in
     let a = s .args in
-    (within (told (a .key .now) (a .font .now)) (a .body .now) _ (found (c .before .before .before .before .before .before .before .before .before)) (s .pre .0), s .pre .1)
+    (within (told (a .key .now) (a .font .now)) (a .body .now) _ (found (c .before .before .before .before .before .before .before .before .before .before)) (s .pre .0) _ refl, (refl, s .pre .1))
 
 same-length : tie.Need-same-length
 same-length c = search needs
 
 returns-3 : tie.Need-returns-3
 returns-3 c =
-    let s = c .before .before .before .before .before .before .before .before .before .before .before .before .before .before .before .before .before .before .before in
+    let s = c .before .before .before .before .before .before .before .before .before .before .before .before .before .before .before .before .before .before .before .before .before in
     let a = s .args in
     passed (span (a .first) (a .closing)) (judgeFields (told (a .key .now) (a .font .now)) (fieldsOf (a .body .now))) _ (a .line .now) _ _
-    (its-font (told (a .key .now) (a .font .now)) (a .body .now) _ (found (c .before .before .before .before .before .before .before .before .before .before .before .before)) (sym (c .before .before .before .before .before .before .before .before .before .compare .ensures) ∙ not-false _ (c .before .before .before .before .before .before .before .before .if1 .left)))
-    (c .before .before .judge-sealed .ensures)
+    (its-font (told (a .key .now) (a .font .now)) (a .body .now) _ (found (c .before .before .before .before .before .before .before .before .before .before .before .before .before .before)) (sym (c .before .before .before .before .before .before .before .before .before .before .before .compare .ensures) ∙ not-false _ (c .before .before .before .before .before .before .before .before .before .before .if1 .left)))
+    (c .before .before .before .judge-sealed .ensures)
 
 pub judge-fields-spec : {M : Type 1} → statement M
 judge-fields-spec =
@@ -162,6 +165,7 @@ judge-fields-spec =
     sub-seal
     part-seal-start
     part-seal-end
+    slice-aggregate-judge-sealed
     judge-sealed-requires
     same-length
     returns-3)

@@ -1,16 +1,14 @@
--- `judge_sealed` meets its promise: the sizes are right, so `open` answers done or another seal; the line found stands at the start of a
--- buffer of this function's own and is copied whole. Assumes nothing.
+-- `judge_sealed` meets its promise: the sizes are right, so `open` answers done or another seal; the line found stands at the start of
+-- the buffer beside the caller's and is copied whole. Assumes nothing.
 use Rattle.reader.proofs.Opening.{told-seal, told-other, told-unlisted, gives}
 use Rattle.reader.proofs.Shown.{shown}
 use Rattle.reader.specs.Judging.{judgeSealed}
-use Rattle.reader.specs.Judged.{seal, unlisted, line}
+use Rattle.reader.specs.Judged.{seal, unlisted}
 use Rattle.stream.specs.Stretches.{span}
+use native.Mathlib.Omega.{arith}
 use borrow.Author.Needs.{needs}
 use Rattle.reader.proofs.judge_sealed.Statement.{statement}
 use Rattle.reader.proofs.judge_sealed.Tie as tie
-
-slice-aggregate-open : tie.Need-slice-aggregate-open
-slice-aggregate-open c = search needs
 
 open-requires : tie.Need-open-requires
 open-requires c κs = search needs
@@ -18,11 +16,14 @@ open-requires c κs = search needs
 enum-known-calls : tie.Need-enum-known-calls
 enum-known-calls c = search needs
 
+same-length : tie.Need-same-length
+same-length c = search needs
+
 returns : tie.Need-returns
 returns c =
-    let s = c .before .before .before .before .before .before .before .before .before .before .before .before in
+    let s = c .before .before .before .before .before .before .before .before .before .before .before .before .before .before in
     let a = s .args in
-    let o = c .before .before .before .before .«open» in
+    let o = c .before .before .before .before .before .«open» in
     shown (span (a .first) (a .closing)) (judgeSealed (a .key .now) (a .nonce .now) (a .assoc .now) (a .cipher .now) (a .seal .now)) (a .line .now) (seal _)
     (told-seal (a .key .now) (a .nonce .now) (a .assoc .now) (a .cipher .now) (a .seal .now) (s .pre .0) (o .result) (o .ensures .0) _ (c .before .calls .given .1))
 
@@ -44,11 +45,14 @@ judge-line-requires c κs = search needs
 enum-told : tie.Need-enum-told
 enum-told c = search needs
 
+same-length-2 : tie.Need-same-length-2
+same-length-2 c = search needs
+
 returns-2 : tie.Need-returns-2
 returns-2 c =
-    let s = c .before .before .before .before .before .before .before .before .before .before .before .before .before .before .before .before .before in
+    let s = c .before .before .before .before .before .before .before .before .before .before .before .before .before .before .before .before .before .before .before in
     let a = s .args in
-    let o = c .before .before .before .before .before .before .before .before .before .«open» in
+    let o = c .before .before .before .before .before .before .before .before .before .before .«open» in
     shown (span (a .first) (a .closing)) (judgeSealed (a .key .now) (a .nonce .now) (a .assoc .now) (a .cipher .now) (a .seal .now)) (a .line .now) (unlisted _)
     (told-unlisted (a .key .now) (a .nonce .now) (a .assoc .now) (a .cipher .now) (a .seal .now) (s .pre .0) (o .result) (o .ensures .0) _ (c .before .before .before .before .before .before .calls2 .given .1) _ (o .ensures .1) _ (c .before .before .judge-line .ensures) (c .enum-told .given .1))
 
@@ -58,31 +62,37 @@ enum-told-2 c = search needs
 copy-requires : tie.Need-copy-requires
 copy-requires c κs = search needs
 
-same-length : tie.Need-same-length
-same-length c = search needs
+same-length-3 : tie.Need-same-length-3
+same-length-3 c = search needs
+
+same-length-4 : tie.Need-same-length-4
+same-length-4 c = search needs
 
 returns-3 : tie.Need-returns-3
 returns-3 c =
-    let s = c .before .before .before .before .before .before .before .before .before .before .before .before .before .before .before .before .before .before .before .before .before in
+    let s = c .before .before .before .before .before .before .before .before .before .before .before .before .before .before .before .before .before .before .before .before .before .before .before in
     let a = s .args in
-    let o = c .before .before .before .before .before .before .before .before .before .before .before .before .before .«open» in
+    let o = c .before .before .before .before .before .before .before .before .before .before .before .before .before .before .«open» in
     gives (a .key .now) (a .nonce .now) (a .assoc .now) (a .cipher .now) (a .seal .now) (s .pre .0) (o .result) (o .ensures .0) _ (c .before .before .before .before .before .before .before .before .before .before .calls2 .given .1) _ (o .ensures .1) (span (a .first) (a .closing))
-    _ (c .before .before .before .before .before .before .judge-line .ensures) (c .before .before .before .before .enum-told2 .given .1) (a .line .now) _ (s .pre .1) (c .before .before .copy .ensures)
+    _ (c .before .before .before .before .before .before .judge-line .ensures) (c .before .before .before .before .enum-told2 .given .1) (a .line .now) _ (omega (arith, s .pre .1 .0, s .pre .1 .1)) (c .before .before .copy .ensures)
+
+same-length-5 : tie.Need-same-length-5
+same-length-5 c = search needs
 
 returns-4 : tie.Need-returns-4
 returns-4 c =
-    let s = c .before .before .before .before .before .before .before .before .before .before in
+    let s = c .before .before .before .before .before .before .before .before .before .before .before .before in
     let a = s .args in
-    let o = c .before .before .«open» in
+    let o = c .before .before .before .«open» in
     told-other (a .key .now) (a .nonce .now) (a .assoc .now) (a .cipher .now) (a .seal .now) (s .pre .0) (o .result) (o .ensures .0) (c .match .keys3)
 
 pub judge-sealed-spec : {M : Type 1} → statement M
 judge-sealed-spec =
     tie.close
     (tie.spec
-    slice-aggregate-open
     open-requires
     enum-known-calls
+    same-length
     returns
     enum-known-calls-2
     sub-found
@@ -90,9 +100,12 @@ judge-sealed-spec =
     part-found-end
     judge-line-requires
     enum-told
+    same-length-2
     returns-2
     enum-told-2
     copy-requires
-    same-length
+    same-length-3
+    same-length-4
     returns-3
+    same-length-5
     returns-4)

@@ -1,22 +1,21 @@
--- `ramp` is safe and ends. The invariant: the buffer keeps its length; the measure is what is left of it. Assumes nothing.
-use mathlib.Core.Path.{_≡_}
-use Prim.Native.Nat.{_-_, _≤_}
+-- `fill` meets its promise. The invariant: the first bytes by the rule stand at the buffer's start (`Ramped`); the measure is what is
+-- left of the buffer. Assumes nothing.
+use Prim.Native.Nat.{_-_}
 use lib.ListN.{length}
+use Rattle.ramp.specs.Rule.{Ramped, ramped-none, ramped-more, ramped-all, ramped-length}
+use native.Mathlib.Omega.{arith}
 use borrow.Author.Needs.{needs}
-use Rattle.frame_rows.proofs.ramp.Statement.{statement}
-use Rattle.frame_rows.proofs.ramp.Tie as tie
+use Rattle.ramp.proofs.fill.Statement.{statement}
+use Rattle.ramp.proofs.fill.Tie as tie
 
 abbrev Inv-loop : tie.InvT-loop
-Inv-loop out₀ start step x₀ i₀ out x i = (i ≤ length out₀) × (length out ≡ length out₀)
+Inv-loop out₀ start step x₀ i₀ out x i = Ramped start step out₀ out x i
 
 abbrev μ-loop : tie.MeasureT-loop
 μ-loop out₀ start step x₀ i₀ out x i = length out₀ - i
 
-cast-x : tie.Need-cast-x Inv-loop μ-loop
-cast-x c = search needs
-
 loop-holds : tie.Need-loop-holds Inv-loop μ-loop
-loop-holds c = search needs
+loop-holds c = ramped-none _ _ _
 
 slice-write-out : tie.Need-slice-write-out Inv-loop μ-loop
 slice-write-out c = search needs
@@ -28,24 +27,23 @@ add-i : tie.Need-add-i Inv-loop μ-loop
 add-i c = search needs
 
 loop-less : tie.Need-loop-less Inv-loop μ-loop
-loop-less c = search needs
+loop-less c = omega (arith, ramped-length (c .before .before .loop .inv))
 
 loop-again : tie.Need-loop-again Inv-loop μ-loop
-loop-again c = search needs
+loop-again c = ramped-more (c .before .before .loop .inv) _ (omega arith) (c .wrapping-add-u8 .ensures)
 
 same-length : tie.Need-same-length Inv-loop μ-loop
-same-length c = search needs
+same-length c = ramped-length (c .before .loop .inv)
 
 returns : tie.Need-returns Inv-loop μ-loop
-returns c = search needs
+returns c = ramped-all (c .before .loop .inv) (omega arith)
 
-pub ramp-spec : {M : Type 1} → statement M
-ramp-spec =
+pub fill-spec : {M : Type 1} → statement M
+fill-spec =
     tie.close
     (tie.spec
     Inv-loop
     μ-loop
-    cast-x
     loop-holds
     slice-write-out
     wrapping-add-u8-requires
