@@ -1,13 +1,17 @@
 -- The loops of the permutation and of its inverse: which turns are left. Assumes nothing.
 use mathlib.Core.Path.{_≡_, refl, sym, ap, _∙_}
 use mathlib.Core.List.{List, _∷_, _++_}
-use Prim.Native.Nat.{ℕ, suc, _+_, _-_, _≤_, _<_}
+use Prim.Native.Nat.{ℕ, suc, _+_, _-_, _%_, _≤_, _<_}
+use native.Mathlib.Nat.{mod-eq-of-lt}
 use native.Mathlib.Numerals.{add-one}
 use native.Mathlib.Omega.{arith}
 use lib.ListN.{length, getD, take, drop, take-append-drop, drop-of-length-le}
 use lib.Seq.{length-take-le, take-at, drop-at, drop-cons}
-use Rattle.gage.specs.Cells.{table, substitute, restore}
-use Rattle.gage.specs.Shuffling.{shuffle, unshuffle}
+use Rattle.cells.specs.Sizes.{LARGEST}
+use Rattle.cells.specs.Cells.{table, substitute, restore, onFirst}
+use Rattle.shuffling.specs.Sizes.{SMALLEST}
+use Rattle.shuffling.specs.Shuffling.{shuffle, unshuffle}
+use Rattle.shuffling.specs.Widths.{whereWide, where-wide}
 use Rattle.gage.specs.Permutation.{leaders, turns, permuteBy, unturns, unpermuteBy}
 
 -- b is a state a whose first n bytes were changed by f
@@ -17,11 +21,21 @@ pub record Changed (f : List ℕ → List ℕ) (n : ℕ) (a b : List ℕ) : Type
   pub long : n ≤ length b
 
 -- what a call on the first n bytes gives, for an f that keeps lengths
-pub changed : (f : List ℕ → List ℕ) → ((s : List ℕ) → length (f s) ≡ length s) → (n : ℕ) (a b : List ℕ)
+changed : (f : List ℕ → List ℕ) → ((s : List ℕ) → length (f s) ≡ length s) → (n : ℕ) (a b : List ℕ)
     → n ≤ length a → b ≡ f (take n a) ++ drop n a → n ≤ length b → Changed f n a b
 changed f keeps n a b h e g =
     let l : length (f (take n a)) ≡ n = keeps (take n a) ∙ length-take-le n a h in
     record { first = rw e (take-at (f (take n a)) (drop n a) n l); rest = rw e (drop-at (f (take n a)) (drop n a) n l); long = g }
+
+-- what a call with a leader gives: the leader is a cell
+pub by-leader : (f : ℕ → List ℕ → List ℕ) → ((l : ℕ) (s : List ℕ) → length (f l s) ≡ length s) → (l n : ℕ) (a b : List ℕ)
+    → l < 4 → n ≤ length a → b ≡ onFirst n (f (l % 4)) a → n ≤ length b → Changed (f l) n a b
+by-leader f keeps l n a b c h e g = changed (f l) (keeps l) n a b h (let m : l % 4 ≡ l = mod-eq-of-lt c in rw m at e) g
+
+-- what a call that shuffles gives: the state is wide
+pub by-width : (f : List ℕ → List ℕ) → ((s : List ℕ) → length (f s) ≡ length s) → (n : ℕ) (a b : List ℕ)
+    → SMALLEST ≤ n → n ≤ LARGEST → n ≤ length a → b ≡ whereWide n (onFirst n f a) a → n ≤ length b → Changed f n a b
+by-width f keeps n a b w x h e g = changed f keeps n a b h (e ∙ where-wide n (onFirst n f a) a w x) g
 
 -- and back
 pub whole : {f : List ℕ → List ℕ} {n : ℕ} {a b : List ℕ} → Changed f n a b → b ≡ f (take n a) ++ drop n a

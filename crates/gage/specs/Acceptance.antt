@@ -3,8 +3,8 @@ use mathlib.Core.Path.{_≡_, refl}
 use mathlib.Core.List.{List, [], _∷_}
 use Prim.Native.Nat.{ℕ}
 use lib.ListN.{replicate, set, take}
-use Rattle.gage.specs.Cells.{star, table, cells, bytes, follow, substitute}
-use Rattle.gage.specs.Shuffling.{listed, weighed, shuffledByte, shuffle}
+use Rattle.cells.specs.Cells.{star, table, cells, bytes, follow, substitute}
+use Rattle.shuffling.specs.Shuffling.{listed, weighed, shuffledByte, shuffle}
 
 -- 1*2=1
 pub one-by-two : star table 1 2 ≡ 1

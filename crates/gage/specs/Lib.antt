@@ -1,10 +1,5 @@
-pub mod Sizes
-pub mod Cells
-pub mod Shuffling
 pub mod Permutation
-pub mod Quasigroup
 pub mod Tables
-pub mod Bits
 pub mod States
 pub mod Inverse
 pub mod Answers

@@ -5,8 +5,8 @@ use mathlib.Core.Bool.{Bool, true, false, cond}
 use mathlib.Core.List.{List, [], _∷_, _++_}
 use lib.Dec.{eqb}
 use lib.ListN.{take, drop}
-use Rattle.gage.specs.Cells.{table, substitute, restore}
-use Rattle.gage.specs.Shuffling.{shuffle, unshuffle}
+use Rattle.cells.specs.Cells.{table, substitute, restore}
+use Rattle.shuffling.specs.Shuffling.{shuffle, unshuffle}
 use Rattle.gage.specs.declared.Answer.{Answer}
 use Rattle.gage.specs.declared.Answer.the-variants.{Done, Size}
 use Rattle.gage.specs.declared.Permuted.{Permuted}

@@ -1,87 +1,17 @@
--- A state stays a state: substitution, shuffle and permutation, and their inverses, keep its length and give bytes, at every
--- size and for all leaders. Assumes nothing.
-use mathlib.Core.Path.{_≡_, refl, ap, _∙_}
+-- A state stays a state: the permutation and its inverse keep its length and give bytes, at every size and for all leaders.
+-- Assumes nothing.
+use mathlib.Core.Path.{_≡_, refl, _∙_}
 use mathlib.Core.List.{List, [], _∷_}
-use Prim.Native.Nat.{ℕ, zero, suc, _+_, _*_, _/_, _<_, _%_}
-use native.Mathlib.Nat.{not-suc-le-zero, le-of-suc-le-suc, add-zero, zero-add, add-suc, suc-add}
-use native.Mathlib.Omega.{arith}
-use lib.ListN.{length, getD, take}
+use Prim.Native.Nat.{ℕ}
+use lib.ListN.{length, take}
 use Rattle.lists.specs.Below.{Below}
-use Rattle.gage.specs.Cells.{star, table, Closed, cells, bytes, follow, recover, substitute, restore}
-use Rattle.gage.specs.Quasigroup.{table-closed}
-use Rattle.gage.specs.Shuffling.{element, source, listed, shuffledByte, shuffle, unshuffledByte, unshuffle}
-use Rattle.gage.specs.Bits.{placed-below, origin-below}
+use Rattle.cells.specs.Cells.{table, substitute, restore}
+use Rattle.cells.specs.Quasigroup.{table-closed}
+use Rattle.cells.specs.States.{length-substitute, length-restore, substitute-below, restore-below}
+use Rattle.shuffling.specs.Shuffling.{shuffle}
+use Rattle.shuffling.specs.States.{length-shuffle, length-unshuffle, unshuffle-below}
 use Rattle.gage.specs.Permutation.{leaders, turns, permuteBy, permute, unturns, unpermuteBy, unpermute}
 
--- the substitution
-pub length-substitute : (t : List (List ℕ)) (l : ℕ) (s : List ℕ) → length (substitute t l s) ≡ length s
-unfolding substitute cells bytes follow
-length-substitute t l [] = refl
-length-substitute t l (b ∷ r) = ap suc (length-substitute t (b % 4) r)
-
-pub length-restore : (t : List (List ℕ)) (l : ℕ) (s : List ℕ) → length (restore t l s) ≡ length s
-unfolding restore cells bytes recover
-length-restore t l [] = refl
-length-restore t l (b ∷ r) = ap suc (length-restore t _ r)
-
-module _ (t : List (List ℕ)) (closed : Closed t) where
-  -- four products make a byte
-  four : (w x y z a b c d : ℕ) → star t w a * 64 + star t x b * 16 + star t y c * 4 + star t z d < 256
-  four w x y z a b c d = omega (arith, closed .below w a, closed .below x b, closed .below y c, closed .below z d)
-
-  pub substitute-below : (l : ℕ) (s : List ℕ) → Below 256 (substitute t l s)
-  unfolding substitute cells bytes follow
-  substitute-below l [] = tt
-  substitute-below l (x ∷ r) =
-      (four l (x / 64) (x / 16 % 4) (x / 4 % 4) (x / 64) (x / 16 % 4) (x / 4 % 4) (x % 4), substitute-below (x % 4) r)
-
-  pub restore-below : (l : ℕ) (s : List ℕ) → Below 256 (restore t l s)
-  unfolding restore cells bytes recover
-  restore-below l [] = tt
-  restore-below l (x ∷ r) = (four l _ _ _ (x / 64) (x / 16 % 4) (x / 4 % 4) (x % 4), restore-below _ r)
-
--- the shuffle
-pub length-listed : (f : ℕ → ℕ) (i n : ℕ) → length (listed f i n) ≡ n
-unfolding listed
-length-listed f i zero = refl
-length-listed f i (suc n) = ap suc (length-listed f (suc i) n)
-
-pub listed-at : (f : ℕ → ℕ) (i n k : ℕ) → k < n → getD (listed f i n) k 0 ≡ f (i + k)
-unfolding listed
-listed-at f i zero k h = absurd (not-suc-le-zero h)
-listed-at f i (suc n) zero h = rw add-zero
-listed-at f i (suc n) (suc k) h = listed-at f (suc i) n k (le-of-suc-le-suc h) ∙ rw (suc-add, add-suc)
-
-listed-below : (m : ℕ) (f : ℕ → ℕ) (i n : ℕ) → ((k : ℕ) → f k < m) → Below m (listed f i n)
-unfolding listed
-listed-below m f i zero h = tt
-listed-below m f i (suc n) h = (h i, listed-below m f (suc i) n h)
-
-pub length-shuffle : (s : List ℕ) → length (shuffle s) ≡ length s
-unfolding shuffle
-length-shuffle s = length-listed (shuffledByte s) 0 (length s)
-
-pub length-unshuffle : (s : List ℕ) → length (unshuffle s) ≡ length s
-unfolding unshuffle
-length-unshuffle s = length-listed (unshuffledByte s) 0 (length s)
-
-pub shuffle-at : (s : List ℕ) (i : ℕ) → i < length s → getD (shuffle s) i 0 ≡ shuffledByte s i
-unfolding shuffle
-shuffle-at s i h = listed-at (shuffledByte s) 0 (length s) i h ∙ rw zero-add
-
-pub unshuffle-at : (s : List ℕ) (i : ℕ) → i < length s → getD (unshuffle s) i 0 ≡ unshuffledByte s i
-unfolding unshuffle
-unshuffle-at s i h = listed-at (unshuffledByte s) 0 (length s) i h ∙ rw zero-add
-
-pub shuffle-below : (s : List ℕ) → Below 256 (shuffle s)
-unfolding shuffle shuffledByte
-shuffle-below s = listed-below 256 (shuffledByte s) 0 (length s) (λ k. placed-below (element s k) (λ j. omega arith))
-
-pub unshuffle-below : (s : List ℕ) → Below 256 (unshuffle s)
-unfolding unshuffle unshuffledByte
-unshuffle-below s = listed-below 256 (unshuffledByte s) 0 (length s) (λ k. origin-below (source s k) (λ j. omega arith))
-
--- the permutation
 length-turns : (ls s : List ℕ) → length (turns ls s) ≡ length s
 unfolding turns
 length-turns [] s = refl

@@ -1,17 +1,16 @@
--- The rules of the constant tables, each proved over the whole table by one computed test: every leader is a cell, and the
--- places are a permutation of 1 to 8. Assumes nothing.
+-- The rules of the constant tables, each proved over the whole table by one computed test: every leader is a cell, and every
+-- permitted size is from 29 to the largest. Assumes nothing.
 use mathlib.Core.Path.{_≡_, refl}
 use mathlib.Core.Bool.{Bool, true, false, cond}
 use mathlib.Core.List.{List, [], _∷_}
 use Prim.Native.Nat.{ℕ, suc, _≤_, _<_}
 use native.Mathlib.Omega.{arith}
-use lib.Dec.{T, eqb, eqb→eq, ltb, ltb→lt, leb, leb→le}
+use lib.Dec.{T, eqb, ltb, ltb→lt, leb, leb→le}
 use borrow.Author.Tests.{eqb-true}
 use lib.ListN.{length, getD, take}
 use Rattle.lists.specs.Table.{at, every, both-left, both-right}
 use Rattle.lists.specs.Below.{Below, below-all, below-take}
-use Rattle.gage.specs.Sizes.{LARGEST}
-use Rattle.gage.specs.Shuffling.{places}
+use Rattle.cells.specs.Sizes.{LARGEST}
 use Rattle.gage.specs.Permutation.{ROUNDS, leaders, sizes, among, permitted}
 
 cell : ℕ → ℕ → Bool
@@ -29,19 +28,6 @@ length-leaders = refl
 pub leaders-below : (k : ℕ) → Below 4 (take k leaders)
 unfolding leaders
 leaders-below k = below-take 4 k leaders (below-all 4 leaders leader-below)
-
--- how often x stands in a list
-abbrev pub times : ℕ → List ℕ → ℕ
-times x [] = 0
-times x (y ∷ r) = cond (eqb x y) (suc (times x r)) (times x r)
-
-once : ℕ → ℕ → Bool
-once k p = eqb (times (suc k) places) 1
-
--- each of the places 1 to 8 is taken once
-pub place-once : (k : ℕ) → k < 8 → times (suc k) places ≡ 1
-unfolding once
-place-once k h = eqb→eq (times (suc k) places) 1 (at once places tt k h)
 
 -- what holds of every number of a list holds of each among them
 among-rule : (f : ℕ → Bool) (xs : List ℕ) (i n : ℕ) → T (every (λ k x. f x) i xs) → among n xs ≡ true → T (f n)

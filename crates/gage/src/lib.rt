@@ -1,17 +1,14 @@
 // GAGE's round permutation and its inverse, on a state by value with its size in bytes (document 000, section 1.1; document
-// 01, 'The permutation'). Substitution and shuffle are modules of their own; the promises cite specs/Permutation.antt.
-mod cells;
-mod shuffling;
-
+// 01, 'The permutation'). Substitution and shuffle are crates of their own; the promises cite specs/Permutation.antt.
 ghost use mathlib.Core.Path.{_≡_};
 ghost use mathlib.Core.List.{_++_};
 ghost use Prim.Native.Nat.{_/_, _<_, _≤_};
 ghost use lib.ListN.{getD, length, take, drop};
-ghost use Rattle.gage.specs.Sizes.{LARGEST};
+ghost use Rattle.cells.specs.Sizes.{LARGEST};
 ghost use Rattle.gage.specs.Permutation.{ROUNDS, leaders, numberOf, permitted, permuteBy, permute, unpermuteBy, unpermute, answered};
 
 // The largest permitted state, in bytes.
-pub const LARGEST: usize = 72;
+pub const LARGEST: usize = cells::LARGEST;
 
 // The rounds of a whole permutation, and the leader of each (document 000, Table 1.2).
 const ROUNDS: usize = 32;
@@ -105,12 +102,11 @@ fn turned(s: [u8; LARGEST], n: usize, k: usize) -> [u8; LARGEST]
     requires { ⌜ (8 ≤ n) × (n ≤ LARGEST) × (1 ≤ k) × (k ≤ ROUNDS) ⌝ }
     ensures { λ r. ⌜ r ≡ permute k (take n s) ++ drop n s ⌝ }
 {
-    let t = cells::products();
-    let mut a = cells::substitute(t, s, n, leader(0));
+    let mut a = cells::substitute(s, n, leader(0));
     let mut i = 1;
     while i < k {
         let b = shuffling::shuffle(a, n);
-        a = cells::substitute(t, b, n, leader(i));
+        a = cells::substitute(b, n, leader(i));
         i += 1;
     }
     a
@@ -121,15 +117,14 @@ fn unturned(s: [u8; LARGEST], n: usize, k: usize) -> [u8; LARGEST]
     requires { ⌜ (8 ≤ n) × (n ≤ LARGEST) × (1 ≤ k) × (k ≤ ROUNDS) ⌝ }
     ensures { λ r. ⌜ r ≡ unpermute k (take n s) ++ drop n s ⌝ }
 {
-    let t = cells::products();
     let mut a = s;
     let mut i = k;
     while i > 1 {
         i -= 1;
-        let b = cells::restore(t, a, n, leader(i));
+        let b = cells::restore(a, n, leader(i));
         a = shuffling::unshuffle(b, n);
     }
-    cells::restore(t, a, n, leader(0))
+    cells::restore(a, n, leader(0))
 }
 
 // The permutation of all rounds.

@@ -7,7 +7,7 @@ use native.Mathlib.Omega.{arith}
 use lib.ListN.{length, take, drop, replicate, drop-of-length-le}
 use lib.Seq.{take-all, take-at}
 use Rattle.lists.specs.Buffers.{copied}
-use Rattle.gage.specs.Sizes.{LARGEST}
+use Rattle.cells.specs.Sizes.{LARGEST}
 use Rattle.gage.specs.Permutation.{permitted, numberOf, answered}
 use Rattle.gage.specs.Answers.{answered-done, answered-size}
 use Rattle.gage.specs.Tables.{too-large}

@@ -6,7 +6,7 @@ ghost use lib.ListN.{length, replicate};
 ghost use Rattle.lists.specs.Buffers.{copied};
 ghost use Rattle.digest.specs.Answers.{digestAnswer, digestOut};
 ghost use Rattle.digest.specs.Answers as hashing;
-ghost use Rattle.gage.specs.Sizes.{LARGEST};
+ghost use Rattle.cells.specs.Sizes.{LARGEST};
 ghost use Rattle.gage.specs.Permutation.{ROUNDS, permute, unpermute};
 ghost use Rattle.ingage.specs.Instances.{first};
 ghost use Rattle.ingage.specs.Answers.{sealCall, openCall, sealNumber, sealCount, openNumber, openCount};

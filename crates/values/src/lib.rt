@@ -6,6 +6,9 @@ ghost use Rattle.frame.specs.Answers as writing;
 use frame::Written;
 use reader::Answer;
 
+// A refusal that makes no call of the permutation, and the end of the stream, count none.
+const NO_CALLS: usize = 0;
+
 // The number returned; the end of the stream has 0, as a line has.
 pub fn number_of(answer: Answer) -> usize
     ensures { λ r. ⌜ r ≡ numberOf answer ⌝ }
@@ -157,23 +160,23 @@ pub fn calls_of(answer: Answer) -> usize
     ensures { λ r. ⌜ r ≡ callsOf answer ⌝ }
 {
     match answer {
-        Answer::Sizes(_) => 0,
-        Answer::TooLong(_) => 0,
-        Answer::NoRoom(_) => 0,
-        Answer::Beyond(_) => 0,
-        Answer::End(_) => 0,
+        Answer::Sizes(_) => NO_CALLS,
+        Answer::TooLong(_) => NO_CALLS,
+        Answer::NoRoom(_) => NO_CALLS,
+        Answer::Beyond(_) => NO_CALLS,
+        Answer::End(_) => NO_CALLS,
         Answer::Shape {
             first: _,
             closing: _,
-        } => 0,
+        } => NO_CALLS,
         Answer::Stuffing {
             first: _,
             closing: _,
-        } => 0,
+        } => NO_CALLS,
         Answer::Font {
             first: _,
             closing: _,
-        } => 0,
+        } => NO_CALLS,
         Answer::Seal {
             first: _,
             closing: _,

@@ -1,11 +1,11 @@
 -- `unturned` meets its promise. The invariant: the turns of the leaders from i on are undone (`Undone`); the measure is i. Assumes nothing.
-use Rattle.gage.proofs.Turning.{changed, Undone, undone-none, undone-more, undone-all}
-use Rattle.gage.specs.States.{length-restore, length-unshuffle}
+use Rattle.gage.proofs.Turning.{by-leader, by-width, Undone, undone-none, undone-more, undone-all}
+use Rattle.cells.specs.States.{length-restore}
+use Rattle.shuffling.specs.States.{length-unshuffle}
 use Rattle.gage.specs.Permutation.{leaders, unpermute}
 use Rattle.gage.specs.Tables.{length-leaders}
-use Rattle.gage.specs.Quasigroup.{table-closed}
-use Rattle.gage.specs.Shuffling.{unshuffle}
-use Rattle.gage.specs.Cells.{table, restore}
+use Rattle.shuffling.specs.Shuffling.{unshuffle}
+use Rattle.cells.specs.Cells.{table, restore}
 use lib.Seq.{length-take-le, getD-take}
 use lib.ListN.{length, take}
 use Prim.Native.Nat.{_-_, _≤_}
@@ -16,17 +16,14 @@ use Rattle.gage.proofs.unturned.Statement.{statement}
 use Rattle.gage.proofs.unturned.Tie as tie
 
 abbrev Inv-loop : tie.InvT-loop
-Inv-loop n k t a₀ i₀ a i = (i ≤ k) × Undone (take k leaders) n a₀ a i
+Inv-loop n k a₀ i₀ a i = (i ≤ k) × Undone (take k leaders) n a₀ a i
 
 abbrev μ-loop : tie.MeasureT-loop
-μ-loop n k t a₀ i₀ a i = i
-
-products-requires : tie.Need-products-requires Inv-loop μ-loop
-products-requires c κs = search needs
+μ-loop n k a₀ i₀ a i = i
 
 loop-holds : tie.Need-loop-holds Inv-loop μ-loop
 loop-holds c =
-    let k = c .before .args .k in
+    let k = c .args .k in
     let l : length (take k leaders) ≡ k = length-take-le k leaders (omega (arith, length-leaders)) in
     (search needs, undone-none _ _ _ _ (search needs) (search needs) l)
 
@@ -37,7 +34,7 @@ leader-requires : tie.Need-leader-requires Inv-loop μ-loop
 leader-requires c κs = search needs
 
 restore-requires : tie.Need-restore-requires Inv-loop μ-loop
-restore-requires c κs = (search needs, c .leader .ensures .1, rw (c .before .before .before .products .ensures) table-closed)
+restore-requires c κs = search needs
 
 unshuffle-requires : tie.Need-unshuffle-requires Inv-loop μ-loop
 unshuffle-requires c κs = search needs
@@ -47,29 +44,27 @@ loop-less c = search needs
 
 loop-again : tie.Need-loop-again Inv-loop μ-loop
 loop-again c =
-    let k = c .before .before .before .before .before .before .args .k in (
+    let k = c .before .before .before .before .before .args .k in (
       search needs,
       undone-more (c .before .before .leader .result) _ _ (c .before .before .before .before .loop .inv .1) (omega arith)
           (c .before .before .leader .ensures .0 ∙ sym (getD-take k leaders (c .before .before .before .before .loop .i - 1) 0 (omega arith)))
-          (changed (restore table (c .before .before .leader .result)) (length-restore table (c .before .before .leader .result)) _ _ _ (search needs)
-          (rw (c .before .before .before .before .before .products .ensures) at (c .before .restore .ensures)) (search needs))
-          (changed unshuffle length-unshuffle _ _ _ (search needs) (c .unshuffle .ensures) (search needs)),
+          (by-leader (restore table) (length-restore table) (c .before .before .leader .result) _ _ _ (c .before .before .leader .ensures .1) (search needs) (c .before .restore .ensures) (search needs))
+          (by-width unshuffle length-unshuffle _ _ _ (search needs) (search needs) (search needs) (c .unshuffle .ensures) (search needs)),
     )
 
 leader-requires-2 : tie.Need-leader-requires-2 Inv-loop μ-loop
 leader-requires-2 c κs = search needs
 
 restore-requires-2 : tie.Need-restore-requires-2 Inv-loop μ-loop
-restore-requires-2 c κs = (search needs, c .leader2 .ensures .1, rw (c .before .before .before .products .ensures) table-closed)
+restore-requires-2 c κs = search needs
 
 returns : tie.Need-returns Inv-loop μ-loop
 unfolding unpermute
 returns c =
-    let k = c .before .before .before .before .before .args .k in
+    let k = c .before .before .before .before .args .k in
     undone-all (c .before .leader2 .result) _ (c .before .before .before .loop .inv .1) (omega arith)
     (c .before .leader2 .ensures .0 ∙ sym (getD-take k leaders 0 0 (omega arith)))
-    (changed (restore table (c .before .leader2 .result)) (length-restore table (c .before .leader2 .result)) _ _ _ (search needs)
-    (rw (c .before .before .before .before .products .ensures) at (c .restore2 .ensures)) (search needs))
+    (by-leader (restore table) (length-restore table) (c .before .leader2 .result) _ _ _ (c .before .leader2 .ensures .1) (search needs) (c .restore2 .ensures) (search needs))
 
 pub unturned-spec : {M : Type 1} → statement M
 unturned-spec =
@@ -77,7 +72,6 @@ unturned-spec =
     (tie.spec
     Inv-loop
     μ-loop
-    products-requires
     loop-holds
     sub-i
     leader-requires

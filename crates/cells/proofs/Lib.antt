@@ -1,0 +1,3 @@
+pub mod Substituting
+pub mod Firsts
+pub mod Single

@@ -1,0 +1,105 @@
+// GAGE's substitution over two-bit cells, a byte at a time, and its inverse (document 000, section 1.1.1; specs/Cells.antt).
+// The table of products is four rows of four, passed whole.
+ghost use mathlib.Core.Path.{_≡_};
+ghost use mathlib.Core.List.{_++_};
+ghost use Prim.Native.Nat.{_<_, _≤_, _%_, min};
+ghost use lib.ListN.{take, drop};
+ghost use Rattle.cells.specs.Sizes.{LARGEST};
+ghost use Rattle.cells.specs.Cells.{Closed, table, star, substitutedByte, substitute, restore, onFirst};
+
+// The largest permitted state, in bytes.
+pub const LARGEST: usize = 72;
+
+// The table x * y (document 000, expression 1.1), rows first.
+const TABLE: [[u8; 4]; 4] = [[1, 0, 3, 2], [0, 2, 1, 3], [2, 3, 0, 1], [3, 1, 2, 0]];
+
+// The table x * y.
+fn products() -> [[u8; 4]; 4]
+    ensures { λ r. ⌜ r ≡ table ⌝ }
+{
+    TABLE
+}
+
+// x * y.
+fn star(t: [[u8; 4]; 4], x: usize, y: usize) -> u8
+    requires { ⌜ (x < 4) × (y < 4) × Closed t ⌝ }
+    ensures { λ r. ⌜ (r ≡ star t x y) × (r < 4) ⌝ }
+{
+    t[x][y]
+}
+
+// One byte of the substitution, after the cell p. The table is read where it stands: a call for each product would copy it.
+fn substituted_byte(t: [[u8; 4]; 4], p: u8, b: u8) -> u8
+    requires { ⌜ (p < 4) × Closed t ⌝ }
+    ensures { λ r. ⌜ r ≡ substitutedByte t p b ⌝ }
+{
+    let l = p as usize;
+    let w = b as usize;
+    let a = w / 64;
+    let c = w / 16 % 4;
+    let d = w / 4 % 4;
+    let e = w % 4;
+    t[l][a] * 64 + t[a][c] * 16 + t[c][d] * 4 + t[d][e]
+}
+
+// The first n bytes of s substituted with a leader, by a table.
+fn substitute_by(t: [[u8; 4]; 4], s: [u8; LARGEST], n: usize, leader: u8) -> [u8; LARGEST]
+    requires { ⌜ (n ≤ LARGEST) × (leader < 4) × Closed t ⌝ }
+    ensures { λ r. ⌜ r ≡ substitute t leader (take n s) ++ drop n s ⌝ }
+{
+    let mut out = s;
+    let mut p = leader;
+    let mut i = 0;
+    while i < n {
+        let b = s[i];
+        out[i] = substituted_byte(t, p, b);
+        p = b % 4;
+        i += 1;
+    }
+    out
+}
+
+// The first n bytes of s before a substitution with a leader, by a table: each cell from the one just recovered.
+fn restore_by(t: [[u8; 4]; 4], s: [u8; LARGEST], n: usize, leader: u8) -> [u8; LARGEST]
+    requires { ⌜ (n ≤ LARGEST) × (leader < 4) × Closed t ⌝ }
+    ensures { λ r. ⌜ r ≡ restore t leader (take n s) ++ drop n s ⌝ }
+{
+    let mut out = s;
+    let mut p = leader as usize;
+    let mut i = 0;
+    while i < n {
+        let b = s[i] as usize;
+        let a = star(t, p, b / 64);
+        let c = star(t, a as usize, b / 16 % 4);
+        let d = star(t, c as usize, b / 4 % 4);
+        let e = star(t, d as usize, b % 4);
+        out[i] = a * 64 + c * 16 + d * 4 + e;
+        p = e as usize;
+        i += 1;
+    }
+    out
+}
+
+// How many of a state's bytes are its first n.
+fn within(n: usize) -> usize
+    ensures { λ r. ⌜ r ≡ min n LARGEST ⌝ }
+{
+    if n > LARGEST {
+        return LARGEST;
+    }
+    n
+}
+
+// The substitution on the first n bytes of a state, with a leader mod 4.
+pub fn substitute(s: [u8; LARGEST], n: usize, leader: u8) -> [u8; LARGEST]
+    ensures { λ r. ⌜ r ≡ onFirst n (substitute table (leader % 4)) s ⌝ }
+{
+    substitute_by(products(), s, within(n), leader % 4)
+}
+
+// Its inverse.
+pub fn restore(s: [u8; LARGEST], n: usize, leader: u8) -> [u8; LARGEST]
+    ensures { λ r. ⌜ r ≡ onFirst n (restore table (leader % 4)) s ⌝ }
+{
+    restore_by(products(), s, within(n), leader % 4)
+}

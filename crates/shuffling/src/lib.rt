@@ -1,0 +1,182 @@
+// GAGE's bit shuffling and its inverse (document 000, section 1.1.1; specs/Shuffling.antt). The state is first copied with seven bytes wrapped around, so that
+// no loop divides by the size; where an element goes is read from the table of places.
+use cells::LARGEST;
+ghost use mathlib.Core.Path.{_≡_};
+ghost use mathlib.Core.List.{[], _∷_, _++_};
+ghost use Prim.Native.Nat.{_+_, _-_, _<_, _≤_, _%_};
+ghost use lib.ListN.{getD, length, take, drop};
+ghost use Rattle.lists.specs.Upto.{Upto};
+ghost use Rattle.cells.specs.Sizes.{LARGEST};
+ghost use Rattle.shuffling.specs.Sizes.{AHEAD, WRAPPED};
+ghost use Rattle.shuffling.specs.Shuffling.{places, weight, weights, gathered, returned, Joined, shuffle, unshuffle};
+ghost use Rattle.cells.specs.Cells.{onFirst};
+ghost use Rattle.shuffling.specs.Widths.{wide, whereWide};
+
+// Where elements 1 to 8 go (document 000, formula 1.4); place 1 is the leftmost bit.
+const PLACES: [u8; 8] = [1, 3, 5, 8, 7, 6, 2, 4];
+
+// A byte's elements come from it and from seven more; the room for a state with those wrapped around.
+const AHEAD: usize = 7;
+
+const WRAPPED: usize = LARGEST + AHEAD + 1;
+
+// The smallest state whose elements all come from different bytes.
+const SMALLEST: usize = AHEAD + 1;
+
+// What a bit at a place counts in its byte.
+fn weight(place: u8) -> u8
+    requires { ⌜ (1 ≤ place) × (place ≤ 8) ⌝ }
+    ensures { λ r. ⌜ r ≡ weight place ⌝ }
+{
+    128 >> (place - 1)
+}
+
+// What each element counts at its place.
+fn weights() -> [u8; 8]
+    ensures { λ r. ⌜ r ≡ weights ⌝ }
+{
+    let p = PLACES;
+    [
+        weight(p[0]),
+        weight(p[1]),
+        weight(p[2]),
+        weight(p[3]),
+        weight(p[4]),
+        weight(p[5]),
+        weight(p[6]),
+        weight(p[7]),
+    ]
+}
+
+// The byte of eight elements, one from each of eight bytes, at their places.
+fn gather(w: [u8; 8], a: u8, b: u8, c: u8, d: u8, e: u8, f: u8, g: u8, h: u8) -> u8
+    requires { ⌜ w ≡ weights ⌝ }
+    ensures { λ r. ⌜ r ≡ gathered (a ∷ b ∷ c ∷ d ∷ e ∷ f ∷ g ∷ h ∷ []) ⌝ }
+{
+    a % 2 * w[0]
+        + b / 2 % 2 * w[1]
+        + c / 4 % 2 * w[2]
+        + d / 8 % 2 * w[3]
+        + e / 16 % 2 * w[4]
+        + f / 32 % 2 * w[5]
+        + g / 64 % 2 * w[6]
+        + h / 128 * w[7]
+}
+
+// The byte whose eight bits stand at their places in eight bytes.
+fn give_back(w: [u8; 8], a: u8, b: u8, c: u8, d: u8, e: u8, f: u8, g: u8, h: u8) -> u8
+    requires { ⌜ w ≡ weights ⌝ }
+    ensures { λ r. ⌜ r ≡ returned (a ∷ b ∷ c ∷ d ∷ e ∷ f ∷ g ∷ h ∷ []) ⌝ }
+{
+    a / w[0] % 2
+        + b / w[1] % 2 * 2
+        + c / w[2] % 2 * 4
+        + d / w[3] % 2 * 8
+        + e / w[4] % 2 * 16
+        + f / w[5] % 2 * 32
+        + g / w[6] % 2 * 64
+        + h / w[7] % 2 * 128
+}
+
+// e with count bytes of s, from a place of s on, put at a place of e.
+fn join(e: [u8; WRAPPED], at: usize, s: [u8; LARGEST], from: usize, count: usize) -> [u8; WRAPPED]
+    requires { ⌜ (at + count ≤ WRAPPED) × (from + count ≤ LARGEST) ⌝ }
+    ensures { λ r. ⌜ Joined e at s from count r ⌝ }
+{
+    let mut r = e;
+    let mut i = 0;
+    while i < count {
+        r[at + i] = s[from + i];
+        i += 1;
+    }
+    r
+}
+
+// The first n bytes of s from a place on and around, seven more than there are.
+fn wrapped(s: [u8; LARGEST], n: usize, from: usize) -> [u8; WRAPPED]
+    requires { ⌜ (from + AHEAD ≤ n) × (n ≤ LARGEST) ⌝ }
+    ensures { λ r. ⌜ Upto (λ k. getD s ((k + from) % n) 0) r (n + AHEAD) ⌝ }
+{
+    let e = join([0u8; WRAPPED], 0, s, from, n - from);
+    join(e, n - from, s, 0, from + AHEAD)
+}
+
+// The first n bytes of s shuffled.
+fn shuffle_wrapped(s: [u8; LARGEST], n: usize) -> [u8; LARGEST]
+    requires { ⌜ (8 ≤ n) × (n ≤ LARGEST) ⌝ }
+    ensures { λ r. ⌜ r ≡ shuffle (take n s) ++ drop n s ⌝ }
+{
+    let w = weights();
+    let e = wrapped(s, n, 0);
+    let mut out = s;
+    let mut i = 0;
+    while i < n {
+        out[i] = gather(
+            w,
+            e[i],
+            e[i + 1],
+            e[i + 2],
+            e[i + 3],
+            e[i + 4],
+            e[i + 5],
+            e[i + 6],
+            e[i + 7],
+        );
+        i += 1;
+    }
+    out
+}
+
+// The first n bytes of s before a shuffle.
+fn unshuffle_wrapped(s: [u8; LARGEST], n: usize) -> [u8; LARGEST]
+    requires { ⌜ (8 ≤ n) × (n ≤ LARGEST) ⌝ }
+    ensures { λ r. ⌜ r ≡ unshuffle (take n s) ++ drop n s ⌝ }
+{
+    let w = weights();
+    let e = wrapped(s, n, n - AHEAD);
+    let mut out = s;
+    let mut i = 0;
+    while i < n {
+        out[i] = give_back(
+            w,
+            e[i + 7],
+            e[i + 6],
+            e[i + 5],
+            e[i + 4],
+            e[i + 3],
+            e[i + 2],
+            e[i + 1],
+            e[i],
+        );
+        i += 1;
+    }
+    out
+}
+
+// Whether a state of n bytes is shuffled.
+fn is_wide(n: usize) -> bool
+    ensures { λ r. ⌜ r ≡ wide n ⌝ }
+{
+    if n < SMALLEST {
+        return false;
+    }
+    n <= LARGEST
+}
+
+// The first n bytes of a state shuffled, where a state may have as many; else it stays.
+pub fn shuffle(s: [u8; LARGEST], n: usize) -> [u8; LARGEST]
+    ensures { λ r. ⌜ r ≡ whereWide n (onFirst n shuffle s) s ⌝ }
+{
+    if is_wide(n) { shuffle_wrapped(s, n) } else { s }
+}
+
+// Its inverse.
+pub fn unshuffle(s: [u8; LARGEST], n: usize) -> [u8; LARGEST]
+    ensures { λ r. ⌜ r ≡ whereWide n (onFirst n unshuffle s) s ⌝ }
+{
+    if is_wide(n) {
+        unshuffle_wrapped(s, n)
+    } else {
+        s
+    }
+}
