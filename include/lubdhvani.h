@@ -2,15 +2,20 @@
  *
  * GAGE digests the font, InGAGE seals each magnetic-ink line to that digest, and a framed job stream brings sealed lines to the
  * press. Every call takes every input and returns: nothing traps, allocates or keeps a pointer. Each call is proved to do what
- * is said here (docs/PROMISES.md); the numbers, their order and the sizes are the paper's.
+ * is said here (docs/PROMISES.md); the numbers, their order and the sizes are document 01's, the buyer's scope.
  *
  * Rules for every call
  *  - A pointer is to as many bytes as the length behind it says, readable, or writable where it is not const. With a length of 0 the
  *    pointer may be anything, NULL included.
  *  - Buffers that are written overlap no other argument of the call.
- *  - The return value is one of the numbers below. They are tested in the order 1, 2, 3, 9, 4, 10; the first that holds is given.
+ *  - `calls`, `length`, `first` and `closing` each point to a size_t of the caller's: never NULL, no two to the same one, none into a
+ *    buffer of the call.
+ *  - The return value is one of the numbers below. They are tested in the order 1, 2, 3, 9, 4, 10; the first that holds is given. A
+ *    stretch is judged in the order 7 for its length, 6, 7 for its fields, 8, 5, 9.
  *  - `calls` (and `length`, `first`, `closing`) are always written: counts of calls of the permutation, lengths, places.
- *  - Nothing is written but what is named; the rest of a longer buffer stays as it was.
+ *  - Nothing is changed but what is named; the rest of a longer buffer stays as it was.
+ *  - The library has no state of its own: calls on different buffers may run at the same time. Keys and states that a call works with are
+ *    not wiped from the stack.
  *
  * Link with target/staticlib/liblubdhvani.a, which `rt staticlib lubdhvani` makes.
  */
@@ -43,7 +48,7 @@ enum {
 /* Numbers returned. */
 enum {
     LUBDHVANI_DONE = 0,        /* done, or the end of the stream */
-    LUBDHVANI_INSTANCE = 1,    /* unknown hash instance, or state size not permitted */
+    LUBDHVANI_UNKNOWN = 1,     /* unknown hash instance, or state size not permitted */
     LUBDHVANI_SIZES = 2,       /* key, nonce, digest, seal or seal buffer not 16, 12, 32, 16, 16 bytes */
     LUBDHVANI_TOO_LONG = 3,    /* an input over its limit, or the writer's line not 1 to 65 bytes */
     LUBDHVANI_NO_ROOM = 4,     /* a buffer too small */
@@ -56,7 +61,7 @@ enum {
 };
 
 /* The permutation of 32 rounds on a state of `size` bytes, where it stands, and its inverse.
- * 0: the state is permuted. 1: `size` is not permitted, and nothing is written. */
+ * 0: the state is permuted. 1: `size` is not permitted, and the state is as it was. */
 uint32_t lubdhvani_permute(uint8_t *state, size_t size);
 uint32_t lubdhvani_unpermute(uint8_t *state, size_t size);
 
@@ -75,7 +80,8 @@ uint32_t lubdhvani_seal(const uint8_t *key, size_t key_length, const uint8_t *no
 
 /* Opens a ciphertext. All sixteen bytes of the seal are compared.
  * 0: out[0..cipher_length] is the message, *calls the count. 2, 3, 4 as above: out is untouched, *calls is 0.
- * 5: out[0..cipher_length] is zero, the rest stays, *calls is the count of the finished work. */
+ * 5: out[0..cipher_length] is zero, the rest stays, *calls is the count of the finished work.
+ * While the call runs, out[0..cipher_length] holds bytes that are not yet verified: use them only after 0 was returned. */
 uint32_t lubdhvani_open(const uint8_t *key, size_t key_length, const uint8_t *nonce, size_t nonce_length,
                         const uint8_t *associated, size_t associated_length, const uint8_t *cipher, size_t cipher_length,
                         const uint8_t *seal, size_t seal_length, uint8_t *out, size_t room, size_t *calls);
@@ -95,7 +101,7 @@ void lubdhvani_next_stretch(const uint8_t *stream, size_t stream_length, size_t 
  * 0 with *length > 0: line[0..*length] is the line. 0 with *length = 0: the end of the stream, *first = *closing = stream_length.
  * 5, 6, 7, 8, 9: the stretch from *first up to *closing is refused; line is untouched. Reading goes on from *closing in each of
  * these cases. 2, 3, 4, 10: the call is refused, *first = *closing = from, line is untouched.
- * *calls is line length + 39 for a line, 5 and 9, else 0. */
+ * *calls is n + 39 for a line, 5 and 9, n being the length of the line's ciphertext; else 0. *length is 0 but for a line. */
 uint32_t lubdhvani_read(const uint8_t *stream, size_t stream_length, size_t from, const uint8_t *key, size_t key_length,
                         const uint8_t *font, size_t font_length, uint8_t *line, size_t room, size_t *first, size_t *closing,
                         size_t *length, size_t *calls);

@@ -81,6 +81,15 @@ fn nonce_of(text: &[u8], nonce: &mut [u8]) -> bool {
     true
 }
 
+// A frame on standard output; a row whose frame can't be written whole is reported.
+fn send(frame: &[u8], which: u64) {
+    if !io::write_all(STDOUT_FILENO, frame) {
+        complain(b"row ");
+        io::print_decimal(STDERR_FILENO, which);
+        complain(b" not written\n");
+    }
+}
+
 // One line under its nonce: its frame on standard output, or its refusal on standard error.
 fn seal_line(line: &[u8], nonce: &[u8], which: u64, key: &[u8], font: &[u8]) {
     let mut frame = [0u8; frame::FRAME_ROOM];
@@ -88,7 +97,7 @@ fn seal_line(line: &[u8], nonce: &[u8], which: u64, key: &[u8], font: &[u8]) {
     match written {
         Written::Done { length, calls: _ } => {
             if length <= frame.len() {
-                io::write_all(STDOUT_FILENO, &frame[0..length]);
+                send(&frame[0..length], which);
             }
         }
         _ => report(which, values::written_number(written) as u64),
@@ -149,7 +158,7 @@ fn fed_all(bytes: &[u8], row: &mut [u8], o: Orders, key: &[u8], font: &[u8]) -> 
     next
 }
 
-// All orders of standard input. The last row may lack its newline.
+// All orders of standard input. The last row may lack its newline; one that a failed read broke off is no order.
 fn compose(key: &[u8], font: &[u8]) {
     let mut chunk = io::buffer();
     let mut row = [0u8; ROW];
@@ -160,7 +169,12 @@ fn compose(key: &[u8], font: &[u8]) {
     };
     let mut turns: u64 = 0xFFFF_FFFF_FFFF_FFFF;
     while turns > 0 {
-        let got = io::count(libc::read(STDIN_FILENO, &mut chunk), &chunk);
+        let answer = libc::read(STDIN_FILENO, &mut chunk);
+        if answer < 0 {
+            complain(b"orders can't be read\n");
+            return;
+        }
+        let got = io::count(answer, &chunk);
         if got == 0 {
             turns = 0;
         } else {

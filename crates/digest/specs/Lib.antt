@@ -5,4 +5,3 @@ pub mod Shapes
 pub mod Calls
 pub mod Outputs
 pub mod Order
-pub mod Acceptance

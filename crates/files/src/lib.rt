@@ -12,6 +12,16 @@ pub enum Loaded {
     Failed,
 }
 
+// A byte behind n that were read into a buffer: the buffer was full, or reading had failed before.
+fn longer(n: usize, room: usize) -> Loaded
+    ensures { λ r. ⌜ Within r room ⌝ }
+{
+    if n < room {
+        return Loaded::Failed;
+    }
+    Loaded::Long
+}
+
 // What is left to read of an open file, at the start of buf.
 pub fn take_in(fd: i32, buf: &mut [u8]) -> Loaded
     ensures { λ r. ⌜ Within r (length (now (buf .exit))) ⌝ }
@@ -23,7 +33,7 @@ pub fn take_in(fd: i32, buf: &mut [u8]) -> Loaded
         return Loaded::Failed;
     }
     if got > 0 {
-        return Loaded::Long;
+        return longer(n, buf.len());
     }
     Loaded::Bytes(n)
 }

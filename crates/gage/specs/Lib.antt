@@ -3,4 +3,3 @@ pub mod Tables
 pub mod States
 pub mod Inverse
 pub mod Answers
-pub mod Acceptance

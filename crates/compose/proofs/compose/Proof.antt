@@ -6,10 +6,10 @@ use Rattle.compose.proofs.compose.Statement.{statement}
 use Rattle.compose.proofs.compose.Tie as tie
 
 abbrev Inv-loop : tie.InvT-loop
-Inv-loop key font chunk₀ row₀ o₀ turns₀ chunk row o turns = (length chunk ≡ 4096) × (length row ≡ 128)
+Inv-loop key font chunk₀ row₀ o₀ turns₀ t10 chunk row o turns = (length chunk ≡ 4096) × (length row ≡ 128)
 
 abbrev μ-loop : tie.MeasureT-loop
-μ-loop key font chunk₀ row₀ o₀ turns₀ chunk row o turns = turns
+μ-loop key font chunk₀ row₀ o₀ turns₀ t10 chunk row o turns = turns
 
 buffer-requires : tie.Need-buffer-requires Inv-loop μ-loop
 buffer-requires c κs = search needs
@@ -22,6 +22,15 @@ slice-aggregate-read c = search needs
 
 read-requires : tie.Need-read-requires Inv-loop μ-loop
 read-requires c κs = search needs
+
+slice-aggregate-complain : tie.Need-slice-aggregate-complain Inv-loop μ-loop
+slice-aggregate-complain c = search needs
+
+complain-requires : tie.Need-complain-requires Inv-loop μ-loop
+complain-requires c κs = search needs
+
+returns : tie.Need-returns Inv-loop μ-loop
+returns c = search needs
 
 slice-aggregate-count : tie.Need-slice-aggregate-count Inv-loop μ-loop
 slice-aggregate-count c = search needs
@@ -65,11 +74,11 @@ slice-aggregate-fed c = search needs
 fed-requires : tie.Need-fed-requires Inv-loop μ-loop
 fed-requires c κs = search needs
 
-returns : tie.Need-returns Inv-loop μ-loop
-returns c = search needs
-
 returns-2 : tie.Need-returns-2 Inv-loop μ-loop
 returns-2 c = search needs
+
+returns-3 : tie.Need-returns-3 Inv-loop μ-loop
+returns-3 c = search needs
 
 pub compose-spec : {M : Type 1} → statement M
 compose-spec =
@@ -81,6 +90,9 @@ compose-spec =
     loop-holds
     slice-aggregate-read
     read-requires
+    slice-aggregate-complain
+    complain-requires
+    returns
     slice-aggregate-count
     count-requires
     loop-less
@@ -95,5 +107,5 @@ compose-spec =
     loop-again-2
     slice-aggregate-fed
     fed-requires
-    returns
-    returns-2)
+    returns-2
+    returns-3)
