@@ -5,3 +5,4 @@ pub mod Resync
 pub mod Judging
 pub mod Answers
 pub mod Cases
+pub mod Counts

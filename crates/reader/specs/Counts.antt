@@ -1,0 +1,39 @@
+-- The count of a reading (document 01, 'Numbers returned'): 0 for 7, 6 and 8; for 5, 9 and a line n + 39, n being the length of the
+-- line's ciphertext. Assumes nothing.
+use mathlib.Core.Path.{_≡_, refl}
+use mathlib.Core.Logic.{_⊎_, inl, inr}
+use mathlib.Core.List.{List}
+use Prim.Native.Nat.{ℕ, _+_}
+use native.Mathlib.Omega.{arith}
+use lib.ListN.{length}
+use Rattle.ingage.specs.Results.{open-calls-first}
+use Rattle.body.specs.Fields.{associated}
+use Rattle.body.specs.Lengths.{length-associated}
+use Rattle.frame.specs.Told.{Told}
+use Rattle.frame.specs.Lengths.{besideLine}
+use Rattle.reader.specs.Sizes.{Sizes}
+use Rattle.reader.specs.Judged.{Judged, callsIn}
+use Rattle.reader.specs.Judging.{judge}
+use Rattle.reader.specs.Cases.{Holds, Case, opening, judge-case, too-long, bad-stuffing, no-fields, other-font, other-seal, not-listed, given}
+
+-- nothing was opened, or a ciphertext was
+abbrev pub Counted : Told → List ℕ → Judged → Type 0
+Counted t s j =
+    (callsIn j ≡ 0)
+    ⊎ ((nonce cipher T : List ℕ) × Holds s nonce (t .font) cipher T × (callsIn j ≡ length cipher + besideLine))
+
+opening-calls : (t : Told) → Sizes t → (nonce cipher : List ℕ) → opening t nonce (t .font) cipher .calls ≡ length cipher + besideLine
+opening-calls t z nonce cipher =
+    omega (arith, open-calls-first (t .key) nonce (associated (t .font)) cipher, length-associated (t .font) (z .font-is))
+
+pub read-calls : (t : Told) → Sizes t → (s : List ℕ) → Counted t s (judge t s)
+read-calls t z s = by-case (judge t s) (judge-case t s)
+  where
+    by-case : (j : Judged) → Case t s j → Counted t s j
+    by-case _ (too-long h) = inl refl
+    by-case _ (bad-stuffing h n) = inl refl
+    by-case _ (no-fields g e) = inl refl
+    by-case _ (other-font nonce digest cipher T h n) = inl refl
+    by-case _ (other-seal nonce cipher T h n) = inr (nonce, cipher, T, h, opening-calls t z nonce cipher)
+    by-case _ (not-listed nonce cipher h e) = inr (nonce, cipher, _, h, opening-calls t z nonce cipher)
+    by-case _ (given nonce cipher h e) = inr (nonce, cipher, _, h, opening-calls t z nonce cipher)
