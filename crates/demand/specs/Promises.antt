@@ -1,4 +1,4 @@
--- What `read` and `write` promise of one call, on plain lists (proofs/Contracts.antt has that it is their contracts), and what a caller
+-- What `read` and `write` promise of one call, on plain lists (Contracts.antt beside this has that it is their contracts), and what a caller
 -- sees of a reading. Assumes nothing: these are definitions.
 use mathlib.Core.Path.{_≡_}
 use mathlib.Core.Bool.{Bool, true, false}

@@ -1,5 +1,5 @@
 -- Sealing and opening undo each other, at every instance that keeps the rule of the table, every key and nonce of its sizes and every
--- associated data (document 01, demand 2): texts, seals and counts. Assumes nothing.
+-- associated data (the buyer's demand 2): texts, seals and counts. Assumes nothing.
 use mathlib.Core.Path.{_≡_, sym, ap, ap₂, _∙_}
 use mathlib.Core.Logic.{_↔_}
 use mathlib.Core.List.{List}

@@ -1,5 +1,6 @@
--- The bit shuffling of document 000, section 1.1.1 (formulas 1.3 and 1.4), and its inverse. `element` and `places` alone
--- hold the reading of those formulas (docs/DECISIONS.md). Assumes nothing: these are definitions.
+-- The bit shuffling of document 000, section 1.1.1 (formulas 1.3 and 1.4), and its inverse. The reading of those
+-- formulas (docs/DECISIONS.md) stands in `element`, `places` and `weight`; `gathered`, `origins` and `source` follow from it.
+-- Assumes nothing: these are definitions.
 use mathlib.Core.Path.{_≡_}
 use Prim.Native.Nat.{ℕ, zero, suc, _+_, _*_, _/_, _%_, _^_, _-_, _<_}
 use mathlib.Core.List.{List, [], _∷_, map}
