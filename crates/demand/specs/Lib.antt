@@ -2,4 +2,5 @@ pub mod Written
 pub mod Promises
 pub mod Resync
 pub mod GivenWritten
+pub mod Reaching
 pub mod Contracts
