@@ -62,7 +62,7 @@ module _ (key font s : List ℕ) (z : Sizes (told key font)) (h : length s ≤ l
       (p .0 ∙ ap answer q, p .1 ∙ ap (λ (o : Found). buffer o l) q)
 
   -- a call that finds a stretch closes where it does, and is not the end
-  stretch-seen : (from : ℕ) → from ≤ length s → places.Found s from (nextSpan s from)
+  pub stretch-seen : (from : ℕ) → from ≤ length s → places.Found s from (nextSpan s from)
       → (l : List ℕ) (r : Answer) (l′ : List ℕ) → longest ≤ length l → Reads key font s from l r l′
       → (closingOf r ≡ nextSpan s from .closing) × (isEnd r ≡ false)
   stretch-seen from f x l r l′ g p =
