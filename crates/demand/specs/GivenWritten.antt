@@ -153,7 +153,7 @@ made-written key font L s′ (nonce, v) =
           );
     }
 
-written-made : (key font L : List ℕ) (k : ℕ) (s′ : List ℕ) → Made key font L k s′ → Written (told key font) s′ L × (k ≡ length L + besideLine)
+pub written-made : (key font L : List ℕ) (k : ℕ) (s′ : List ℕ) → Made key font L k s′ → Written (told key font) s′ L × (k ≡ length L + besideLine)
 written-made key font L k s′ m =
     let t = told key font in
     let f : List ℕ = replicate frameRoom 0 in

@@ -4,5 +4,6 @@ pub mod Resync
 pub mod GivenWritten
 pub mod Reaching
 pub mod FromStart
+pub mod EveryLine
 pub mod Ending
 pub mod Contracts
