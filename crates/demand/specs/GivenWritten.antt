@@ -40,7 +40,7 @@ use Rattle.demand.specs.Promises.{Reads, Writes}
 use Rattle.demand.specs.Resync.{sized}
 use Rattle.demand.specs.Written.{marked, Written, written-given, given-made, made-given}
 
-told-sized : (t : Told) → length (t .key) ≡ keyLength → length (t .font) ≡ digestLength → sizedTold t ≡ true
+pub told-sized : (t : Told) → length (t .key) ≡ keyLength → length (t .font) ≡ digestLength → sizedTold t ≡ true
 unfolding sizedTold
 told-sized t k d = rw (eq-eqb (length (t .key)) keyLength k) (eq-eqb (length (t .font)) digestLength d)
 
@@ -75,7 +75,7 @@ module _ (key nonce font L f : List ℕ) (w : written.Written) (f′ : List ℕ)
 
 -- what a call finds where the next stretch is the one written
 module _ (t : Told) (z : Sizes t) (s : List ℕ) (from room : ℕ) (h : length s ≤ longestStream) (g : longest ≤ room) (f : from ≤ length s) where
-  found-next : (p : Span) → nextSpan s from ≡ p → (p .first ≡ p .closing → ⊥) → found t s from room ≡ stretch p (judge t (nextStretch s from))
+  pub found-next : (p : Span) → nextSpan s from ≡ p → (p .first ≡ p .closing → ⊥) → found t s from room ≡ stretch p (judge t (nextStretch s from))
   found-next p e d =
       sized t s from room h g f (told-sized t (z .key-is) (z .font-is)) ∙ rw (e, ne-eqb (p .first) (p .closing) d)
 
@@ -153,7 +153,7 @@ made-written key font L s′ (nonce, v) =
           );
     }
 
-written-made : (key font L : List ℕ) (k : ℕ) (s′ : List ℕ) → Made key font L k s′ → Written (told key font) s′ L × (k ≡ length L + besideLine)
+pub written-made : (key font L : List ℕ) (k : ℕ) (s′ : List ℕ) → Made key font L k s′ → Written (told key font) s′ L × (k ≡ length L + besideLine)
 written-made key font L k s′ m =
     let t = told key font in
     let f : List ℕ = replicate frameRoom 0 in

@@ -24,7 +24,7 @@ use Rattle.reader.specs.Answers.{longestStream, sizedTold, Found, call, stretch
 use Rattle.demand.specs.Promises.{Seen, seenFrom, Run, none, next}
 
 -- what is seen of a stretch does not depend on what the buffer held
-seen-at : (i : ℕ) (p : Span) (j : Judged) (l : List ℕ) → seenFrom i (answerAt p j) (lineOver j l) ≡ record {
+pub seen-at : (i : ℕ) (p : Span) (j : Judged) (l : List ℕ) → seenFrom i (answerAt p j) (lineOver j l) ≡ record {
   number = numberIn j;
   ended = false;
   first = p .first - i;
@@ -39,7 +39,7 @@ seen-at i p (seal n) l = refl
 seen-at i p (unlisted n) l = refl
 seen-at i p (line w n) l = ap (λ (x : List ℕ). record { number = 0; ended = false; first = p .first - i; closing = p .closing - i; calls = n; line = x }) (take-over w l (length w) refl)
 
-closing-at : (p : Span) (j : Judged) → closingOf (answerAt p j) ≡ p .closing
+pub closing-at : (p : Span) (j : Judged) → closingOf (answerAt p j) ≡ p .closing
 closing-at p shape = refl
 closing-at p stuffing = refl
 closing-at p font = refl

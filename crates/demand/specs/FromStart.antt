@@ -1,0 +1,75 @@
+-- The buyer's demand 3, first half, for a press that reads from the start of the stream to its end, from the promises alone: two streams
+-- that are equal from a mark on are seen alike behind it. Assumes nothing.
+use mathlib.Core.Path.{_≡_, refl, sym, ap, ap₂, _∙_}
+use mathlib.Core.Bool.{true, false}
+use mathlib.Core.List.{List, [], _∷_, map, head-eq-of-cons-eq, tail-eq-of-cons-eq}
+use Prim.Native.Nat.{ℕ, zero, suc, _-_, _≤_}
+use native.Mathlib.Numerals.{unary-clauses}
+use native.Mathlib.Omega.{arith}
+use lib.ListN.{length, take, drop, length-take}
+use Rattle.frame.specs.Told.{told}
+use Rattle.reader.specs.declared.Answer.{Answer}
+use Rattle.reader.specs.Sizes.{Sizes}
+use Rattle.reader.specs.Resync.{Mark}
+use Rattle.reader.specs.Answers.{longestStream}
+use Rattle.demand.specs.Promises.{Seen, seenFrom, Run, none, next}
+use Rattle.demand.specs.Resync.{resync}
+use Rattle.demand.specs.Reaching.{Ended, at-end, before-end, Reaches, run-reaches}
+
+-- with places counted from place i
+abbrev pub countedFrom : ℕ → Seen → Seen
+countedFrom i v = record {
+  number = v .number;
+  ended = v .ended;
+  first = v .first - i;
+  closing = v .closing - i;
+  calls = v .calls;
+  line = v .line;
+}
+
+counted-seen : (i : ℕ) (r : Answer) (l′ : List ℕ) → countedFrom i (seenFrom 0 r l′) ≡ seenFrom i r l′
+counted-seen i r l′ = simp unary-clauses refl
+
+run-counted : {key font s : List ℕ} {i from : ℕ} {seen : List Seen} → Run key font s 0 from seen → Run key font s i from (map (countedFrom i) seen)
+run-counted none = none
+run-counted {i = i} (next r l l′ g p q) = rw (counted-seen i r l′) (next r l l′ g p (run-counted q))
+
+-- fewer calls
+run-take : {key font s : List ℕ} {i from : ℕ} {seen : List Seen} (n : ℕ) → Run key font s i from seen → Run key font s i from (take n seen)
+run-take zero q = none
+run-take (suc n) none = none
+run-take (suc n) (next r l l′ g p q) = next r l l′ g p (run-take n q)
+
+ended-counted : (i : ℕ) {seen : List Seen} → Ended seen → Ended (map (countedFrom i) seen)
+ended-counted i (at-end e) = at-end e
+ended-counted i (before-end e k) = before-end e (ended-counted i k)
+
+differ : {v w : Seen} → v .ended ≡ true → w .ended ≡ false → v ≡ w → ⊥
+differ a b e =
+    let t : true ≡ false = sym a ∙ ap (λ (v : Seen). v .ended) e ∙ b in
+    let z : _≡_ {A = ℕ} 0 1 = cc t in
+    omega arith
+
+-- calls that see the same for as long as both are made end together
+end-together : {x y : List Seen} → Ended x → Ended y → take (length y) x ≡ take (length x) y → x ≡ y
+end-together (at-end a) (at-end b) e = e
+end-together (at-end a) (before-end b k) e = absurd (differ a b (head-eq-of-cons-eq e))
+end-together (before-end a k) (at-end b) e = absurd (differ b a (sym (head-eq-of-cons-eq e)))
+end-together (before-end a k) (before-end b m) e = ap₂ _∷_ (head-eq-of-cons-eq e) (end-together k m (tail-eq-of-cons-eq e))
+
+-- two streams equal from a mark on, each read from its start to its end with the same key and font: both runs come to the mark, and what
+-- is seen behind it, with places counted from it, is the same
+pub resync-from-start : (key font x y : List ℕ) (i j : ℕ) → Sizes (told key font) → length x ≤ longestStream → length y ≤ longestStream
+    → Mark x i → Mark y j → drop i x ≡ drop j y → {sx sy : List Seen}
+    → Run key font x 0 0 sx → Ended sx → Run key font y 0 0 sy → Ended sy
+    → (u : Reaches key font x i sx) × (v : Reaches key font y j sy) × (map (countedFrom i) (u .after) ≡ map (countedFrom j) (v .after))
+resync-from-start key font x y i j z hx hy m n e p a q b =
+    let u = run-reaches key font x z hx i m 0 (omega arith) p a in
+    let v = run-reaches key font y z hy j n 0 (omega arith) q b in
+    (u, v, same (run-counted (u .run)) (ended-counted i (u .ended)) (run-counted (v .run)) (ended-counted j (v .ended)))
+  where
+    same : {rx ry : List Seen} → Run key font x i i rx → Ended rx → Run key font y j j ry → Ended ry → rx ≡ ry
+    same {rx} {ry} p a q b =
+        let l : length (take (length ry) rx) ≡ length (take (length rx) ry) =
+        omega (arith, length-take (length ry) rx, length-take (length rx) ry) in
+        end-together a b (resync key font x y i j hx hy m n e l (run-take (length ry) p) (run-take (length rx) q))
