@@ -1,17 +1,18 @@
--- The first bytes of an array after the permutation, after a byte XORed in, and after bytes copied in. Assumes nothing.
+-- The first bytes of an array after the permutation, after a byte XORed in, and after bytes copied in, as the
+-- nonce and the key are at the start. Assumes nothing.
 use mathlib.Core.Path.{_≡_, refl, sym, ap, ap₂, _∙_}
 use mathlib.Core.Bool.{true}
 use mathlib.Core.List.{List, [], _∷_, _++_, append-nil}
 use Prim.Native.Nat.{ℕ, zero, suc, _+_, _-_, _≤_, _<_}
-use native.Mathlib.Nat.{not-suc-le-zero, le-of-suc-le-suc, zero-add}
+use native.Mathlib.Nat.{not-suc-le-zero, le-of-suc-le-suc}
 use native.Mathlib.Omega.{arith}
 use lib.Bits.{bitXor}
-use lib.ListN.{length, getD, set, take, drop, replicate, length-drop, drop-of-length-le}
-use lib.Seq.{take-at, take-length, length-take-le, take-set-lt, getD-take, drop-drop, take-append-add, drop-append-add}
+use lib.ListN.{length, getD, set, take, drop, replicate, length-drop, length-replicate, drop-of-length-le}
+use lib.Seq.{take-at, take-length, length-take-le, take-set-lt, getD-take, drop-at, drop-drop, take-append-add}
 use Rattle.gage.specs.Permutation.{permitted, answered}
 use Rattle.gage.specs.declared.Permuted.{Permuted}
 use Rattle.sponge.specs.Absorbing.{xored}
-use Rattle.lists.specs.Buffers.{over, copied}
+use Rattle.lists.specs.Buffers.{copied}
 use Rattle.ingage.specs.declared.Instance.{Instance}
 use Rattle.ingage.specs.Instances.{Fitting}
 use Rattle.ingage.specs.Cipher.{whole, marked, keyed, started}
@@ -50,39 +51,45 @@ drop-zeros zero n h = ap (λ (x : ℕ). replicate x 0) (let e : n ≡ n - 0 = om
 drop-zeros (suc k) zero h = absurd (not-suc-le-zero h)
 drop-zeros (suc k) (suc n) h = drop-zeros k n (le-of-suc-le-suc h) ∙ ap (λ (x : ℕ). replicate x 0) (let e : n - k ≡ suc n - suc k = omega arith in e)
 
-pub take-zeros : (k n : ℕ) → k ≤ n → take {A = ℕ} k (replicate n 0) ≡ replicate k 0
+take-zeros : (k n : ℕ) → k ≤ n → take {A = ℕ} k (replicate n 0) ≡ replicate k 0
 take-zeros zero n h = refl
 take-zeros (suc k) zero h = absurd (not-suc-le-zero h)
 take-zeros (suc k) (suc n) h = ap (λ (l : List ℕ). 0 ∷ l) (take-zeros k n (le-of-suc-le-suc h))
 
--- front and key put into zeros
-pub keyed-put : (z : Instance) (front key s r : List ℕ) → Fitting z → length front ≡ z .nonce → length key ≡ z .key
-    → s ≡ front ++ drop (0 + length front) (replicate 72 0) → r ≡ take (z .nonce) s ++ (key ++ drop (z .nonce + length key) s)
-    → take (z .state) r ≡ keyed z front key
+-- nonce and key have their places in the array
+pub key-place : (z : Instance) (key : List ℕ) → Fitting z → length key ≡ z .key → z .nonce + length key ≤ 72
+key-place z key fits k = let b = fits .begins in let h = fits .held in omega arith
+
+pub nonce-place : (z : Instance) (nonce : List ℕ) → Fitting z → length nonce ≡ z .nonce → 0 + length nonce ≤ 72
+nonce-place z nonce fits n = let b = fits .begins in let h = fits .held in omega arith
+
+-- front and key one behind the other, and zeros
+keyed-front : (z : Instance) (front key : List ℕ) → Fitting z → length front ≡ z .nonce → length key ≡ z .key
+    → take (z .state) (front ++ (key ++ replicate (72 - (z .nonce + length key)) 0)) ≡ keyed z front key
 unfolding keyed
-keyed-put z front key s r fits f k e g =
+keyed-front z front key fits f k =
     let b = fits .begins in
     let h = fits .held in
-    let i : z .state ≡ length front + (length key + (z .state - (z .nonce + z .key))) = omega arith in
-    let j : z .nonce + length key ≡ length front + length key = omega arith in
-    let rest : List ℕ = replicate (72 - length front) 0 in
-    let s-is : s ≡ front ++ rest = e ∙ ap (λ (l : List ℕ). front ++ l) (rw zero-add (drop-zeros (length front) 72 (omega arith))) in
-    let r-is : r ≡ front ++ (key ++ replicate (72 - length front - length key) 0) =
-    g ∙ rw (s-is, take-at front rest (z .nonce) f, j, drop-append-add front rest (length key), drop-zeros (length key) (72 - length front) (omega arith)) in
-    ap₂ take i r-is
-    ∙ take-append-add front (key ++ replicate (72 - length front - length key) 0) (length key + (z .state - (z .nonce + z .key)))
-    ∙ ap (λ (l : List ℕ). front ++ l)
-    (take-append-add key (replicate (72 - length front - length key) 0) (z .state - (z .nonce + z .key))
-    ∙ ap (λ (l : List ℕ). key ++ l) (take-zeros (z .state - (z .nonce + z .key)) (72 - length front - length key) (omega arith)))
+    let rest : ℕ = z .state - (z .nonce + z .key) in
+    let zeros : List ℕ = replicate (72 - (z .nonce + length key)) 0 in
+    let i : z .state ≡ length front + (length key + rest) = omega arith in
+    ap (λ (n : ℕ). take n (front ++ (key ++ zeros))) i ∙ take-append-add front (key ++ zeros) (length key + rest)
+    ∙ ap (λ (l : List ℕ). front ++ l) (take-append-add key zeros rest
+    ∙ ap (λ (l : List ℕ). key ++ l) (take-zeros rest (72 - (z .nonce + length key)) (omega arith)))
 
--- the key brought in again, behind zeros
-pub started-mix : (z : Instance) (key nonce s k r : List ℕ) → Fitting z → take (z .state) k ≡ keyed z (take (z .nonce - 0) (replicate 72 0)) key
-    → take (z .state) s ≡ whole (keyed z nonce key) → r ≡ xored k s → take (z .state) r ≡ started z key nonce .state
+-- k has the key put into zeros, and n is k with the nonce in front: n permuted, and k XORed in
+pub started-mix : (z : Instance) (key nonce k n s r : List ℕ) → Fitting z → length key ≡ z .key → length nonce ≡ z .nonce
+    → k ≡ take (z .nonce) (replicate 72 0) ++ (key ++ drop (z .nonce + length key) (replicate 72 0)) → n ≡ nonce ++ drop (0 + length nonce) k
+    → take (z .state) s ≡ whole (take (z .state) n) → r ≡ xored k s → take (z .state) r ≡ started z key nonce .state
 unfolding started
-started-mix z key nonce s k r fits f g h =
+started-mix z key nonce k n s r fits kl nl e f g h =
     let b = fits .begins in
     let l = fits .held in
-    let n : z .nonce - 0 ≡ z .nonce = omega arith in
+    let front : List ℕ = replicate (z .nonce) 0 in
+    let behind : List ℕ = key ++ replicate (72 - (z .nonce + length key)) 0 in
+    let k-is : k ≡ front ++ behind =
+    e ∙ ap₂ (λ (x y : List ℕ). x ++ (key ++ y)) (take-zeros (z .nonce) 72 (omega arith)) (drop-zeros (z .nonce + length key) 72 (omega arith)) in
+    let at : length front ≡ 0 + length nonce = rw length-replicate (omega arith) in
+    let n-is : n ≡ nonce ++ behind = f ∙ ap (λ (x : List ℕ). nonce ++ x) (rw k-is (drop-at front behind (0 + length nonce) at)) in
     rw h (xored-take (z .state) k s
-    ∙ ap₂ xored (f
-    ∙ ap (λ (x : List ℕ). keyed z x key) (rw n (take-zeros (z .nonce) 72 (omega arith)))) g)
+    ∙ ap₂ xored (rw k-is (keyed-front z front key fits (length-replicate (z .nonce) 0) kl)) (g ∙ ap whole (rw n-is (keyed-front z nonce key fits nl kl))))

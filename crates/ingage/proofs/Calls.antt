@@ -88,6 +88,10 @@ module _ (z : Instance) (key nonce A text out seal : List ℕ) where
             room = room;
           }
 
+-- the array holds the state
+pub held-in : (z : Instance) (f : List ℕ) → Fitting z → length f ≡ 72 → z .state ≤ length f
+held-in z f fits l = let h = fits .held in omega arith
+
 -- the seal's place in the state
 pub seal-place : (z : Instance) (f : List ℕ) → Fitting z → z .state ≤ length f → take (z .rate + z .seal - z .rate) (drop (z .rate) f) ≡ sealOf z (take (z .state) f)
 unfolding sealOf

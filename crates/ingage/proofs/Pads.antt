@@ -1,12 +1,13 @@
--- A block is its piece of the text, padded: for the last block and for the whole ones before it. Assumes nothing.
-use mathlib.Core.Path.{_≡_, ap, _∙_}
+-- A block is its piece of the text, padded: for the last block and for the whole ones before it. Where the code has a piece
+-- end, and the turns of a loop over blocks. Assumes nothing.
+use mathlib.Core.Path.{_≡_, sym, ap, _∙_}
 use mathlib.Core.List.{List}
 use Prim.Native.Nat.{ℕ, _+_, _-_, _*_, _/_, _%_, _≤_, _<_, min}
-use native.Mathlib.Nat.{mul-le-mul-right, div-mul-le-self}
+use native.Mathlib.Nat.{mul-le-mul-right, div-le-self, div-mul-le-self}
 use native.Mathlib.Decide.{decLt}
 use native.Mathlib.Omega.{arith}
 use lib.ListN.{length, take, drop, length-take, length-drop}
-use lib.Seq.{take-all, take-at}
+use lib.Seq.{take-all, take-at, length-take-le}
 use Rattle.sponge.specs.Padding.{padded, block, blockCount, lastBlock, LARGEST-RATE}
 use Rattle.sponge.specs.Blocks.{blocks-suc, whole-rest, block-whole, last-block-cut}
 use borrow.Author.Tests.{eq-eqb, ne-eqb}
@@ -21,6 +22,28 @@ unfolding piece
 piece-part R m i end h e =
     let k : end - i * R ≡ min R (length (drop (i * R) m)) = omega (arith, length-drop (i * R) m) in
     rw k (cut R (drop (i * R) m))
+
+-- where the code has it end: behind its start, within the text, and no more than a block further
+pub end-between : (R at n end : ℕ) → at ≤ n → end ≡ min (at + R) n → (at ≤ end) × (end ≤ n) × (end - at ≤ R)
+end-between R at n end h e = (omega arith, omega arith, omega arith)
+
+-- that part of the text is no longer than a block, and as long as the buffer's at the same place
+pub same-part : (R at end : ℕ) (m out : List ℕ) → (at ≤ end) × (end ≤ length m) × (end - at ≤ R) → end ≤ length out
+    → (length (take (end - at) (drop at m)) ≤ R) × (length (take (end - at) (drop at out)) ≡ length (take (end - at) (drop at m)))
+same-part R at end m out (h, k, l) g =
+    let a : length (take (end - at) (drop at m)) ≡ end - at = length-take-le (end - at) (drop at m) (rw length-drop (omega arith)) in
+    let b : length (take (end - at) (drop at out)) ≡ end - at = length-take-le (end - at) (drop at out) (rw length-drop (omega arith)) in
+    (rw a l, b ∙ sym a)
+
+-- the count of blocks and the turns of a loop over them
+pub most-blocks : (R n : ℕ) → n / R + 1 ≤ n + 1
+most-blocks R n = omega (arith, div-le-self n R)
+
+pub most-turns : (R n i : ℕ) → i < n / R + 1 → i + 1 ≤ n + 1
+most-turns R n i h = omega (arith, div-le-self n R)
+
+pub fewer-turns : (k i : ℕ) → i < k → k - (i + 1) < k - i
+fewer-turns k i h = omega arith
 
 pub block-of : (R : ℕ) (m : List ℕ) (i : ℕ) → 1 ≤ R → R < LARGEST-RATE → i < blockCount R m → take R (lastBlock (piece R m i)) ≡ block R m i
 unfolding piece lastBlock padded

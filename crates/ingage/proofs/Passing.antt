@@ -1,4 +1,5 @@
--- The loops over blocks: what the state and the buffer hold after i of them, with laws none, more, all. Assumes nothing.
+-- One piece of a text: what is given out of it, and the state that follows. The loops over blocks: what the state and the buffer hold
+-- after i of them, with laws none, more, all. Assumes nothing.
 use mathlib.Core.Path.{_≡_, refl, sym, ap, ap₂, _∙_}
 use mathlib.Core.List.{List, _++_}
 use Prim.Native.Nat.{ℕ, _+_, _-_, _*_, _/_, _≤_, _<_, min}
@@ -6,26 +7,78 @@ use native.Mathlib.Nat.{le-div-iff-mul-le}
 use native.Mathlib.Numerals.{add-one}
 use native.Mathlib.Omega.{arith}
 use lib.ListN.{length, take, drop, length-take, length-append}
-use lib.Seq.{take-all, take-take, take-nil, drop-at, length-take-le}
+use lib.Seq.{take-all, take-at, take-take, take-nil, drop-at, length-take-le}
 use Rattle.lists.specs.Buffers.{over, copied}
-use Rattle.sponge.specs.Padding.{block, blockCount, lastBlock}
-use Rattle.sponge.specs.Blocks.{length-block}
+use Rattle.sponge.specs.Padding.{padded, block, blockCount, lastBlock, LARGEST-RATE}
+use Rattle.sponge.specs.Blocks.{length-last-block}
 use Rattle.sponge.specs.Absorbing.{xored}
 use Rattle.ingage.specs.declared.Instance.{Instance}
 use Rattle.ingage.specs.Instances.{Fitting}
 use Rattle.ingage.specs.Cipher.{AFTER-ASSOCIATED, half, marked, from, associatedBlock, absorbing, absorbed, encrypting, piece, masked, decrypting}
 use Rattle.ingage.specs.Masking.{xored-take, masked-take, length-masked}
-use Rattle.ingage.specs.Pieces.{piece-starts, length-piece, block-piece}
+use Rattle.ingage.specs.Pieces.{piece-starts, length-piece}
 use Rattle.ingage.specs.Runs.{length-encrypting, length-decrypting}
 use Rattle.ingage.specs.Flows.{sealing-grows, opening-grows, length-found}
 use Rattle.ingage.proofs.Pads.{block-of, piece-part}
-use Rattle.ingage.proofs.Writing.{length-over, written}
+use Rattle.ingage.proofs.Writing.{length-over, copied-in, written}
 
 -- a block of R bytes mixed into an array whose first n bytes count
-mixed : (n R : ℕ) (b r : List ℕ) → R ≤ n → take n (xored (take (R - 0) b) r) ≡ xored (take R b) (take n r)
+mixed : (n R : ℕ) (b r : List ℕ) → R ≤ n → take n (xored (take R b) r) ≡ xored (take R b) (take n r)
 mixed n R b r h =
-    let e : R - 0 ≡ R = omega arith in
-    rw e (xored-take n (take R b) r ∙ ap (λ (l : List ℕ). xored l (take n r)) (take-all n (take R b) (omega (arith, length-take R b))))
+    xored-take n (take R b) r ∙ ap (λ (l : List ℕ). xored l (take n r)) (take-all n (take R b) (omega (arith, length-take R b)))
+
+-- k bytes of a mixed array, no more than count
+in-front : (k n : ℕ) (x c : List ℕ) → k ≤ n → take n x ≡ c → take k x ≡ take k c
+in-front k n x c h e = sym (take-take k n x h) ∙ ap (λ (l : List ℕ). take k l) e
+
+-- a padded piece p mixed into an array s, and the permutation after it
+passed-on : (z : Instance) → Fitting z → (p s b x r : List ℕ) → b ≡ lastBlock p → x ≡ xored (take (z .rate) b) s → take (z .state) r ≡ half (take (z .state) x)
+    → take (z .state) r ≡ half (xored (take (z .rate) (lastBlock p)) (take (z .state) s))
+passed-on z fits p s b x r e f g =
+    let d = fits .ends in
+    g ∙ ap half (rw (f, e) (mixed (z .state) (z .rate) (lastBlock p) s (omega arith)))
+
+-- one piece p of a text, over a buffer o of its length: what was copied there, and the state that follows
+module _ (z : Instance) (fits : Fitting z) (p s : List ℕ) (size : length s ≡ 72) (short : length p ≤ z .rate) (o part : List ℕ) (fills : length o ≡ length p) where
+  abbrev given : List ℕ
+  given = masked p (take (z .state) s)
+
+  -- the first bytes of y were copied there
+  filled-by : (y : List ℕ) → take (length p) y ≡ given → part ≡ copied y o → part ≡ given
+  filled-by y e g =
+      let d = fits .ends in
+      let h = fits .held in
+      let l : length given ≡ length p = length-masked p (take (z .state) s) (omega (arith, length-take-le (z .state) s (omega arith))) in
+      g ∙ copied-in given y o (fills ∙ sym l) (rw l e)
+
+  pub piece-sealed : (b x r : List ℕ) → b ≡ lastBlock p → x ≡ xored (take (z .rate) b) s → part ≡ copied x o
+      → take (z .state) r ≡ half (take (z .state) x)
+      → (take (z .state) r ≡ half (xored (take (z .rate) (lastBlock p)) (take (z .state) s))) × (part ≡ given)
+  unfolding lastBlock padded
+  piece-sealed b x r e f g q =
+      let d = fits .ends in
+      let t = fits .small in
+      let mix : take (z .state) x ≡ xored (take (z .rate) b) (take (z .state) s) = rw f (mixed (z .state) (z .rate) b s (omega arith)) in
+      let front : take (length p) (take (z .rate) b) ≡ p =
+      take-take (length p) (z .rate) b short ∙ rw (e, take-all (LARGEST-RATE - 1) p (omega arith)) (take-at p _ (length p) refl) in
+      let long : length (take (z .rate) b) ≡ z .rate = length-take-le (z .rate) b (rw e (omega (arith, length-last-block p))) in (
+        passed-on z fits p s b x r e f q,
+        filled-by x
+            (in-front (length p) (z .state) x (xored (take (z .rate) b) (take (z .state) s)) (omega arith) mix
+            ∙ masked-take (length p) (take (z .rate) b) (take (z .state) s) (omega arith)
+            ∙ ap (λ (c : List ℕ). masked c (take (z .state) s)) front) g,
+      )
+
+  pub piece-opened : (m b x r : List ℕ) → m ≡ xored p s → part ≡ copied m o → b ≡ lastBlock part → x ≡ xored (take (z .rate) b) s
+      → take (z .state) r ≡ half (take (z .state) x)
+      → (take (z .state) r ≡ half (xored (take (z .rate) (lastBlock given)) (take (z .state) s))) × (part ≡ given)
+  unfolding masked
+  piece-opened m b x r f g e y q =
+      let d = fits .ends in
+      let mix : take (z .state) m ≡ xored p (take (z .state) s) =
+      rw f (xored-take (z .state) p s ∙ ap (λ (c : List ℕ). xored c (take (z .state) s)) (take-all (z .state) p (omega arith))) in
+      let found : part ≡ given = filled-by m (in-front (length p) (z .state) m (xored p (take (z .state) s)) (omega arith) mix) g in
+      (passed-on z fits given s b x r (e ∙ ap lastBlock found) y q, found)
 
 -- the associated data
 pub record Absorbing (z : Instance) (A s r : List ℕ) (i : ℕ) : Type 0 where
@@ -39,7 +92,7 @@ module _ (z : Instance) (A s : List ℕ) where
   absorbing-none l = record { turns = omega arith; long = l; state = refl }
 
   pub absorbing-more : {r : List ℕ} {i : ℕ} (b x r′ : List ℕ) → Fitting z → Absorbing z A s r i → i < blockCount (z .rate) A
-      → take (z .rate) b ≡ associatedBlock z A i → x ≡ xored (take (z .rate - 0) b) r → take (z .state) r′ ≡ half (take (z .state) x) → length r′ ≡ 72
+      → take (z .rate) b ≡ associatedBlock z A i → x ≡ xored (take (z .rate) b) r → take (z .state) r′ ≡ half (take (z .state) x) → length r′ ≡ 72
       → Absorbing z A s r′ (i + 1)
   unfolding absorbing
   absorbing-more {r} {i} b x r′ fits w h e f g l =
@@ -90,74 +143,66 @@ module _ (z : Instance) (fits : Fitting z) (P s o : List ℕ) (size : length s �
   wide : R ≤ length (take n s)
   wide = let e = fits .ends in omega (arith, length-take-le n s (let h = fits .held in omega arith))
 
-  -- what the mixed array has in front, in the first n bytes and in a block's
-  in-front : (k : ℕ) (x c : List ℕ) → k ≤ n → take n x ≡ c → take k x ≡ take k c
-  in-front k x c h e = sym (take-take k n x h) ∙ ap (λ (l : List ℕ). take k l) e
+  -- piece i, masked, reaches to the end that the code works out
+  piece-end : (i end : ℕ) (state : List ℕ) → length state ≡ length (take n s) → i < blockCount R P → end ≡ min (i * R + R) (length P)
+      → i * R + length (masked (piece R P i) state) ≡ end
+  piece-end i end state l h e =
+      let k = length-piece R P i in
+      let starts = piece-starts R P i h in
+      let m : length (masked (piece R P i) state) ≡ length (piece R P i) = length-masked (piece R P i) state (omega (arith, wide)) in
+      omega arith
 
-  pub sealing-more : {r out : List ℕ} {i : ℕ} (end : ℕ) (b x part r′ : List ℕ) → Sealing n R P s o r out i → i < blockCount R P
-      → end ≡ min (i * R + R) (length P) → take R b ≡ block R P i → x ≡ xored (take (R - 0) b) r
-      → part ≡ copied x (take (end - i * R) (drop (i * R) out)) → take n r′ ≡ half (take n x) → length r′ ≡ 72
+  pub sealing-more : {r out : List ℕ} {i : ℕ} (end : ℕ) (part r′ : List ℕ) → Sealing n R P s o r out i → i < blockCount R P
+      → end ≡ min (i * R + R) (length P) → take n r′ ≡ half (xored (take R (lastBlock (take (end - i * R) (drop (i * R) P)))) (take n r))
+      → part ≡ masked (take (end - i * R) (drop (i * R) P)) (take n r) → length r′ ≡ 72
       → Sealing n R P s o r′ (take (i * R) out ++ (part ++ drop (end - i * R) (drop (i * R) out))) (i + 1)
   unfolding encrypting
-  sealing-more {r} {out} {i} end b x part r′ w h e f g p q l =
+  sealing-more {r} {out} {i} end part r′ w h e q p l =
       let grows = sealing-grows R (fits .moves) (from (take n s)) wide P in
       let state : List ℕ = encrypting R (from (take n s)) P i .run .state in
       let text : List ℕ = take (length P) (encrypting R (from (take n s)) P i .text) in
       let next : List ℕ = masked (piece R P i) state in
-      let d = fits .ends in
-      let k = length-piece R P i in
-      let starts = piece-starts R P i h in
-      let held : length state ≡ length (take n s) = length-encrypting R (from (take n s)) P i in
-      let m : take n x ≡ xored (block R P i) state = rw g (mixed n R b r (omega arith) ∙ ap₂ xored f (w .state)) in
-      let m-long : length next ≡ length (piece R P i) = length-masked (piece R P i) state (omega (arith, wide)) in
-      let found : take (length next) x ≡ next =
-      rw m-long (in-front (length (piece R P i)) x (xored (block R P i) state) (omega arith) m
-      ∙ masked-take (length (piece R P i)) (block R P i) state (omega (arith, length-block R P i (fits .moves) h))
-      ∙ ap (λ (c : List ℕ). masked c state) (block-piece R P i h)) in
+      let c : take (end - i * R) (drop (i * R) P) ≡ piece R P i = piece-part R P i end (piece-starts R P i h) e in
+      let long : i * R + length next ≡ end = piece-end i end state (length-encrypting R (from (take n s)) P i) h e in
       record {
         turns = omega arith;
         long = l;
-        state = rw (add-one i) (q ∙ ap half m);
-        text = rw (add-one i) (written text next x o out part (i * R) end (w .text) (grows .long i h) (omega arith) (omega arith) found p
+        state = rw (add-one i) (q
+            ∙ ap₂ (λ (x y : List ℕ). half (xored x y)) (rw c (block-of R P i (fits .moves) (fits .small) h)) (w .state));
+        text = rw (add-one i) (ap (λ (x : List ℕ). take (i * R) out ++ (x ++ drop (end - i * R) (drop (i * R) out))) (p ∙ ap₂ masked c (w .state))
+            ∙ written text next o out (i * R) end (w .text) (grows .long i h) long
             ∙ ap (λ (t : List ℕ). over t o) (sym (grows .more i h)));
       }
 
   -- the block of a text that just grew by its last piece x
-  grown-block : (d x b : List ℕ) (i : ℕ) → length d ≡ i * R → length x ≤ R → b ≡ lastBlock x → take R b ≡ block R (d ++ x) i
+  grown-block : (d x : List ℕ) (i : ℕ) → length d ≡ i * R → length x ≤ R → take R (lastBlock x) ≡ block R (d ++ x) i
   unfolding piece
-  grown-block d x b i l h e =
+  grown-block d x i l h =
       let last : piece R (d ++ x) i ≡ x = rw (drop-at d x (i * R) l) (take-all R x h) in
       let there : i ≤ length (d ++ x) / R = le-div-iff-mul-le (fits .moves) .1 (omega (arith, length-append d x)) in
-      ap (λ (c : List ℕ). take R c) (e ∙ ap lastBlock (sym last)) ∙ block-of R (d ++ x) i (fits .moves) (fits .small) (omega arith)
+      ap (λ (c : List ℕ). take R (lastBlock c)) (sym last) ∙ block-of R (d ++ x) i (fits .moves) (fits .small) (omega arith)
 
-  pub opening-more : {r out : List ℕ} {i : ℕ} (end : ℕ) (m part b x r′ : List ℕ) → Opening n R P s o r out i → i < blockCount R P
-      → end ≡ min (i * R + R) (length P) → m ≡ xored (take (end - i * R) (drop (i * R) P)) r
-      → part ≡ copied m (take (end - i * R) (drop (i * R) out)) → b ≡ lastBlock (take (end - i * R - 0) m)
-      → x ≡ xored (take (R - 0) b) r → take n r′ ≡ half (take n x) → length r′ ≡ 72
+  pub opening-more : {r out : List ℕ} {i : ℕ} (end : ℕ) (part r′ : List ℕ) → Opening n R P s o r out i → i < blockCount R P
+      → end ≡ min (i * R + R) (length P)
+      → take n r′ ≡ half (xored (take R (lastBlock (masked (take (end - i * R) (drop (i * R) P)) (take n r)))) (take n r))
+      → part ≡ masked (take (end - i * R) (drop (i * R) P)) (take n r) → length r′ ≡ 72
       → Opening n R P s o r′ (take (i * R) out ++ (part ++ drop (end - i * R) (drop (i * R) out))) (i + 1)
-  unfolding decrypting masked
-  opening-more {r} {out} {i} end m part b x r′ w h e f p g y q l =
+  unfolding decrypting
+  opening-more {r} {out} {i} end part r′ w h e q p l =
       let grows = opening-grows R (fits .moves) (from (take n s)) wide P in
       let state : List ℕ = decrypting R (from (take n s)) P i .run .state in
       let text : List ℕ = decrypting R (from (take n s)) P i .text in
       let next : List ℕ = masked (piece R P i) state in
-      let d = fits .ends in
-      let k = length-piece R P i in
-      let starts = piece-starts R P i h in
-      let held : length state ≡ length (take n s) = length-decrypting R (from (take n s)) P i in
-      let n-long : length next ≡ length (piece R P i) = length-masked (piece R P i) state (omega (arith, wide)) in
-      let size : end - i * R - 0 ≡ length next = omega arith in
-      let mix : take n m ≡ xored (piece R P i) state =
-      rw (f, piece-part R P i end starts e) (xored-take n (piece R P i) r
-      ∙ ap₂ xored (take-all n (piece R P i) (omega arith)) (w .state)) in
-      let found : take (length next) m ≡ next = rw n-long (in-front (length (piece R P i)) m (xored (piece R P i) state) (omega arith) mix) in
-      let blocked : take R b ≡ block R (text ++ next) i =
-      grown-block text next b i (grows .long i h) (omega arith) (g ∙ ap lastBlock (rw size found)) in
+      let long : i * R + length next ≡ end = piece-end i end state (length-decrypting R (from (take n s)) P i) h e in
+      let found : masked (take (end - i * R) (drop (i * R) P)) (take n r) ≡ next =
+      ap₂ masked (piece-part R P i end (piece-starts R P i h) e) (w .state) in
       record {
         turns = omega arith;
         long = l;
-        state = rw (add-one i) (q ∙ ap half (rw y (mixed n R b r (omega arith) ∙ ap₂ xored blocked (w .state))));
-        text = rw (add-one i) (written text next m o out part (i * R) end (w .text) (grows .long i h) (omega arith) (omega arith) found p);
+        state = rw (add-one i) (q
+            ∙ ap₂ (λ (x y : List ℕ). half (xored x y)) (rw found (grown-block text next i (grows .long i h) (omega arith))) (w .state));
+        text = rw (add-one i) (ap (λ (x : List ℕ). take (i * R) out ++ (x ++ drop (end - i * R) (drop (i * R) out))) (p ∙ found)
+            ∙ written text next o out (i * R) end (w .text) (grows .long i h) long);
       }
 
   -- the buffer keeps its length

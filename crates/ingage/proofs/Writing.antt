@@ -4,7 +4,7 @@ use mathlib.Core.List.{List, _++_, append-assoc, append-nil}
 use Prim.Native.Nat.{ℕ, _+_, _-_, _≤_}
 use native.Mathlib.Omega.{arith}
 use lib.ListN.{length, take, drop, length-append, length-drop, drop-of-length-le}
-use lib.Seq.{take-at, drop-at, drop-drop, length-take-le}
+use lib.Seq.{take-at, drop-at, drop-drop}
 use Rattle.lists.specs.Buffers.{over, copied}
 
 -- what was written keeps the buffer's length
@@ -17,20 +17,16 @@ over-more w x o =
     ap (λ (l : List ℕ). (w ++ x) ++ l) (rw (length-append w x, sym (drop-drop (length x) (length w) o))) ∙ append-assoc w x (drop (length x) (drop (length w) o))
 
 -- the first bytes of y, copied into a part of just x's length
-copied-in : (x y mid : List ℕ) → length mid ≡ length x → take (length x) y ≡ x → copied y mid ≡ x
+pub copied-in : (x y mid : List ℕ) → length mid ≡ length x → take (length x) y ≡ x → copied y mid ≡ x
 copied-in x y mid l e =
     rw (l, e, drop-of-length-le mid {i = length x} (omega arith)) (append-nil x)
 
--- the buffer with a piece copied in, at the place where the text so far ends
-pub written : (w x y o out part : List ℕ) (at end : ℕ) → out ≡ over w o → length w ≡ at → at + length x ≡ end → end ≤ length o
-    → take (length x) y ≡ x → part ≡ copied y (take (end - at) (drop at out))
-    → take at out ++ (part ++ drop (end - at) (drop at out)) ≡ over (w ++ x) o
-written w x y o out part at end e l k room is p =
+-- the buffer with a piece x put in its part, at the place where the text so far ends
+pub written : (w x o out : List ℕ) (at end : ℕ) → out ≡ over w o → length w ≡ at → at + length x ≡ end
+    → take at out ++ (x ++ drop (end - at) (drop at out)) ≡ over (w ++ x) o
+written w x o out at end e l k =
     let rest : List ℕ = drop (length w) o in
     let front : take at out ≡ w = ap (λ (b : List ℕ). take at b) e ∙ take-at w rest at l in
     let behind : drop at out ≡ rest = ap (λ (b : List ℕ). drop at b) e ∙ drop-at w rest at l in
     let size : end - at ≡ length x = omega arith in
-    let mid : length (take (length x) rest) ≡ length x =
-    length-take-le (length x) rest (omega (arith, length-drop (length w) o)) in
-    let put : part ≡ x = (rw (behind, size) at p) ∙ copied-in x y (take (length x) rest) mid is in
-    rw (front, put, behind, size) (sym (over-more w x o))
+    rw (front, behind, size) (sym (over-more w x o))

@@ -10,10 +10,11 @@ ghost use mathlib.Core.List.{_++_};
 ghost use lib.ListN.{length, take, drop};
 ghost use Rattle.gage.specs.Permutation.{permitted};
 ghost use Rattle.lists.specs.Buffers.{over};
-ghost use Rattle.sponge.specs.Padding.{blockCount};
+ghost use Rattle.sponge.specs.Padding.{blockCount, lastBlock};
+ghost use Rattle.sponge.specs.Absorbing.{xored};
 ghost use Rattle.ingage.specs.Instances.{Fitting};
 ghost use Rattle.ingage.specs.Answers.{LONGEST-ASSOCIATED, LONGEST-TEXT};
-ghost use Rattle.ingage.specs.Cipher.{whole, half, marked, from, keyed, started, associatedBlock, absorbed, begun, encrypting, decrypting, finished, sealOf};
+ghost use Rattle.ingage.specs.Cipher.{whole, half, marked, from, passed, associatedBlock, absorbed, begun, encrypting, masked, decrypting, finished, sealOf};
 
 // What is XORed into the last block of the associated data, into the state after it, and into the state after the message (document 000,
 // section 2.1).
@@ -62,28 +63,6 @@ fn put(s: [u8; LARGEST], at: usize, b: &[u8]) -> [u8; LARGEST]
     r
 }
 
-// The front, the key behind it, and zeros.
-fn keyed(z: Instance, front: &[u8], key: &[u8]) -> [u8; LARGEST]
-    requires { ⌜ Fitting z × (length (now front) ≡ z .nonce) × (length (now key) ≡ z .key) ⌝ }
-    ensures { λ r. ⌜ take (z .state) r ≡ keyed z (now (front .entry)) (now (key .entry)) ⌝ }
-{
-    let s = put([0u8; LARGEST], 0, front);
-    put(s, z.nonce, key)
-}
-
-// 'Initialize state S'.
-fn start(z: Instance, key: &[u8], nonce: &[u8]) -> [u8; LARGEST]
-    requires { ⌜ Fitting z × (length (now key) ≡ z .key) × (length (now nonce) ≡ z .nonce) ⌝ }
-    ensures { λ r. ⌜ take (z .state) r ≡ started z (now (key .entry)) (now (nonce .entry)) .state ⌝ }
-{
-    let n = z.state;
-    let at = z.nonce;
-    let zeros = [0u8; LARGEST];
-    let s = whole(keyed(z, nonce, key), n);
-    let k = keyed(z, &zeros[0..at], key);
-    sponge::mix(s, &k)
-}
-
 // Where the piece of a text that starts at a place ends: a block further, or at the text's end.
 fn end_of(length: usize, at: usize, rate: usize) -> usize
     requires { ⌜ at ≤ length ⌝ }
@@ -110,6 +89,15 @@ fn associated_block(z: Instance, assoc: &[u8], i: usize) -> [u8; LARGEST_RATE]
     b
 }
 
+// A block XORed into the state, for the associated data and for both texts: its first bytes, as many as the rate has.
+fn mix_block(z: Instance, s: [u8; LARGEST], b: [u8; LARGEST_RATE]) -> [u8; LARGEST]
+    requires { ⌜ Fitting z ⌝ }
+    ensures { λ r. ⌜ r ≡ xored (take (z .rate) b) s ⌝ }
+{
+    let rate = z.rate;
+    sponge::mix(s, &b[0..rate])
+}
+
 // 'Absorb associated data A'.
 fn absorb(z: Instance, s: [u8; LARGEST], assoc: &[u8]) -> [u8; LARGEST]
     requires { ⌜ Fitting z ⌝ }
@@ -121,19 +109,45 @@ fn absorb(z: Instance, s: [u8; LARGEST], assoc: &[u8]) -> [u8; LARGEST]
     let mut r = s;
     let mut i = 0;
     while i < count {
-        let b = associated_block(z, assoc, i);
-        r = half(sponge::mix(r, &b[0..rate]), n);
+        r = half(mix_block(z, r, associated_block(z, assoc, i)), n);
         i += 1;
     }
     mark(r, n, AFTER_ASSOCIATED)
 }
 
-// The state when the message comes.
+// The state when the message comes: 'Initialize state S', then the associated data. N||K||0* is 0||K||0*, which is needed again after
+// the permutation, with the nonce put in front.
 pub fn begin(z: Instance, key: &[u8], nonce: &[u8], assoc: &[u8]) -> [u8; LARGEST]
     requires { ⌜ Fitting z × (length (now key) ≡ z .key) × (length (now nonce) ≡ z .nonce) ⌝ }
     ensures { λ r. ⌜ take (z .state) r ≡ begun z (now (key .entry)) (now (nonce .entry)) (now (assoc .entry)) .state ⌝ }
 {
-    absorb(z, start(z, key, nonce), assoc)
+    let zeros = [0u8; LARGEST];
+    let k = put(zeros, z.nonce, key);
+    let s = whole(put(k, 0, nonce), z.state);
+    absorb(z, sponge::mix(s, &k), assoc)
+}
+
+// Steps 3 to 5 of encrypting, for one piece p of the message: its ciphertext fills out, and the piece, padded, is XORed in. The piece is
+// shorter than a block only where the message ends, so that out never needs room for the padding.
+fn encrypt_piece(z: Instance, s: [u8; LARGEST], p: &[u8], out: &mut [u8]) -> [u8; LARGEST]
+    requires { ⌜ Fitting z × (length (now p) ≤ z .rate) × (length (now out) ≡ length (now p)) ⌝ }
+    ensures state { λ r. ⌜ take (z .state) r ≡ passed (take (z .rate) (lastBlock (now (p .entry)))) (from (take (z .state) s)) .state ⌝ }
+    ensures text { λ _. ⌜ now (out .exit) ≡ masked (now (p .entry)) (take (z .state) s) ⌝ }
+{
+    let x = mix_block(z, s, sponge::last_block(p));
+    lists::copy(&x, out);
+    half(x, z.state)
+}
+
+// The same for one piece c of the ciphertext: its piece of the message fills out, and is then padded and XORed in from there, as in sealing.
+fn decrypt_piece(z: Instance, s: [u8; LARGEST], c: &[u8], out: &mut [u8]) -> [u8; LARGEST]
+    requires { ⌜ Fitting z × (length (now c) ≤ z .rate) × (length (now out) ≡ length (now c)) ⌝ }
+    ensures state { λ r. ⌜ take (z .state) r ≡ passed (take (z .rate) (lastBlock (masked (now (c .entry)) (take (z .state) s)))) (from (take (z .state) s)) .state ⌝ }
+    ensures text { λ _. ⌜ now (out .exit) ≡ masked (now (c .entry)) (take (z .state) s) ⌝ }
+{
+    let m = sponge::mix(s, c);
+    lists::copy(&m, out);
+    half(mix_block(z, s, sponge::last_block(out)), z.state)
 }
 
 // 'Absorb and encrypt the plaintext P': the ciphertext goes over the start of out.
@@ -142,7 +156,6 @@ pub fn encrypt(z: Instance, s: [u8; LARGEST], message: &[u8], out: &mut [u8]) ->
     ensures state { λ r. ⌜ take (z .state) r ≡ encrypting (z .rate) (from (take (z .state) s)) (now (message .entry)) (blockCount (z .rate) (now (message .entry))) .run .state ⌝ }
     ensures text { λ _. ⌜ now (out .exit) ≡ over (take (length (now (message .entry))) (encrypting (z .rate) (from (take (z .state) s)) (now (message .entry)) (blockCount (z .rate) (now (message .entry))) .text)) (now (out .entry)) ⌝ }
 {
-    let n = z.state;
     let rate = z.rate;
     let count = message.len() / rate + 1;
     let mut r = s;
@@ -150,22 +163,19 @@ pub fn encrypt(z: Instance, s: [u8; LARGEST], message: &[u8], out: &mut [u8]) ->
     while i < count {
         let at = i * rate;
         let end = end_of(message.len(), at, rate);
-        let b = sponge::last_block(&message[at..end]);
-        let x = sponge::mix(r, &b[0..rate]);
-        lists::copy(&x, &mut out[at..end]);
-        r = half(x, n);
+        let next = encrypt_piece(z, r, &message[at..end], &mut out[at..end]);
+        r = next;
         i += 1;
     }
     r
 }
 
-// 'Process the ciphertext C': the message goes over the start of out, and is padded and XORed in as in sealing.
+// 'Process the ciphertext C': the message goes over the start of out.
 pub fn decrypt(z: Instance, s: [u8; LARGEST], cipher: &[u8], out: &mut [u8]) -> [u8; LARGEST]
     requires { ⌜ Fitting z × (length (now cipher) ≤ length (now out)) ⌝ }
     ensures state { λ r. ⌜ take (z .state) r ≡ decrypting (z .rate) (from (take (z .state) s)) (now (cipher .entry)) (blockCount (z .rate) (now (cipher .entry))) .run .state ⌝ }
     ensures text { λ _. ⌜ now (out .exit) ≡ over (decrypting (z .rate) (from (take (z .state) s)) (now (cipher .entry)) (blockCount (z .rate) (now (cipher .entry))) .text) (now (out .entry)) ⌝ }
 {
-    let n = z.state;
     let rate = z.rate;
     let count = cipher.len() / rate + 1;
     let mut r = s;
@@ -173,10 +183,8 @@ pub fn decrypt(z: Instance, s: [u8; LARGEST], cipher: &[u8], out: &mut [u8]) -> 
     while i < count {
         let at = i * rate;
         let end = end_of(cipher.len(), at, rate);
-        let m = sponge::mix(r, &cipher[at..end]);
-        lists::copy(&m, &mut out[at..end]);
-        let b = sponge::last_block(&m[0..end - at]);
-        r = half(sponge::mix(r, &b[0..rate]), n);
+        let next = decrypt_piece(z, r, &cipher[at..end], &mut out[at..end]);
+        r = next;
         i += 1;
     }
     r

@@ -1,44 +1,60 @@
 -- `associated_block` meets its promise: the part taken, padded, is the block, and the store sets the last one's last bit. Assumes
 -- nothing.
-use Rattle.ingage.proofs.Pads.{part-block, associated-last, associated-before}
+use Rattle.ingage.proofs.Pads.{end-between, part-block, associated-last, associated-before}
 use Rattle.ingage.proofs.Arrays.{marked-take}
 use Rattle.ingage.specs.Pieces.{piece-starts}
 use Rattle.ingage.specs.Cipher.{marked, LAST-BLOCK}
 use mathlib.Core.Path.{sym, ap, _∙_}
+use Prim.Native.Nat.{_-_, _*_, _≤_}
+use lib.ListN.{length}
+use mir.Syntax.{w64}
+use mir.Val.{Fits}
+use mir.Facts.{fits-le}
 use native.Mathlib.Omega.{arith}
 use borrow.Author.Needs.{needs}
 use Rattle.ingage.proofs.steps.associated_block.Statement.{statement}
 use Rattle.ingage.proofs.steps.associated_block.Tie as tie
 
+-- where the piece starts and ends
+fits : (c : tie.Start) → Fits w64 (length (c .args .assoc .now))
+fits c = omega arith
+
+starts : (c : tie.Start) → c .args .i * c .args .z .rate ≤ length (c .args .assoc .now)
+starts c = piece-starts (c .args .z .rate) (c .args .assoc .now) (c .args .i) (c .pre .1)
+
+ends : (c : tie.After-end-of)
+    → (c .before .before .args .i * c .before .before .args .z .rate ≤ c .end-of .result) × (c .end-of .result ≤ length (c .before .before .args .assoc .now)) × (c .end-of .result - c .before .before .args .i * c .before .before .args .z .rate ≤ c .before .before .args .z .rate)
+ends c = end-between (c .before .before .args .z .rate) (c .before .before .args .i * c .before .before .args .z .rate) (length (c .before .before .args .assoc .now)) (c .end-of .result) (starts (c .before .before)) (c .end-of .ensures)
+
 mul-at : tie.Need-mul-at
-mul-at c = omega (arith, piece-starts (c .before .args .z .rate) (c .before .args .assoc .now) (c .before .args .i) (c .before .pre .1))
+mul-at c = fits-le (starts (c .before)) (fits (c .before))
 
 end-of-requires : tie.Need-end-of-requires
-end-of-requires c κs = piece-starts (c .before .args .z .rate) (c .before .args .assoc .now) (c .before .args .i) (c .before .pre .1)
+end-of-requires c κs = starts (c .before)
 
 sub-last-block : tie.Need-sub-last-block
-sub-last-block c = omega (arith, piece-starts (c .before .before .args .z .rate) (c .before .before .args .assoc .now) (c .before .before .args .i) (c .before .before .pre .1))
+sub-last-block c = ends c .0
 
 part-last-block-start : tie.Need-part-last-block-start
-part-last-block-start c = omega (arith, piece-starts (c .before .before .args .z .rate) (c .before .before .args .assoc .now) (c .before .before .args .i) (c .before .before .pre .1))
+part-last-block-start c = ends c .0
 
 part-last-block-end : tie.Need-part-last-block-end
-part-last-block-end c = search needs
+part-last-block-end c = ends c .1
 
 last-block-requires : tie.Need-last-block-requires
-last-block-requires c κs = search needs
+last-block-requires c κs = tt
 
 div-if1 : tie.Need-div-if1
-div-if1 c = search needs
+div-if1 c = c .before .before .before .before .pre .0 .moves
 
 sub-b : tie.Need-sub-b
-sub-b c = search needs
+sub-b c = c .before .before .before .before .before .pre .0 .moves
 
 array-read-b : tie.Need-array-read-b
 array-read-b c = search needs
 
 sub-b-2 : tie.Need-sub-b-2
-sub-b-2 c = search needs
+sub-b-2 c = c .before .before .before .before .before .pre .0 .moves
 
 array-write-b : tie.Need-array-write-b
 array-write-b c = search needs
