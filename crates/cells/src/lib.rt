@@ -6,6 +6,7 @@ ghost use Prim.Native.Nat.{_<_, _≤_, _%_, min};
 ghost use lib.ListN.{take, drop};
 ghost use Rattle.cells.specs.Sizes.{LARGEST};
 ghost use Rattle.cells.specs.Cells.{Closed, table, star, substitutedByte, substitute, restore, onFirst};
+ghost use Rattle.cells.specs.Rows.{Flat};
 
 // The largest permitted state, in bytes.
 pub const LARGEST: usize = 72;
@@ -28,31 +29,42 @@ fn star(t: [[u8; 4]; 4], x: usize, y: usize) -> u8
     t[x][y]
 }
 
-// One byte of the substitution, after the cell p. The table is read where it stands: a call for each product would copy it.
-fn substituted_byte(t: [[u8; 4]; 4], p: u8, b: u8) -> u8
-    requires { ⌜ (p < 4) × Closed t ⌝ }
-    ensures { λ r. ⌜ r ≡ substitutedByte t p b ⌝ }
+// The rows of a table one behind the other, so that a product of neighbouring cells is one look-up.
+fn flat(t: [[u8; 4]; 4]) -> [u8; 16]
+    requires { ⌜ t ≡ table ⌝ }
+    ensures { λ r. ⌜ Flat r ⌝ }
+{
+    let mut rows = [0u8; 16];
+    let mut i = 0;
+    while i < 16 {
+        rows[i] = t[i / 4][i % 4];
+        i += 1;
+    }
+    rows
+}
+
+// One byte of the substitution, after the cell p: the products of four pairs of neighbouring cells.
+fn substituted_byte(rows: [u8; 16], p: u8, b: u8) -> u8
+    requires { ⌜ (p < 4) × Flat rows ⌝ }
+    ensures { λ r. ⌜ r ≡ substitutedByte table p b ⌝ }
 {
     let l = p as usize;
     let w = b as usize;
-    let a = w / 64;
-    let c = w / 16 % 4;
-    let d = w / 4 % 4;
-    let e = w % 4;
-    t[l][a] * 64 + t[a][c] * 16 + t[c][d] * 4 + t[d][e]
+    rows[l * 4 + w / 64] * 64 + rows[w / 16] * 16 + rows[w / 4 % 16] * 4 + rows[w % 16]
 }
 
 // The first n bytes of s substituted with a leader, by a table.
 fn substitute_by(t: [[u8; 4]; 4], s: [u8; LARGEST], n: usize, leader: u8) -> [u8; LARGEST]
-    requires { ⌜ (n ≤ LARGEST) × (leader < 4) × Closed t ⌝ }
-    ensures { λ r. ⌜ r ≡ substitute t leader (take n s) ++ drop n s ⌝ }
+    requires { ⌜ (n ≤ LARGEST) × (leader < 4) × (t ≡ table) ⌝ }
+    ensures { λ r. ⌜ r ≡ substitute table leader (take n s) ++ drop n s ⌝ }
 {
+    let rows = flat(t);
     let mut out = s;
     let mut p = leader;
     let mut i = 0;
     while i < n {
         let b = s[i];
-        out[i] = substituted_byte(t, p, b);
+        out[i] = substituted_byte(rows, p, b);
         p = b % 4;
         i += 1;
     }

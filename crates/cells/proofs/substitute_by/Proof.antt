@@ -1,25 +1,29 @@
 -- `substitute_by` meets its promise. The invariant: the first i bytes are substituted and p is the cell before the next
 -- (`Substituted`); the measure is what is left. Assumes nothing.
 use Rattle.cells.proofs.Substituting.{Substituted, sub-none, sub-more, sub-all}
+use Rattle.cells.specs.Cells.{table}
 use Prim.Native.Nat.{_-_}
 use borrow.Author.Needs.{needs}
 use Rattle.cells.proofs.substitute_by.Statement.{statement}
 use Rattle.cells.proofs.substitute_by.Tie as tie
 
 abbrev Inv-loop : tie.InvT-loop
-Inv-loop t n leader s out₀ p₀ i₀ out p i = Substituted t leader s n out p i
+Inv-loop n leader s rows out₀ p₀ i₀ out p i = Substituted table leader s n out p i
 
 abbrev μ-loop : tie.MeasureT-loop
-μ-loop t n leader s out₀ p₀ i₀ out p i = n - i
+μ-loop n leader s rows out₀ p₀ i₀ out p i = n - i
+
+flat-requires : tie.Need-flat-requires Inv-loop μ-loop
+flat-requires c κs = c .pre .2
 
 loop-holds : tie.Need-loop-holds Inv-loop μ-loop
-loop-holds c = sub-none _ _ _ _ (search needs) (c .pre .1)
+loop-holds c = sub-none _ _ _ _ (search needs) (c .before .pre .1)
 
 array-read-b : tie.Need-array-read-b Inv-loop μ-loop
 array-read-b c = search needs
 
 substituted-byte-requires : tie.Need-substituted-byte-requires Inv-loop μ-loop
-substituted-byte-requires c κs = (c .before .loop .inv .cell, c .before .before .pre .2)
+substituted-byte-requires c κs = (c .before .loop .inv .cell, c .before .before .flat .ensures)
 
 array-write-out : tie.Need-array-write-out Inv-loop μ-loop
 array-write-out c = search needs
@@ -42,6 +46,7 @@ substitute-by-spec =
     (tie.spec
     Inv-loop
     μ-loop
+    flat-requires
     loop-holds
     array-read-b
     substituted-byte-requires

@@ -1,89 +1,68 @@
 -- `substituted_byte` meets its promise: four products over the old cells, each below 4, make a byte. Assumes nothing.
-use Rattle.cells.specs.Cells.{substitutedByte}
-use Prim.Native.Nat.{_/_, _%_}
+use Rattle.cells.specs.Rows.{flat-below, byte-is}
+use Prim.Native.Nat.{ℕ, _+_, _*_, _/_, _%_, _<_}
+use lib.ListN.{getD}
 use native.Mathlib.Omega.{arith}
 use borrow.Author.Needs.{needs}
 use Rattle.cells.proofs.substituted_byte.Statement.{statement}
 use Rattle.cells.proofs.substituted_byte.Tie as tie
 
+product : (c : tie.Start) (k : ℕ) → k < 16 → getD (c .args .t1) k 0 < 4
+product c k h = flat-below (c .args .t1) (c .pre .1) k h
+
 mul-result : tie.Need-mul-result
 mul-result c = search needs
 
-index-1-result : tie.Need-index-1-result
-index-1-result c = search needs
+add-result : tie.Need-add-result
+add-result c = search needs
 
-index-2-result : tie.Need-index-2-result
-index-2-result c = search needs
+array-read-result : tie.Need-array-read-result
+array-read-result c = search needs
 
 mul-result-2 : tie.Need-mul-result-2
-mul-result-2 c = record { fits = omega (arith, c .before .pre .1 .below (c .before .args .p) (c .before .args .b / 64)) }
+mul-result-2 c = record { fits = omega (arith, product c (c .args .p * 4 + c .args .b / 64) (search needs)) }
+
+array-read-result-2 : tie.Need-array-read-result-2
+array-read-result-2 c = search needs
 
 mul-result-3 : tie.Need-mul-result-3
-mul-result-3 c = search needs
-
-index-1-result-2 : tie.Need-index-1-result-2
-index-1-result-2 c = search needs
-
-index-2-result-2 : tie.Need-index-2-result-2
-index-2-result-2 c = search needs
-
-mul-result-4 : tie.Need-mul-result-4
-mul-result-4 c = record { fits = omega (arith, c .before .before .pre .1 .below (c .before .before .args .p) (c .before .before .args .b / 64), c .before .before .pre .1 .below (c .before .before .args .b / 64) (c .before .before .args .b / 16 % 4)) }
-
-add-result : tie.Need-add-result
-add-result c = record { fits = omega (arith, c .before .before .pre .1 .below (c .before .before .args .p) (c .before .before .args .b / 64), c .before .before .pre .1 .below (c .before .before .args .b / 64) (c .before .before .args .b / 16 % 4)) }
-
-mul-result-5 : tie.Need-mul-result-5
-mul-result-5 c = search needs
-
-index-1-result-3 : tie.Need-index-1-result-3
-index-1-result-3 c = search needs
-
-index-2-result-3 : tie.Need-index-2-result-3
-index-2-result-3 c = search needs
-
-mul-result-6 : tie.Need-mul-result-6
-mul-result-6 c = record { fits = omega (arith, c .before .before .before .pre .1 .below (c .before .before .before .args .p) (c .before .before .before .args .b / 64), c .before .before .before .pre .1 .below (c .before .before .before .args .b / 64) (c .before .before .before .args .b / 16 % 4), c .before .before .before .pre .1 .below (c .before .before .before .args .b / 16 % 4) (c .before .before .before .args .b / 4 % 4)) }
+mul-result-3 c = record { fits = omega (arith, product c (c .args .p * 4 + c .args .b / 64) (search needs), product c (c .args .b / 16) (search needs)) }
 
 add-result-2 : tie.Need-add-result-2
-add-result-2 c = record { fits = omega (arith, c .before .before .before .pre .1 .below (c .before .before .before .args .p) (c .before .before .before .args .b / 64), c .before .before .before .pre .1 .below (c .before .before .before .args .b / 64) (c .before .before .before .args .b / 16 % 4), c .before .before .before .pre .1 .below (c .before .before .before .args .b / 16 % 4) (c .before .before .before .args .b / 4 % 4)) }
+add-result-2 c = record { fits = omega (arith, product c (c .args .p * 4 + c .args .b / 64) (search needs), product c (c .args .b / 16) (search needs)) }
 
-mul-result-7 : tie.Need-mul-result-7
-mul-result-7 c = search needs
+array-read-result-3 : tie.Need-array-read-result-3
+array-read-result-3 c = search needs
 
-index-1-result-4 : tie.Need-index-1-result-4
-index-1-result-4 c = search needs
-
-index-2-result-4 : tie.Need-index-2-result-4
-index-2-result-4 c = search needs
+mul-result-4 : tie.Need-mul-result-4
+mul-result-4 c = record { fits = omega (arith, product c (c .args .p * 4 + c .args .b / 64) (search needs), product c (c .args .b / 16) (search needs), product c (c .args .b / 4 % 16) (search needs)) }
 
 add-result-3 : tie.Need-add-result-3
-add-result-3 c = record { fits = omega (arith, c .before .before .before .before .pre .1 .below (c .before .before .before .before .args .p) (c .before .before .before .before .args .b / 64), c .before .before .before .before .pre .1 .below (c .before .before .before .before .args .b / 64) (c .before .before .before .before .args .b / 16 % 4), c .before .before .before .before .pre .1 .below (c .before .before .before .before .args .b / 16 % 4) (c .before .before .before .before .args .b / 4 % 4), c .before .before .before .before .pre .1 .below (c .before .before .before .before .args .b / 4 % 4) (c .before .before .before .before .args .b % 4)) }
+add-result-3 c = record { fits = omega (arith, product c (c .args .p * 4 + c .args .b / 64) (search needs), product c (c .args .b / 16) (search needs), product c (c .args .b / 4 % 16) (search needs)) }
+
+array-read-result-4 : tie.Need-array-read-result-4
+array-read-result-4 c = search needs
+
+add-result-4 : tie.Need-add-result-4
+add-result-4 c = record { fits = omega (arith, product c (c .args .p * 4 + c .args .b / 64) (search needs), product c (c .args .b / 16) (search needs), product c (c .args .b / 4 % 16) (search needs), product c (c .args .b % 16) (search needs)) }
 
 returns : tie.Need-returns
-unfolding substitutedByte
-returns c = search needs
+returns c = byte-is (c .args .t1) (c .pre .1) (c .args .p) (c .args .b) (c .pre .0) (search needs)
 
 pub substituted-byte-spec : {M : Type 1} → statement M
 substituted-byte-spec =
     tie.close
     (tie.spec
     mul-result
-    index-1-result
-    index-2-result
-    mul-result-2
-    mul-result-3
-    index-1-result-2
-    index-2-result-2
-    mul-result-4
     add-result
-    mul-result-5
-    index-1-result-3
-    index-2-result-3
-    mul-result-6
+    array-read-result
+    mul-result-2
+    array-read-result-2
+    mul-result-3
     add-result-2
-    mul-result-7
-    index-1-result-4
-    index-2-result-4
+    array-read-result-3
+    mul-result-4
     add-result-3
+    array-read-result-4
+    add-result-4
     returns)
