@@ -21,7 +21,7 @@ use Rattle.ingage.specs.Cipher.{passed, marked, LAST-BLOCK, AFTER-ASSOCI
 use Rattle.ingage.specs.Masking.{masked-below, marked-below}
 use Rattle.ingage.specs.Runs.{encrypting-calls, decrypting-calls, begun-calls, length-begun, length-encrypting, length-finished}
 use Rattle.ingage.specs.Flows.{length-ciphertext, opened-follows}
-use Rattle.ingage.specs.RoundTrip.{wide, seal-open}
+use Rattle.ingage.specs.RoundTrip.{wide}
 
 module _ (z : Instance) (key nonce A : List ℕ) where
   -- one call at the start, one for each block of the associated data and of the message, one at the end
@@ -59,9 +59,6 @@ module _ (z : Instance) (fits : Fitting z) (key nonce A : List ℕ) (k : length 
       let w : Run = encrypting (z .rate) (begun z key nonce A) P (blockCount (z .rate) P) .run in
       rw (length-take, length-drop)
       (omega (arith, length-finished w, length-encrypting (z .rate) (begun z key nonce A) P (blockCount (z .rate) P), length-begun z (fits .begins) key nonce A k n))
-
-  pub length-open-seal : (C : List ℕ) → length (decrypted z key nonce A C .seal) ≡ z .seal
-  length-open-seal C = rw (seal-open z fits key nonce A k n C) at (length-seal (decrypted z key nonce A C .text))
 
 -- bytes give bytes
 passed-below : (b : List ℕ) (r : Run) → Below 256 b → Below 256 (r .state) → Below 256 (passed b r .state)

@@ -23,14 +23,6 @@ use Rattle.frame.specs.Told.{Told}
 use Rattle.reader.specs.Judged.{Judged, shape, stuffing, font, seal, unlisted, line}
 use Rattle.reader.specs.Judging.{byRule, judgeSealed, judgeFields, judge}
 
--- a test of two lists that differ
-pub same-not : (a b : List ℕ) → (a ≡ b → ⊥) → same a b ≡ false
-same-not a b n = go (same a b) refl
-  where
-    go : (t : Bool) → same a b ≡ t → t ≡ false
-    go true e = absurd (n (same-eq a b e))
-    go false e = refl
-
 same-differs : (a b : List ℕ) → same a b ≡ false → a ≡ b → ⊥
 same-differs a b e q =
     let r : same a b ≡ true = ap (λ (x : List ℕ). same x b) q ∙ same-refl b in

@@ -57,8 +57,3 @@ pub next-on : (s : List ℕ) (i : ℕ) → i < length s → (getD s i 0 ≡ mark
 unfolding nextSpan beforeMark
 next-on s i h n =
     rw (le-leb i (length s) (omega arith), le-leb (i + 1) (length s) (omega arith), at s i h, ne-eqb (getD s i 0) mark n)
-
--- between two marks that stand side by side there is no stretch
-pub next-empty : (s : List ℕ) (i : ℕ) → i + 1 < length s → getD s i 0 ≡ mark → getD s (i + 1) 0 ≡ mark → nextSpan s i ≡ nextSpan s (i + 1)
-next-empty s i h e f =
-    next-mark s i (omega arith) e ∙ after-mark s (i + 1) (i + 1) h f (omega arith) ∙ sym (next-mark s (i + 1) h f)

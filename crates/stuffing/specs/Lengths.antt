@@ -36,6 +36,3 @@ pub stuffed-at-least : (s : List ℕ) → length s ≤ length (stuffed s)
 unfolding stuffed
 stuffed-at-least [] = omega arith
 stuffed-at-least (b ∷ s) = omega (arith, length-append (stuffByte b) (stuffed s), byte-length b .0, stuffed-at-least s)
-
-pub stuffed-some : (s : List ℕ) → 0 < length s → 0 < length (stuffed s)
-stuffed-some s h = omega (arith, stuffed-at-least s)
