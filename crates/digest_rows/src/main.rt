@@ -1,4 +1,4 @@
-// Prints the rows that the second program makes of its own digests (tests/second, rows/digest.rs): every instance over the
+// Prints the rows that the second program makes of its own digests (tests/second, src/rows/digest.rs): every instance over the
 // lengths around its blocks and the limits, the refusals, and a buffer longer than the digest.
 use digest::DIGEST;
 use digest::Digested;

@@ -1,4 +1,4 @@
-// Prints the rows that the second program makes of its own frames (tests/second, rows/frame.rs): the writer over seeds that bring
+// Prints the rows that the second program makes of its own frames (tests/second, src/rows/frame.rs): the writer over seeds that bring
 // marks and escapes into nonce and digest, then its refusals in their order, with the calls that just pass.
 use body::DIGEST_LENGTH;
 use body::NONCE_LENGTH;

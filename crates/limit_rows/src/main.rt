@@ -1,4 +1,4 @@
-// Prints the rows that the second program makes of its own reader at its limits (tests/second, rows/limit.rs): streams of the longest
+// Prints the rows that the second program makes of its own reader at its limits (tests/second, src/rows/limit.rs): streams of the longest
 // length and one byte more, places at and past the end, sizes and rooms beside the exact ones, and the order of the refusals.
 use frame::FRAME_ROOM;
 use libc::STDOUT_FILENO;

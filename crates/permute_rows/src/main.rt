@@ -1,4 +1,4 @@
-// Prints the rows that the second program makes of its own permutation (tests/second, rows/permute.rs): every permitted size
+// Prints the rows that the second program makes of its own permutation (tests/second, src/rows/permute.rs): every permitted size
 // over three states, forwards and backwards, then sizes that are not permitted.
 use gage::Answer;
 use gage::LARGEST;

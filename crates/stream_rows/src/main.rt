@@ -1,4 +1,4 @@
-// Prints the rows that the second program makes of its own streams (tests/second, rows/stream.rs): every reading of each case on
+// Prints the rows that the second program makes of its own streams (tests/second, src/rows/stream.rs): every reading of each case on
 // standard input, good and damaged, from the case's place to the end of its stream. A case is stream length and place, two bytes each,
 // high byte first, the line buffer's length, one byte, and the stream.
 use libc::STDIN_FILENO;

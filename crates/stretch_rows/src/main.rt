@@ -1,4 +1,4 @@
-// Prints the rows that the second program makes of its own next stretch (tests/second, rows/stretch.rs): small streams, each from
+// Prints the rows that the second program makes of its own next stretch (tests/second, src/rows/stretch.rs): small streams, each from
 // every place up to one past its end.
 use libc::STDOUT_FILENO;
 

@@ -3,8 +3,8 @@ use mathlib.Core.Path.{_≡_}
 use Prim.Native.Nat.{_-_, _≤_}
 use lib.ListN.{length as lengthOf}
 use borrow.Author.Needs.{needs}
-use Rattle.seal_rows.proofs.part_rows.Statement.{statement}
-use Rattle.seal_rows.proofs.part_rows.Tie as tie
+use Rattle.seal_rows.proofs.opening.part_rows.Statement.{statement}
+use Rattle.seal_rows.proofs.opening.part_rows.Tie as tie
 
 abbrev Inv-loop : tie.InvT-loop
 Inv-loop name from length all₀ index₀ all index = (index ≤ length) × (lengthOf all ≡ lengthOf all₀)
