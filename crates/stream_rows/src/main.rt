@@ -75,15 +75,11 @@ fn row(
 }
 
 // All readings of a case. Each ends further on, so one more than the stream has bytes is enough.
-fn case_rows(case: usize, stream: &[u8], place: usize, line: &mut [u8]) {
-    let mut key = [0u8; 16];
-    let mut font = [0u8; 32];
-    ramp::fill(&mut key, 0x10, 1);
-    ramp::fill(&mut font, 1, 3);
+fn case_rows(case: usize, stream: &[u8], place: usize, key: &[u8], font: &[u8], line: &mut [u8]) {
     let mut from = place;
     let mut turns: u64 = 70000;
     while turns > 0 {
-        let answer = row(case, stream, from, &key, &font, line);
+        let answer = row(case, stream, from, key, font, line);
         from = values::closing_of(answer);
         if goes_on(answer) {
             turns -= 1;
@@ -91,6 +87,15 @@ fn case_rows(case: usize, stream: &[u8], place: usize, line: &mut [u8]) {
             turns = 0;
         }
     }
+}
+
+// The readings with the rules' key and font digest.
+fn told_rows(case: usize, stream: &[u8], place: usize, line: &mut [u8]) {
+    let mut key = [0u8; 16];
+    let mut font = [0u8; 32];
+    ramp::fill(&mut key, 0x10, 1);
+    ramp::fill(&mut font, 1, 3);
+    case_rows(case, stream, place, &key, &font, line);
 }
 
 // A number of two bytes, high byte first.
@@ -119,7 +124,7 @@ fn one(case: usize, buffer: &mut [u8]) -> bool {
         return false;
     }
     if room <= LONGEST_ROOM {
-        case_rows(case, &buffer[0..length], place, &mut line[0..room]);
+        told_rows(case, &buffer[0..length], place, &mut line[0..room]);
     }
     true
 }

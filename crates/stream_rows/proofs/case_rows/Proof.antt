@@ -6,25 +6,13 @@ use Rattle.stream_rows.proofs.case_rows.Statement.{statement}
 use Rattle.stream_rows.proofs.case_rows.Tie as tie
 
 abbrev Inv-loop : tie.InvT-loop
-Inv-loop case stream place line₀ k f from₀ turns₀ line from turns = length line ≡ length line₀
+Inv-loop case stream place key font line₀ from₀ turns₀ line from turns = length line ≡ length line₀
 
 abbrev μ-loop : tie.MeasureT-loop
-μ-loop case stream place line₀ k f from₀ turns₀ line from turns = turns
-
-key-requires : tie.Need-key-requires Inv-loop μ-loop
-key-requires c κs = search needs
-
-font-requires : tie.Need-font-requires Inv-loop μ-loop
-font-requires c κs = search needs
+μ-loop case stream place key font line₀ from₀ turns₀ line from turns = turns
 
 loop-holds : tie.Need-loop-holds Inv-loop μ-loop
 loop-holds c = search needs
-
-slice-aggregate-row : tie.Need-slice-aggregate-row Inv-loop μ-loop
-slice-aggregate-row c = search needs
-
-slice-aggregate-row-2 : tie.Need-slice-aggregate-row-2 Inv-loop μ-loop
-slice-aggregate-row-2 c = search needs
 
 row-requires : tie.Need-row-requires Inv-loop μ-loop
 row-requires c κs = search needs
@@ -62,11 +50,7 @@ case-rows-spec =
     (tie.spec
     Inv-loop
     μ-loop
-    key-requires
-    font-requires
     loop-holds
-    slice-aggregate-row
-    slice-aggregate-row-2
     row-requires
     closing-of-requires
     goes-on-requires
