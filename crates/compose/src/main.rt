@@ -3,18 +3,18 @@
 // others are still written. Nonces come from the caller; none is made here.
 ghost use Prim.Native.Nat.{_≤_};
 ghost use lib.ListN.{length};
+use body::NONCE_LENGTH;
+use digest::DIGEST;
 use digest::Digested;
 use files::Loaded;
+use frame::KEY_LENGTH;
 use frame::Written;
 use libc::STDERR_FILENO;
 use libc::STDIN_FILENO;
 use libc::STDOUT_FILENO;
 use text::Digit;
 
-// The nonce in bytes, and the most of a row that is kept: nonce, blank and longest line fit with room to spare, and a longer row
-// keeps a line that is too long.
-const NONCE: usize = 12;
-
+// The most of a row that is kept: nonce, blank and longest line fit with room to spare, and a longer row keeps a line that is too long.
 const ROW: usize = 128;
 
 // A row being gathered: its number, from 1, how much of it is kept, and whether anything of it came.
@@ -63,14 +63,14 @@ fn pair(high: u8, low: u8) -> u32 {
 
 // Whether the text is exactly a nonce in digits; then it stands in nonce.
 fn nonce_of(text: &[u8], nonce: &mut [u8]) -> bool {
-    if text.len() != 2 * NONCE {
+    if text.len() != 2 * NONCE_LENGTH {
         return false;
     }
-    if nonce.len() < NONCE {
+    if nonce.len() < NONCE_LENGTH {
         return false;
     }
     let mut i = 0;
-    while i < NONCE {
+    while i < NONCE_LENGTH {
         let v = pair(text[2 * i], text[2 * i + 1]);
         if v > 255 {
             return false;
@@ -106,7 +106,7 @@ fn seal_line(line: &[u8], nonce: &[u8], which: u64, key: &[u8], font: &[u8]) {
 
 // One order. A row with no blank has no line.
 fn order(row: &[u8], which: u64, key: &[u8], font: &[u8]) {
-    let mut nonce = [0u8; NONCE];
+    let mut nonce = [0u8; NONCE_LENGTH];
     let at = first_blank(row);
     if !nonce_of(&row[0..at], &mut nonce) {
         report(which, 2);
@@ -204,13 +204,13 @@ fn font_digest(font: &mut [u8]) -> bool {
 }
 
 fn main() {
-    let mut key = [0u8; 16];
-    let mut font = [0u8; 32];
+    let mut key = [0u8; KEY_LENGTH];
+    let mut font = [0u8; DIGEST];
     let Loaded::Bytes(k) = files::load(b"key.bin", &mut key) else {
         complain(b"no key\n");
         return;
     };
-    if k != 16 {
+    if k != KEY_LENGTH {
         complain(b"no key\n");
         return;
     }

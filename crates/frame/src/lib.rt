@@ -78,6 +78,7 @@ fn seal_body(key: &[u8], nonce: &[u8], font: &[u8], line: &[u8], out: &mut [u8])
     let mut cipher = [0u8; body::LONGEST];
     let mut seal = [0u8; body::SEAL_LENGTH];
     let Sealed::Done(calls) = ingage::seal(key, nonce, &assoc, line, &mut cipher, &mut seal) else {
+        // Never: sizes, lengths and room are right here.
         return Work {
             length: 0,
             calls: 0,
@@ -85,6 +86,7 @@ fn seal_body(key: &[u8], nonce: &[u8], font: &[u8], line: &[u8], out: &mut [u8])
     };
     let n = line.len();
     let Put::Done(length) = body::put_body(nonce, font, &cipher[0..n], &seal, out) else {
+        // Never, for the same reason.
         return Work {
             length: 0,
             calls: 0,
@@ -101,6 +103,7 @@ fn put_frame(body: &[u8], out: &mut [u8]) -> usize
 {
     out[0] = MARK;
     let Stuffed::Done(n) = stuffing::stuff(body, &mut out[1..]) else {
+        // Never: there is room for twice the body.
         return 0;
     };
     out[n + 1] = MARK;

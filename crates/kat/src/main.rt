@@ -2,6 +2,7 @@
 // `kat hash I` for GAGE instance I, `kat aead I` for InGAGE instance I. Thin over the proved calls.
 ghost use Prim.Native.Nat.{_≤_};
 ghost use lib.ListN.{length};
+use digest::DIGEST;
 use digest::Digested;
 use ingage::Sealed;
 use libc::STDERR_FILENO;
@@ -53,7 +54,7 @@ fn ramp() -> [u8; LONGEST_MESSAGE] {
 
 // One entry of a hash file; false where there is no such instance.
 fn hash_entry(instance: usize, number: usize, message: &[u8]) -> bool {
-    let mut out = [0u8; 32];
+    let mut out = [0u8; DIGEST];
     match digest::digest(instance, message, &mut out) {
         Digested::Done(_) => {
             count(number);

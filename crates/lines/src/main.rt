@@ -1,9 +1,12 @@
 // Lists the lines of a job stream (document 01, 'The listing program'): key.bin, font.bin, then the stream on standard input, one
 // 65,536-byte buffer reused. Thin over the proved calls: every row is what `reader::read` answers.
+use digest::DIGEST;
 use digest::Digested;
 use files::Loaded;
+use frame::KEY_LENGTH;
 use libc::STDIN_FILENO;
 use libc::STDOUT_FILENO;
+use line::LONGEST;
 use reader::Answer;
 
 // How the listing stands: where the next reading starts, and how many rows were lines and how many refusals.
@@ -92,7 +95,7 @@ fn one(stream: &[u8], key: &[u8], font: &[u8], line: &mut [u8], t: Tally) -> Tal
 
 // Every stretch of the stream, and the last row. Each reading ends further on, so as many turns as the stream has bytes are enough.
 fn list(stream: &[u8], key: &[u8], font: &[u8]) {
-    let mut line = [0u8; 65];
+    let mut line = [0u8; LONGEST];
     let mut t = Tally {
         next: 0,
         lines: 0,
@@ -131,13 +134,13 @@ fn font_digest(buffer: &mut [u8], font: &mut [u8]) -> bool {
 }
 
 fn main() {
-    let mut key = [0u8; 16];
-    let mut font = [0u8; 32];
+    let mut key = [0u8; KEY_LENGTH];
+    let mut font = [0u8; DIGEST];
     let Loaded::Bytes(k) = files::load(b"key.bin", &mut key) else {
         say(b"no key\n");
         return;
     };
-    if k != 16 {
+    if k != KEY_LENGTH {
         say(b"no key\n");
         return;
     }

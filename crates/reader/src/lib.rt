@@ -126,6 +126,7 @@ fn judge_sealed(
                 }
             }
         }
+        // Never: sizes, lengths and room are right here.
         _ => return Answer::Shape { first, closing },
     }
 }
@@ -189,6 +190,7 @@ fn judge_stretch(
     let n = match unstuff(stretch, &mut body) {
         Unstuffed::TooLong => return Answer::Shape { first, closing },
         Unstuffed::Bad => return Answer::Stuffing { first, closing },
+        // Never: the body has room for the longest stretch.
         Unstuffed::NoRoom => return Answer::Shape { first, closing },
         Unstuffed::Length(n) => n,
     };
