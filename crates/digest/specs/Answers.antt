@@ -11,7 +11,6 @@ use Rattle.digest.specs.Hashing.{digestOf, digestCalls}
 use Rattle.digest.specs.declared.Digested.{Digested}
 use Rattle.digest.specs.declared.Digested.the-variants.{Done, Instance, TooLong, NoRoom}
 
--- the longest message in bytes
 -- the longest message in bytes (document 01, number 3)
 abbrev pub LIMIT : ℕ
 LIMIT = 65536
