@@ -8,3 +8,4 @@ pub mod Judging
 pub mod Answers
 pub mod Cases
 pub mod Counts
+pub mod Numbers

@@ -52,12 +52,12 @@ unfoldable pub stuffOut : List ℕ → List ℕ → List ℕ
 stuffOut b o = cond (ltb (length o) (2 * length b)) o (over (stuffed b) o)
 
 -- document 01's number of each answer ('Numbers returned')
-pub unstuffNumber : Unstuffed → ℕ
+abbrev pub unstuffNumber : Unstuffed → ℕ
 unstuffNumber (unstuffed-is.Length n) = 0
 unstuffNumber unstuffed-is.Bad = 6
 unstuffNumber unstuffed-is.TooLong = 7
 unstuffNumber unstuffed-is.NoRoom = 4
 
-pub stuffNumber : Stuffed → ℕ
+abbrev pub stuffNumber : Stuffed → ℕ
 stuffNumber (stuffed-is.Done n) = 0
 stuffNumber stuffed-is.NoRoom = 4
