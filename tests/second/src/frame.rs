@@ -8,7 +8,7 @@ use crate::numbers::{
     SEAL, TOO_LONG,
 };
 use crate::readings::PRODUCT;
-use crate::stuffing::{stuff, MARK};
+use crate::stuffing::{stuff, ESCAPE, MARK};
 
 pub const TAG_NONCE: u8 = 0x01;
 pub const TAG_DIGEST: u8 = 0x02;
@@ -103,6 +103,16 @@ fn take(rest: &mut &[u8], expected: u8) -> Option<Vec<u8>> {
 pub fn framed(body: &[u8]) -> Vec<u8> {
     let mut frame = vec![MARK];
     frame.extend(stuff(body));
+    frame.push(MARK);
+    frame
+}
+
+/// The same with one byte escaped, whether it must be or not.
+pub fn framed_escaping(body: &[u8], at: usize) -> Vec<u8> {
+    let mut frame = vec![MARK];
+    frame.extend(stuff(&body[..at]));
+    frame.extend([ESCAPE, body[at] ^ 0x20]);
+    frame.extend(stuff(&body[at + 1..]));
     frame.push(MARK);
     frame
 }

@@ -3,10 +3,12 @@
 
 use crate::chance::Chance;
 use second::cipher::{encrypt, INSTANCE_1};
-use second::frame::{field, framed, Fields, TAG_DIGEST, TAG_LINE, TAG_NONCE, TAG_SEAL};
+use second::frame::{
+    field, framed, framed_escaping, Fields, TAG_DIGEST, TAG_LINE, TAG_NONCE, TAG_SEAL,
+};
 use second::numbers::{DIGEST, KEY, LINE_MOST, NONCE};
 use second::readings::PRODUCT;
-use second::stuffing::{stuff, ESCAPE, MARK};
+use second::stuffing::{ESCAPE, MARK};
 
 /// Calls that take from one stock.
 pub const SERVES: u64 = 2048;
@@ -196,12 +198,7 @@ impl Stock {
             _ => {
                 let body = self.fields(chance).body();
                 let at = chance.below(body.len());
-                let mut frame = vec![MARK];
-                frame.extend(stuff(&body[..at]));
-                frame.extend([ESCAPE, body[at] ^ 0x20]);
-                frame.extend(stuff(&body[at + 1..]));
-                frame.push(MARK);
-                frame
+                framed_escaping(&body, at)
             }
         }
     }

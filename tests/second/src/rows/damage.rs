@@ -4,9 +4,11 @@
 use super::chance::Chance;
 use super::stream::Case;
 use super::told;
-use crate::frame::{field, framed, Fields, TAG_DIGEST, TAG_LINE, TAG_NONCE, TAG_SEAL};
+use crate::frame::{
+    field, framed, framed_escaping, Fields, TAG_DIGEST, TAG_LINE, TAG_NONCE, TAG_SEAL,
+};
 use crate::numbers::{DIGEST, KEY, LINE_MOST, NONCE};
-use crate::stuffing::{stuff, ESCAPE, MARK};
+use crate::stuffing::{ESCAPE, MARK};
 
 const SEED: u64 = 0x4c75_6264_6876_616e;
 const STREAMS: usize = 420;
@@ -294,12 +296,7 @@ fn dangling_escape(chance: &mut Chance) -> Vec<u8> {
 fn needless_escape(chance: &mut Chance) -> Vec<u8> {
     let body = good_fields(chance).body();
     let at = chance.below(body.len());
-    let mut frame = vec![MARK];
-    frame.extend(stuff(&body[..at]));
-    frame.extend([ESCAPE, body[at] ^ 0x20]);
-    frame.extend(stuff(&body[at + 1..]));
-    frame.push(MARK);
-    frame
+    framed_escaping(&body, at)
 }
 
 fn seal_changed(chance: &mut Chance) -> Vec<u8> {
