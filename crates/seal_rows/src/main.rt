@@ -1,30 +1,73 @@
-// Prints the rows that the second program makes of its own seals (tests/second, src/rows/seal.rs): seals over lengths of associated data
-// and message, openings of one sealed message damaged in each of its bytes, then the refusals.
-mod calling;
-mod opening;
-mod printing;
-mod refusing;
-
-use calling::Call;
-use calling::LONG_ASSOCIATED;
-use calling::LONG_TEXT;
-use calling::SEAL;
-use calling::exact;
-use calling::tried;
+// Prints the rows that the second program makes of its own seals (tests/second, src/rows/seal.rs): what sealing or opening gives for each
+// case on standard input. A case is its head, its name and the call's five parts: key, nonce, associated data, text, seal. The head has
+// the lengths of those, the room for the text that comes out, and 1 where the call is to open: four bytes each, the high byte first.
 use digest::DIGEST;
-use printing::cell;
-use printing::hex;
-use printing::say;
+use ingage::Opened;
+use ingage::Sealed;
+use libc::STDIN_FILENO;
+use libc::STDOUT_FILENO;
+ghost use Prim.Native.Nat.{_<_};
 
-// The lengths of associated data and text whose pairs are sealed.
-const ASSOCIATED: [usize; 8] = [0, 1, 2, 15, 16, 17, 35, 40];
+// The head of a case has so many numbers and bytes; and the longest name with parts, room and seal that a case has.
+const NUMBERS: usize = 8;
 
-const TEXTS: [usize; 17] = [0, 1, 2, 7, 8, 9, 15, 16, 17, 31, 32, 33, 63, 64, 65, 69, 70];
+const HEAD: usize = 4 * NUMBERS;
 
-// The digest of a ciphertext that is too long for a row, or the ciphertext.
-fn ciphertext(bytes: &[u8]) {
+const LONGEST: usize = 8192;
+
+const LONGEST_ROOM: usize = 5000;
+
+const LONGEST_SEAL: usize = 32;
+
+// What a room holds before the call, and the length from which on it is printed as its digest.
+const BEFORE: u8 = 0xEE;
+
+const PRINTED_AS_DIGEST: usize = 4096;
+
+// Where the name and the parts of a case end in its bytes, its room, and whether it is to open.
+struct Case {
+    name: usize,
+    key: usize,
+    nonce: usize,
+    associated: usize,
+    text: usize,
+    seal: usize,
+    room: usize,
+    opens: bool,
+}
+
+// The number and the count of a call.
+struct Outcome {
+    number: usize,
+    count: usize,
+}
+
+fn say(text: &[u8]) {
+    io::write_all(STDOUT_FILENO, text);
+}
+
+// A number and the blank behind it.
+fn cell(n: usize) {
+    io::print_decimal(STDOUT_FILENO, n as u64);
+    say(b" ");
+}
+
+// In hexadecimal, or - where there is none.
+fn hex(bytes: &[u8]) {
+    let mut digits = [0u8; 2 * PRINTED_AS_DIGEST];
+    let n = text::put_hex(bytes, &mut digits);
+    if n == 0 {
+        say(b"-");
+    }
+    if n <= digits.len() {
+        say(&digits[0..n]);
+    }
+}
+
+// A room, or the digest of one that is too long for a row.
+fn shown(bytes: &[u8]) {
     let mut digest = [0u8; DIGEST];
-    if bytes.len() < LONG_TEXT {
+    if bytes.len() < PRINTED_AS_DIGEST {
         hex(bytes);
         return;
     }
@@ -32,46 +75,143 @@ fn ciphertext(bytes: &[u8]) {
     hex(&digest);
 }
 
-fn seal_row(associated: usize, text: usize) {
-    let mut out = [0u8; LONG_TEXT];
-    let mut seal = [0u8; SEAL];
-    let t = tried(Call::Seal, exact(associated, text), &mut out, &mut seal);
-    say(b"seal ");
-    cell(associated);
-    cell(text);
-    cell(t.count);
-    if text <= LONG_TEXT {
-        ciphertext(&out[0..text]);
+fn answered(number: usize, count: usize) -> Outcome {
+    Outcome { number, count }
+}
+
+fn of_seal(answer: Sealed) -> Outcome {
+    match answer {
+        Sealed::Done(count) => answered(0, count),
+        Sealed::Sizes => answered(2, 0),
+        Sealed::TooLong => answered(3, 0),
+        Sealed::NoRoom => answered(4, 0),
     }
+}
+
+fn of_open(answer: Opened) -> Outcome {
+    match answer {
+        Opened::Done(count) => answered(0, count),
+        Opened::Sizes => answered(2, 0),
+        Opened::TooLong => answered(3, 0),
+        Opened::NoRoom => answered(4, 0),
+        Opened::Seal(count) => answered(5, count),
+    }
+}
+
+fn part(all: &[u8], from: usize, to: usize) -> &[u8] {
+    if to > all.len() {
+        return &all[0..0];
+    }
+    if from > to {
+        return &all[0..0];
+    }
+    &all[from..to]
+}
+
+fn called(c: Case, all: &[u8], out: &mut [u8], seal: &mut [u8]) -> Outcome {
+    let key = part(all, c.name, c.key);
+    let nonce = part(all, c.key, c.nonce);
+    let associated = part(all, c.nonce, c.associated);
+    let text = part(all, c.associated, c.text);
+    if c.opens {
+        return of_open(ingage::open(key, nonce, associated, text, seal, out));
+    }
+    of_seal(ingage::seal(key, nonce, associated, text, out, seal))
+}
+
+fn row(c: Case, all: &[u8], out: &mut [u8], seal: &mut [u8]) {
+    lists::copy(part(all, c.text, c.seal), seal);
+    let t = called(c, all, out, seal);
+    say(part(all, 0, c.name));
     say(b" ");
-    hex(&seal);
+    cell(t.number);
+    cell(t.count);
+    shown(out);
+    say(b" ");
+    hex(seal);
     say(b"\n");
 }
 
-fn text_rows(associated: usize) {
-    let lengths = TEXTS;
-    let mut i = 0;
-    while i < lengths.len() {
-        seal_row(associated, lengths[i]);
-        i += 1;
+// The row of a case, with buffers of the lengths that it asks for.
+fn case_row(c: Case, all: &[u8]) {
+    let mut out = [BEFORE; LONGEST_ROOM];
+    let mut seal = [0u8; LONGEST_SEAL];
+    let n = part(all, c.text, c.seal).len();
+    let room = c.room;
+    if room > LONGEST_ROOM {
+        return;
+    }
+    if n > LONGEST_SEAL {
+        return;
+    }
+    row(c, all, &mut out[0..room], &mut seal[0..n]);
+}
+
+// Number i of a head.
+fn number_in(h: [u8; HEAD], i: usize) -> usize {
+    if i >= NUMBERS {
+        return 0;
+    }
+    let at = 4 * i;
+    two(h[at], h[at + 1]) * 65536 + two(h[at + 2], h[at + 3])
+}
+
+fn two(high: u8, low: u8) -> usize
+    ensures { λ r. ⌜ r < 65536 ⌝ }
+{
+    (high as usize) * 256 + low as usize
+}
+
+// The end of the part of which number i is the length, where the part before it ends.
+fn end_of(h: [u8; HEAD], i: usize, before: usize) -> usize {
+    std::num::wrapping_add_usize(before, number_in(h, i))
+}
+
+fn case_of(h: [u8; HEAD]) -> Case {
+    let name = number_in(h, 0);
+    let key = end_of(h, 1, name);
+    let nonce = end_of(h, 2, key);
+    let associated = end_of(h, 3, nonce);
+    let text = end_of(h, 4, associated);
+    let seal = end_of(h, 5, text);
+    Case {
+        name,
+        key,
+        nonce,
+        associated,
+        text,
+        seal,
+        room: number_in(h, 6),
+        opens: number_in(h, 7) == 1,
     }
 }
 
-fn seal_rows() {
-    let lengths = ASSOCIATED;
-    let mut i = 0;
-    while i < lengths.len() {
-        text_rows(lengths[i]);
-        i += 1;
+// One case from standard input; false where there is none left.
+fn one(buffer: &mut [u8]) -> bool {
+    let mut head = [0u8; HEAD];
+    if io::read_full(STDIN_FILENO, &mut head) != HEAD {
+        return false;
     }
-    seal_row(LONG_ASSOCIATED, 0);
-    seal_row(0, LONG_TEXT);
-    seal_row(LONG_ASSOCIATED, LONG_TEXT);
+    let c = case_of(head);
+    let length = c.seal;
+    if length > buffer.len() {
+        return false;
+    }
+    if io::read_full(STDIN_FILENO, &mut buffer[0..length]) != length {
+        return false;
+    }
+    case_row(c, &buffer[0..length]);
+    true
 }
 
 fn main() {
-    seal_rows();
-    opening::open_rows();
-    refusing::refused_rows(Call::Seal);
-    refusing::refused_rows(Call::Open);
+    let mut buffer = [0u8; LONGEST];
+    let mut left: usize = 10000;
+    while left > 0 {
+        if one(&mut buffer) {
+            left -= 1;
+        } else {
+            left = 0;
+        }
+    }
 }

@@ -1,14 +1,40 @@
 // Prints the rows that the second program makes of its own streams (tests/second, src/rows/stream.rs): every reading of each case on
-// standard input, good and damaged, from the case's place to the end of its stream. A case is stream length and place, two bytes each,
-// high byte first, the line buffer's length, one byte, and the stream.
+// standard input, good, damaged or at a limit, from the case's place to the end of its stream. A case is its head, its name, and the first
+// and the last bytes of its stream, with one byte again and again between them. The head is numbers of four bytes each, the high byte first.
 use libc::STDIN_FILENO;
 use libc::STDOUT_FILENO;
 use reader::Answer;
+use reader::LONGEST_STREAM;
+ghost use Prim.Native.Nat.{_<_};
 
-// The head of a case, and the longest line buffer.
-const HEAD: usize = 5;
+// The head of a case has so many numbers and bytes; and the longest name, stream, line buffer, key and font digest that a case has.
+const NUMBERS: usize = 9;
 
-const LONGEST_ROOM: usize = 255;
+const HEAD: usize = 4 * NUMBERS;
+
+const LONGEST_NAME: usize = 64;
+
+const LONGEST: usize = LONGEST_STREAM + 1;
+
+const LONGEST_LINE: usize = 255;
+
+const LONGEST_KEY: usize = 17;
+
+const LONGEST_FONT: usize = 33;
+
+// The lengths of name, stream, its first and its last bytes, the byte between them, the place to read from, and the lengths of line
+// buffer, key and font digest.
+struct Case {
+    name: usize,
+    length: usize,
+    first: usize,
+    last: usize,
+    between: usize,
+    place: usize,
+    line: usize,
+    key: usize,
+    font: usize,
+}
 
 fn say(text: &[u8]) {
     io::write_all(STDOUT_FILENO, text);
@@ -53,9 +79,9 @@ fn goes_on(answer: Answer) -> bool {
     }
 }
 
-// One reading and its row; where the next one starts.
+// One reading and its row.
 fn row(
-    case: usize,
+    name: &[u8],
     stream: &[u8],
     from: usize,
     key: &[u8],
@@ -63,7 +89,8 @@ fn row(
     line: &mut [u8],
 ) -> Answer {
     let answer = reader::read(stream, from, key, font, line);
-    cell(case);
+    say(name);
+    say(b" ");
     cell(from);
     cell(values::first_of(answer));
     cell(values::closing_of(answer));
@@ -75,11 +102,11 @@ fn row(
 }
 
 // All readings of a case. Each ends further on, so one more than the stream has bytes is enough.
-fn case_rows(case: usize, stream: &[u8], place: usize, key: &[u8], font: &[u8], line: &mut [u8]) {
+fn case_rows(name: &[u8], stream: &[u8], place: usize, key: &[u8], font: &[u8], line: &mut [u8]) {
     let mut from = place;
     let mut turns: u64 = 70000;
     while turns > 0 {
-        let answer = row(case, stream, from, key, font, line);
+        let answer = row(name, stream, from, key, font, line);
         from = values::closing_of(answer);
         if goes_on(answer) {
             turns -= 1;
@@ -89,54 +116,125 @@ fn case_rows(case: usize, stream: &[u8], place: usize, key: &[u8], font: &[u8], 
     }
 }
 
-// The readings with the rules' key and font digest.
-fn told_rows(case: usize, stream: &[u8], place: usize, line: &mut [u8]) {
-    let mut key = [0u8; 16];
-    let mut font = [0u8; 32];
+// The readings with the rules' key and font digest, and buffers of the lengths that the case asks for.
+fn told_rows(c: Case, name: &[u8], stream: &[u8]) {
+    let mut key = [0u8; LONGEST_KEY];
+    let mut font = [0u8; LONGEST_FONT];
+    let mut line = [0u8; LONGEST_LINE];
+    let k = c.key;
+    let f = c.font;
+    let l = c.line;
+    if k > LONGEST_KEY {
+        return;
+    }
+    if f > LONGEST_FONT {
+        return;
+    }
+    if l > LONGEST_LINE {
+        return;
+    }
     ramp::fill(&mut key, 0x10, 1);
     ramp::fill(&mut font, 1, 3);
-    case_rows(case, stream, place, &key, &font, line);
+    case_rows(
+        name,
+        stream,
+        c.place,
+        &key[0..k],
+        &font[0..f],
+        &mut line[0..l],
+    );
 }
 
-// A number of two bytes, high byte first.
-fn two(high: u8, low: u8) -> usize {
+// Reads standard input over a part of a buffer; false where there are not that many bytes.
+fn taken(buffer: &mut [u8], from: usize, length: usize) -> bool {
+    if from > buffer.len() {
+        return false;
+    }
+    if length > buffer.len() - from {
+        return false;
+    }
+    let to = from + length;
+    io::read_full(STDIN_FILENO, &mut buffer[from..to]) == length
+}
+
+// The stream of a case over the whole of a buffer.
+fn streamed(c: Case, stream: &mut [u8]) -> bool {
+    let last = std::num::wrapping_sub_usize(stream.len(), c.last);
+    ramp::fill(stream, (c.between % 256) as u8, 0);
+    if !taken(stream, 0, c.first) {
+        return false;
+    }
+    taken(stream, last, c.last)
+}
+
+// Number i of a head.
+fn number_in(h: [u8; HEAD], i: usize) -> usize {
+    if i >= NUMBERS {
+        return 0;
+    }
+    let at = 4 * i;
+    two(h[at], h[at + 1]) * 65536 + two(h[at + 2], h[at + 3])
+}
+
+fn two(high: u8, low: u8) -> usize
+    ensures { λ r. ⌜ r < 65536 ⌝ }
+{
     (high as usize) * 256 + low as usize
 }
 
-fn wide(b: u8) -> usize {
-    b as usize
+fn case_of(h: [u8; HEAD]) -> Case {
+    Case {
+        name: number_in(h, 0),
+        length: number_in(h, 1),
+        first: number_in(h, 2),
+        last: number_in(h, 3),
+        between: number_in(h, 4),
+        place: number_in(h, 5),
+        line: number_in(h, 6),
+        key: number_in(h, 7),
+        font: number_in(h, 8),
+    }
 }
 
-// One case from standard input; false where there is none left.
-fn one(case: usize, buffer: &mut [u8]) -> bool {
-    let mut head = [0u8; HEAD];
-    let mut line = [0u8; LONGEST_ROOM];
-    if io::read_full(STDIN_FILENO, &mut head) != HEAD {
+// The case with its name and a buffer of its stream's length; false where either cannot be read.
+fn named(c: Case, stream: &mut [u8]) -> bool {
+    let mut name = [0u8; LONGEST_NAME];
+    let n = c.name;
+    if n > LONGEST_NAME {
         return false;
     }
-    let length = two(head[0], head[1]);
-    let place = two(head[2], head[3]);
-    let room = wide(head[4]);
-    if length > buffer.len() {
+    if !taken(&mut name, 0, n) {
         return false;
     }
-    if io::read_full(STDIN_FILENO, &mut buffer[0..length]) != length {
+    if !streamed(c, stream) {
         return false;
     }
-    if room <= LONGEST_ROOM {
-        told_rows(case, &buffer[0..length], place, &mut line[0..room]);
-    }
+    told_rows(c, &name[0..n], stream);
     true
 }
 
+// One case from standard input; false where there is none left.
+fn one(buffer: &mut [u8]) -> bool {
+    let mut head = [0u8; HEAD];
+    if io::read_full(STDIN_FILENO, &mut head) != HEAD {
+        return false;
+    }
+    let c = case_of(head);
+    let n = c.length;
+    if n > buffer.len() {
+        return false;
+    }
+    named(c, &mut buffer[0..n])
+}
+
 fn main() {
-    let mut buffer = io::large_buffer();
-    let mut case: usize = 0;
-    while case < 10000 {
-        if one(case, &mut buffer) {
-            case += 1;
+    let mut buffer = [0u8; LONGEST];
+    let mut left: usize = 10000;
+    while left > 0 {
+        if one(&mut buffer) {
+            left -= 1;
         } else {
-            case = 10000;
+            left = 0;
         }
     }
 }

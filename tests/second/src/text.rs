@@ -36,10 +36,7 @@ mod tests {
     fn there_and_back() {
         let bytes: Vec<u8> = (0..=255).collect();
         assert_eq!(unhex(hex(&bytes).as_bytes()), Some(bytes.clone()));
-        assert_eq!(
-            unhex(hex(&bytes).to_lowercase().as_bytes()),
-            Some(bytes)
-        );
+        assert_eq!(unhex(hex(&bytes).to_lowercase().as_bytes()), Some(bytes));
         assert_eq!(unhex(b"0"), None);
         assert_eq!(unhex(b"0g"), None);
         assert_eq!(value(&[]), "-");

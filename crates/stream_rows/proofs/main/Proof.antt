@@ -1,19 +1,15 @@
--- `main` is safe and ends: the buffer keeps its length, and the measure is what is left of the cases. Assumes nothing.
+-- `main` is safe and ends: the buffer keeps its length, and the measure is how many cases may still come. Assumes nothing.
 use lib.ListN.{length}
 use mathlib.Core.Path.{_≡_}
-use Prim.Native.Nat.{_-_, _≤_}
 use borrow.Author.Needs.{needs}
 use Rattle.stream_rows.proofs.main.Statement.{statement}
 use Rattle.stream_rows.proofs.main.Tie as tie
 
 abbrev Inv-loop : tie.InvT-loop
-Inv-loop buffer₀ case₀ buffer case = (case ≤ 10000) × (length buffer ≡ length buffer₀)
+Inv-loop buffer₀ left₀ buffer left = length buffer ≡ length buffer₀
 
 abbrev μ-loop : tie.MeasureT-loop
-μ-loop buffer₀ case₀ buffer case = 10000 - case
-
-large-buffer-requires : tie.Need-large-buffer-requires Inv-loop μ-loop
-large-buffer-requires c κs = search needs
+μ-loop buffer₀ left₀ buffer left = left
 
 loop-holds : tie.Need-loop-holds Inv-loop μ-loop
 loop-holds c = search needs
@@ -24,8 +20,8 @@ slice-aggregate-one c = search needs
 one-requires : tie.Need-one-requires Inv-loop μ-loop
 one-requires c κs = search needs
 
-add-case : tie.Need-add-case Inv-loop μ-loop
-add-case c = search needs
+sub-left : tie.Need-sub-left Inv-loop μ-loop
+sub-left c = search needs
 
 loop-less : tie.Need-loop-less Inv-loop μ-loop
 loop-less c = search needs
@@ -48,11 +44,10 @@ main-spec =
     (tie.spec
     Inv-loop
     μ-loop
-    large-buffer-requires
     loop-holds
     slice-aggregate-one
     one-requires
-    add-case
+    sub-left
     loop-less
     loop-again
     loop-less-2

@@ -59,11 +59,7 @@ pub fn cases() -> Vec<Case> {
                 _ => 0,
             };
             let room = chance.one_of(&[LINE_MOST, LINE_MOST, LINE_MOST + 1, 200]);
-            Case {
-                stream,
-                place,
-                room,
-            }
+            Case::of(&stream).place(place).room(room)
         })
         .collect()
 }

@@ -1,10 +1,10 @@
-//! `limit_rows`: the read call at its limits, over streams built by rule, and
-//! the order of its refusals.
+//! Cases of the read call at its limits, over streams built by rule, and the
+//! order of its refusals.
 //!
-//! Unless a row says otherwise: key byte i is 0x10 + i (16 bytes), font digest
-//! byte i is 3*i + 1 mod 256 (32 bytes), place 0, line buffer of 65 bytes.
-//! GOOD is the writer's frame under that key and digest with nonce byte i = i
-//! (12 bytes) and the line `A123456789A`; its length is G.
+//! Unless a case says otherwise: key of 16 bytes, font digest of 32, place 0,
+//! line buffer of 65 bytes. GOOD is the writer's frame under that key and
+//! digest with nonce byte i = i (12 bytes) and the line `A123456789A`; its
+//! length is G.
 //!
 //! | NAME | stream | otherwise |
 //! |---|---|---|
@@ -35,73 +35,14 @@
 //! | long-stream-past | 65,537 bytes of 7E | place 65,538 |
 //! | short-room-past | GOOD | room 64, place G + 1 |
 
-use std::fmt::Write;
-
 use super::by_rule;
+use super::stream::Case;
 use super::told;
-use crate::numbers::{DIGEST, KEY, LINE_MOST, NONCE, STREAM_LIMIT};
-use crate::reader::Told;
+use crate::numbers::{NONCE, STREAM_LIMIT};
 use crate::stuffing::MARK;
 
-/// A row's inputs; the key and the digest by their lengths.
-struct Limit {
-    name: &'static str,
-    stream: Vec<u8>,
-    place: usize,
-    room: usize,
-    key: usize,
-    digest: usize,
-}
-
-fn limit(name: &'static str, stream: &[u8]) -> Limit {
-    Limit {
-        name,
-        stream: stream.to_vec(),
-        place: 0,
-        room: LINE_MOST,
-        key: KEY,
-        digest: DIGEST,
-    }
-}
-
-impl Limit {
-    fn place(self, place: usize) -> Limit {
-        Limit { place, ..self }
-    }
-
-    fn room(self, room: usize) -> Limit {
-        Limit { room, ..self }
-    }
-
-    fn key(self, key: usize) -> Limit {
-        Limit { key, ..self }
-    }
-
-    fn digest(self, digest: usize) -> Limit {
-        Limit { digest, ..self }
-    }
-
-    fn row(&self, rows: &mut String) {
-        let key = by_rule(self.key, |i| 0x10 + i);
-        let digest = by_rule(self.digest, |i| 3 * i + 1);
-        let told = Told {
-            key: &key,
-            digest: &digest,
-        };
-        let (reading, line) = told::reading_told(told, &self.stream, self.place, self.room);
-        writeln!(
-            rows,
-            "limit {} {} {} {} {} {} {}",
-            self.name,
-            told::number(&reading),
-            reading.first,
-            reading.closing,
-            reading.length,
-            reading.count,
-            line
-        )
-        .unwrap();
-    }
+fn limit(name: &'static str, stream: &[u8]) -> Case {
+    Case::of(stream).named(name)
 }
 
 /// A stream of the limit's length: some first bytes, 41s, some last bytes.
@@ -110,7 +51,7 @@ fn filled(first: &[u8], last: &[u8]) -> Vec<u8> {
     [first, &filler, last].concat()
 }
 
-fn limits() -> Vec<Limit> {
+pub fn cases() -> Vec<Case> {
     let good = told::frame(&by_rule(NONCE, |i| i), b"A123456789A");
     let past = good.len() + 1;
     let marks = vec![MARK; STREAM_LIMIT];
@@ -160,12 +101,4 @@ fn limits() -> Vec<Limit> {
         limit("long-stream-past", &too_long).place(STREAM_LIMIT + 2),
         limit("short-room-past", &good).room(64).place(past),
     ]
-}
-
-pub fn rows() -> String {
-    let mut rows = String::new();
-    for limit in limits() {
-        limit.row(&mut rows);
-    }
-    rows
 }

@@ -5,7 +5,7 @@ mod chance;
 mod damage;
 pub mod digest;
 pub mod frame;
-pub mod limit;
+mod limit;
 pub mod permute;
 pub mod seal;
 mod sound;
@@ -32,21 +32,25 @@ impl Rows {
             stdout,
         }
     }
+
+    fn of_cases(name: &'static str, stdin: Vec<u8>, stdout: String) -> Rows {
+        Rows {
+            name,
+            stdin: Some(stdin),
+            stdout,
+        }
+    }
 }
 
 pub fn all() -> Vec<Rows> {
-    let (cases, stream_rows) = stream::stdin_and_rows();
+    let (sealings, seal_rows) = seal::stdin_and_rows();
+    let (readings, stream_rows) = stream::stdin_and_rows();
     vec![
         Rows::printed("digest_rows", digest::rows()),
         Rows::printed("permute_rows", permute::rows()),
-        Rows::printed("seal_rows", seal::rows()),
+        Rows::of_cases("seal_rows", sealings, seal_rows),
         Rows::printed("frame_rows", frame::rows()),
-        Rows {
-            name: "stream_rows",
-            stdin: Some(cases),
-            stdout: stream_rows,
-        },
-        Rows::printed("limit_rows", limit::rows()),
+        Rows::of_cases("stream_rows", readings, stream_rows),
         Rows::printed("stretch_rows", stretch::rows()),
     ]
 }
@@ -67,4 +71,10 @@ pub fn write_all(directory: &Path) -> io::Result<()> {
 /// Byte i of the result is what the rule gives for i, mod 256.
 pub(crate) fn by_rule<F: Fn(usize) -> usize>(length: usize, rule: F) -> Vec<u8> {
     (0..length).map(|i| (rule(i) % 256) as u8).collect()
+}
+
+/// A number as the case files hold it: four bytes, high byte first.
+pub(crate) fn in_bytes(value: usize) -> [u8; 4] {
+    let value = u32::try_from(value).expect("the case file holds the value");
+    value.to_be_bytes()
 }

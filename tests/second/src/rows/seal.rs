@@ -1,65 +1,33 @@
 //! `seal_rows`: seals over lengths of associated data and message, openings of
-//! one sealed message damaged in each of its bytes, then the refusals.
+//! one sealed message damaged in each of its bytes, then the refusals: one call
+//! and one row for each case of the case file.
 
 use std::fmt::Write;
 
-use super::by_rule;
+use super::{by_rule, in_bytes};
 use crate::cipher::{open, seal};
 use crate::digest::digest;
 use crate::numbers::{DIGEST, KEY, NONCE, SEAL};
-use crate::text::{hex, value};
+use crate::text::value;
 
 const ASSOCIATED: [usize; 8] = [0, 1, 2, 15, 16, 17, 35, 40];
 const MESSAGES: [usize; 17] = [0, 1, 2, 7, 8, 9, 15, 16, 17, 31, 32, 33, 63, 64, 65, 69, 70];
 const LONG: [(usize, usize); 3] = [(1024, 0), (0, 4096), (1024, 4096)];
 
-/// Ciphertexts of this length are printed as their instance 1 digest.
+/// Buffers from this length on are printed as their instance 1 digest.
 const PRINTED_AS_DIGEST: usize = 4096;
 
-/// The message whose openings are damaged.
+/// The message whose openings are damaged, and the room it is opened into.
 const OPENED: (usize, usize) = (35, 20);
 const OPEN_ROOM: usize = 24;
 
-/// (key, nonce, associated, message, room, seal buffer)
-const SEAL_REFUSED: [[usize; 6]; 30] = [
-    // 2: a size that is not the exact one
-    [15, 12, 0, 0, 0, 16],
-    [17, 12, 0, 0, 0, 16],
-    [0, 12, 0, 0, 0, 16],
-    [32, 12, 35, 20, 20, 16],
-    [16, 11, 0, 0, 0, 16],
-    [16, 13, 0, 0, 0, 16],
-    [16, 0, 0, 0, 0, 16],
-    [16, 16, 35, 20, 20, 16],
-    [16, 12, 0, 0, 0, 15],
-    [16, 12, 0, 0, 0, 17],
-    [16, 12, 0, 0, 0, 0],
-    [16, 12, 35, 20, 20, 32],
-    // 3: too long
-    [16, 12, 1025, 0, 0, 16],
-    [16, 12, 1025, 20, 20, 16],
-    [16, 12, 0, 4097, 4097, 16],
-    [16, 12, 35, 4097, 5000, 16],
-    [16, 12, 1025, 4097, 4097, 16],
-    // 4: room too small
-    [16, 12, 0, 1, 0, 16],
-    [16, 12, 35, 20, 19, 16],
-    [16, 12, 35, 20, 0, 16],
-    [16, 12, 1024, 4096, 4095, 16],
-    // the order of the numbers
-    [15, 12, 0, 4097, 4097, 16],
-    [16, 13, 1025, 0, 0, 16],
-    [16, 12, 0, 4097, 0, 17],
-    [15, 11, 1025, 4097, 0, 15],
-    [17, 12, 0, 20, 19, 16],
-    [16, 12, 0, 20, 19, 15],
-    [16, 12, 1025, 20, 0, 16],
-    [16, 12, 0, 4097, 0, 16],
-    [16, 12, 0, 4097, 4096, 16],
-];
+/// What buffers hold before the call.
+const BEFORE: u8 = 0xee;
 
-/// (key, nonce, associated, ciphertext, seal, room)
-const OPEN_REFUSED: [[usize; 6]; 30] = [
+/// Lengths that both calls refuse: key, nonce, associated data, text, seal,
+/// room for the text that comes out.
+const REFUSED: [[usize; 6]; 30] = [
+    // 2: a size that is not the exact one
     [15, 12, 0, 0, 16, 0],
     [17, 12, 0, 0, 16, 0],
     [0, 12, 0, 0, 16, 0],
@@ -72,15 +40,18 @@ const OPEN_REFUSED: [[usize; 6]; 30] = [
     [16, 12, 0, 0, 17, 0],
     [16, 12, 0, 0, 0, 0],
     [16, 12, 35, 20, 32, 20],
+    // 3: too long
     [16, 12, 1025, 0, 16, 0],
     [16, 12, 1025, 20, 16, 20],
     [16, 12, 0, 4097, 16, 4097],
     [16, 12, 35, 4097, 16, 5000],
     [16, 12, 1025, 4097, 16, 4097],
+    // 4: room too small
     [16, 12, 0, 1, 16, 0],
     [16, 12, 35, 20, 16, 19],
     [16, 12, 35, 20, 16, 0],
     [16, 12, 1024, 4096, 16, 4095],
+    // the order of the numbers
     [15, 12, 0, 4097, 16, 4097],
     [16, 13, 1025, 0, 16, 0],
     [16, 12, 0, 4097, 17, 0],
@@ -108,158 +79,186 @@ fn message(length: usize) -> Vec<u8> {
     by_rule(length, |i| 5 * i + length + 1)
 }
 
-fn sealed(a: usize, p: usize) -> (Vec<u8>, [u8; SEAL], usize) {
-    let mut ciphertext = vec![0; p];
-    let mut its_seal = [0; SEAL];
-    let answer = seal(
-        &key(KEY),
-        &nonce(NONCE),
-        &associated(a),
-        &message(p),
-        &mut ciphertext,
-        &mut its_seal,
-    );
-    (ciphertext, its_seal, answer.count)
+#[derive(Clone, Copy)]
+enum Call {
+    Seal,
+    Open,
 }
 
-fn seal_rows(rows: &mut String) {
-    let mut cases = Vec::new();
-    for a in ASSOCIATED {
-        for p in MESSAGES {
-            cases.push((a, p));
-        }
-    }
-    cases.extend(LONG);
-    for (a, p) in cases {
-        let (mut shown, its_seal, count) = sealed(a, p);
-        if p == PRINTED_AS_DIGEST {
-            let mut out = [0; DIGEST];
-            digest(1, &shown, &mut out);
-            shown = out.to_vec();
-        }
-        writeln!(
-            rows,
-            "seal {} {} {} {} {}",
-            a,
-            p,
-            count,
-            value(&shown),
-            hex(&its_seal)
-        )
-        .unwrap();
-    }
-}
+const CALLS: [(Call, &str); 2] = [(Call::Seal, "seal"), (Call::Open, "open")];
 
-/// The five inputs of an opening, so that one byte of one of them can be damaged.
-struct Opening {
+/// The arguments of a call: text is the message or the ciphertext, and seal
+/// what the seal's buffer holds before.
+#[derive(Clone)]
+struct Case {
+    call: Call,
     key: Vec<u8>,
     nonce: Vec<u8>,
     associated: Vec<u8>,
-    ciphertext: Vec<u8>,
-    its_seal: Vec<u8>,
+    text: Vec<u8>,
+    seal: Vec<u8>,
+    room: usize,
 }
 
-impl Opening {
-    fn good() -> Opening {
-        let (a, p) = OPENED;
-        let (ciphertext, its_seal, _) = sealed(a, p);
-        Opening {
+/// What a call gives: its number, its count and both buffers.
+struct Given {
+    number: u8,
+    count: usize,
+    out: Vec<u8>,
+    seal: Vec<u8>,
+}
+
+impl Case {
+    fn sealing(a: usize, p: usize) -> Case {
+        Case {
+            call: Call::Seal,
             key: key(KEY),
             nonce: nonce(NONCE),
             associated: associated(a),
-            ciphertext,
-            its_seal: its_seal.to_vec(),
+            text: message(p),
+            seal: vec![BEFORE; SEAL],
+            room: p,
         }
     }
 
-    fn row(&self, rows: &mut String, what: &str, index: usize) {
-        let mut out = [0xee; OPEN_ROOM];
-        let answer = open(
+    /// The opening of what a sealing gives.
+    fn opening(a: usize, p: usize, room: usize) -> Case {
+        let sealing = Case::sealing(a, p);
+        let given = sealing.given();
+        Case {
+            call: Call::Open,
+            text: given.out,
+            seal: given.seal,
+            room,
+            ..sealing
+        }
+    }
+
+    /// The ciphertext has the message's rule and the seal the key's: no refusal
+    /// here comes from what their bytes are.
+    fn refused(call: Call, [k, n, a, p, s, room]: [usize; 6]) -> Case {
+        Case {
+            call,
+            key: key(k),
+            nonce: nonce(n),
+            associated: associated(a),
+            text: message(p),
+            seal: key(s),
+            room,
+        }
+    }
+
+    fn given(&self) -> Given {
+        let mut out = vec![BEFORE; self.room];
+        let mut its_seal = self.seal.clone();
+        let Case {
+            key,
+            nonce,
+            associated,
+            text,
+            ..
+        } = self;
+        let answer = match self.call {
+            Call::Seal => seal(key, nonce, associated, text, &mut out, &mut its_seal),
+            Call::Open => open(key, nonce, associated, text, &its_seal, &mut out),
+        };
+        Given {
+            number: answer.number,
+            count: answer.count,
+            out,
+            seal: its_seal,
+        }
+    }
+
+    /// As the case file holds it: the lengths of the name and of the five
+    /// parts, the room, and which call; then the name and the parts.
+    fn stored(&self, name: &str) -> Vec<u8> {
+        let parts = [
+            name.as_bytes(),
             &self.key,
             &self.nonce,
             &self.associated,
-            &self.ciphertext,
-            &self.its_seal,
-            &mut out,
-        );
+            &self.text,
+            &self.seal,
+        ];
+        let mut head: Vec<usize> = parts.iter().map(|part| part.len()).collect();
+        head.extend([self.room, self.call as usize]);
+        let head: Vec<[u8; 4]> = head.into_iter().map(in_bytes).collect();
+        [head.concat(), parts.concat()].concat()
+    }
+
+    fn row(&self, rows: &mut String, name: &str) {
+        let given = self.given();
         writeln!(
             rows,
-            "open {} {} {} {} {}",
-            what,
-            index,
-            answer.number,
-            answer.count,
-            hex(&out)
+            "{} {} {} {} {}",
+            name,
+            given.number,
+            given.count,
+            shown(&given.out),
+            value(&given.seal)
         )
         .unwrap();
     }
 }
 
-fn open_rows(rows: &mut String) {
-    type Part = fn(&mut Opening) -> &mut Vec<u8>;
+fn shown(buffer: &[u8]) -> String {
+    if buffer.len() < PRINTED_AS_DIGEST {
+        return value(buffer);
+    }
+    let mut out = [0; DIGEST];
+    digest(1, buffer, &mut out);
+    value(&out)
+}
+
+fn seals(cases: &mut Vec<(String, Case)>) {
+    let grid = ASSOCIATED.iter().flat_map(|&a| MESSAGES.map(|p| (a, p)));
+    for (a, p) in grid.chain(LONG) {
+        cases.push((format!("seal {} {}", a, p), Case::sealing(a, p)));
+    }
+}
+
+fn openings(cases: &mut Vec<(String, Case)>) {
+    type Part = fn(&mut Case) -> &mut Vec<u8>;
     let parts: [(&str, Part); 5] = [
-        ("seal", |o| &mut o.its_seal),
-        ("cipher", |o| &mut o.ciphertext),
-        ("nonce", |o| &mut o.nonce),
-        ("key", |o| &mut o.key),
-        ("assoc", |o| &mut o.associated),
+        ("seal", |case| &mut case.seal),
+        ("cipher", |case| &mut case.text),
+        ("nonce", |case| &mut case.nonce),
+        ("key", |case| &mut case.key),
+        ("assoc", |case| &mut case.associated),
     ];
-    Opening::good().row(rows, "good", 0);
+    let mut good = Case::opening(OPENED.0, OPENED.1, OPEN_ROOM);
+    cases.push(("open good 0".to_string(), good.clone()));
     for (what, part) in parts {
-        let length = part(&mut Opening::good()).len();
-        for index in 0..length {
-            let mut opening = Opening::good();
-            part(&mut opening)[index] ^= 0x01;
-            opening.row(rows, what, index);
+        for index in 0..part(&mut good).len() {
+            let mut damaged = good.clone();
+            part(&mut damaged)[index] ^= 0x01;
+            cases.push((format!("open {} {}", what, index), damaged));
         }
     }
 }
 
-fn refused_rows(rows: &mut String) {
-    for case in SEAL_REFUSED {
-        let [k, n, a, p, room, seal_room] = case;
-        let number = seal(
-            &key(k),
-            &nonce(n),
-            &associated(a),
-            &message(p),
-            &mut vec![0; room],
-            &mut vec![0; seal_room],
-        )
-        .number;
-        refused_row(rows, "seal", case, number);
-    }
-    for case in OPEN_REFUSED {
-        let [k, n, a, c, s, room] = case;
-        // The ciphertext and the seal have the message's and the key's rule: no
-        // refusal here comes from what their bytes are.
-        let number = open(
-            &key(k),
-            &nonce(n),
-            &associated(a),
-            &message(c),
-            &key(s),
-            &mut vec![0; room],
-        )
-        .number;
-        refused_row(rows, "open", case, number);
+fn refusals(cases: &mut Vec<(String, Case)>) {
+    for (call, its_name) in CALLS {
+        for lengths in REFUSED {
+            let texts = lengths.map(|length| length.to_string());
+            let name = format!("refused {} {}", its_name, texts.join(" "));
+            cases.push((name, Case::refused(call, lengths)));
+        }
     }
 }
 
-fn refused_row(rows: &mut String, call: &str, case: [usize; 6], number: u8) {
-    let [a, b, c, d, e, f] = case;
-    writeln!(
-        rows,
-        "refused {} {} {} {} {} {} {} {}",
-        call, a, b, c, d, e, f, number
-    )
-    .unwrap();
-}
-
-pub fn rows() -> String {
+/// The case file, and what must be printed for it.
+pub fn stdin_and_rows() -> (Vec<u8>, String) {
+    let mut cases = Vec::new();
+    seals(&mut cases);
+    openings(&mut cases);
+    refusals(&mut cases);
+    let mut stdin = Vec::new();
     let mut rows = String::new();
-    seal_rows(&mut rows);
-    open_rows(&mut rows);
-    refused_rows(&mut rows);
-    rows
+    for (name, case) in cases {
+        stdin.extend(case.stored(&name));
+        case.row(&mut rows, &name);
+    }
+    (stdin, rows)
 }

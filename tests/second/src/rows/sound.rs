@@ -5,7 +5,7 @@ use super::by_rule;
 use super::stream::Case;
 use super::told;
 use crate::frame::{framed, Fields};
-use crate::numbers::{LINE_MOST, NONCE};
+use crate::numbers::NONCE;
 use crate::stuffing::{ESCAPE, MARK};
 
 /// A nonce that has a mark and an escape in it.
@@ -14,19 +14,7 @@ fn nonce() -> Vec<u8> {
 }
 
 fn case(stream: &[u8]) -> Case {
-    from(stream, 0)
-}
-
-fn from(stream: &[u8], place: usize) -> Case {
-    roomy(stream, place, LINE_MOST)
-}
-
-fn roomy(stream: &[u8], place: usize, room: usize) -> Case {
-    Case {
-        stream: stream.to_vec(),
-        place,
-        room,
-    }
+    Case::of(stream)
 }
 
 fn between_marks(stretch: &[u8]) -> Vec<u8> {
@@ -83,16 +71,16 @@ pub fn cases() -> Vec<Case> {
     }
     // a place at the stream's end, and past it
     for stream in [&[][..], &[0x7e], &[0x7e, 0x41, 0x7e], &good] {
-        cases.push(from(stream, stream.len()));
-        cases.push(from(stream, stream.len() + 1));
-        cases.push(from(stream, 65_535));
+        cases.push(case(stream).place(stream.len()));
+        cases.push(case(stream).place(stream.len() + 1));
+        cases.push(case(stream).place(65_535));
     }
     // line buffers
     for room in [0, 1, 64, 65, 66, 255] {
-        cases.push(roomy(&good, 0, room));
+        cases.push(case(&good).room(room));
     }
-    cases.push(roomy(&good, good.len() + 1, 64));
-    cases.push(roomy(&[], 0, 64));
+    cases.push(case(&good).place(good.len() + 1).room(64));
+    cases.push(case(&[]).room(64));
     // lines of 1 and 65 bytes, and field 03 of lengths 0 and 66
     cases.push(case(&told::frame(&nonce(), b"7")));
     cases.push(case(&told::frame(&nonce(), &[b'D'; 65])));
@@ -111,7 +99,7 @@ pub fn cases() -> Vec<Case> {
         good.len() + 2,
         two.len(),
     ] {
-        cases.push(from(&two, place));
+        cases.push(case(&two).place(place));
     }
     cases
 }

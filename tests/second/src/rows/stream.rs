@@ -2,67 +2,146 @@
 //! of the stream, or to a refusal of the call, one row a reading.
 
 use std::fmt::Write;
+use std::ops::Range;
 
-use super::told;
-use super::{damage, sound};
+use super::{damage, in_bytes, limit, sound, told};
+use crate::numbers::{DIGEST, KEY, LINE_MOST};
 
-/// A stream, the place to start from and the line buffer's length.
+/// A stream, the place to start from, and the lengths of line buffer, key and
+/// font digest. A case has a name of its own, or its number.
 pub struct Case {
-    pub stream: Vec<u8>,
-    pub place: usize,
-    pub room: usize,
+    name: Option<&'static str>,
+    stream: Vec<u8>,
+    place: usize,
+    room: usize,
+    key: usize,
+    digest: usize,
 }
 
-/// Document 01's own cases first, then the damaged streams.
+impl Case {
+    /// From the stream's start, and all lengths as they should be.
+    pub fn of(stream: &[u8]) -> Case {
+        Case {
+            name: None,
+            stream: stream.to_vec(),
+            place: 0,
+            room: LINE_MOST,
+            key: KEY,
+            digest: DIGEST,
+        }
+    }
+
+    pub fn named(self, name: &'static str) -> Case {
+        Case {
+            name: Some(name),
+            ..self
+        }
+    }
+
+    pub fn place(self, place: usize) -> Case {
+        Case { place, ..self }
+    }
+
+    pub fn room(self, room: usize) -> Case {
+        Case { room, ..self }
+    }
+
+    pub fn key(self, key: usize) -> Case {
+        Case { key, ..self }
+    }
+
+    pub fn digest(self, digest: usize) -> Case {
+        Case { digest, ..self }
+    }
+
+    /// As the case file holds it: the lengths of the name, of the stream, of
+    /// its first and of its last bytes, the byte between those, the place, and
+    /// the lengths of line buffer, key and font digest; then the name and the
+    /// first and the last bytes of the stream.
+    fn stored(&self, name: &str) -> Vec<u8> {
+        let run = longest_run(&self.stream);
+        let (first, last) = (&self.stream[..run.start], &self.stream[run.end..]);
+        let between = self.stream.get(run.start).copied().unwrap_or(0);
+        let head = [
+            name.len(),
+            self.stream.len(),
+            first.len(),
+            last.len(),
+            usize::from(between),
+            self.place,
+            self.room,
+            self.key,
+            self.digest,
+        ];
+        [
+            head.map(in_bytes).concat(),
+            name.into(),
+            first.into(),
+            last.into(),
+        ]
+        .concat()
+    }
+
+    fn read_to_end(&self, rows: &mut String, name: &str) {
+        let mut start = self.place;
+        loop {
+            let (reading, line) =
+                told::reading(self.key, self.digest, &self.stream, start, self.room);
+            writeln!(
+                rows,
+                "{} {} {} {} {} {} {} {}",
+                name,
+                start,
+                reading.first,
+                reading.closing,
+                told::number(&reading),
+                reading.length,
+                reading.count,
+                line
+            )
+            .unwrap();
+            if reading.end || reading.is_call_refused() {
+                return;
+            }
+            start = reading.closing;
+        }
+    }
+}
+
+/// Where the longest run of one byte value stands: all that long streams have
+/// between their first and last bytes.
+fn longest_run(bytes: &[u8]) -> Range<usize> {
+    let mut longest = 0..0;
+    let mut start = 0;
+    for (at, byte) in bytes.iter().enumerate() {
+        if *byte != bytes[start] {
+            start = at;
+        }
+        if at + 1 - start > longest.len() {
+            longest = start..at + 1;
+        }
+    }
+    longest
+}
+
+/// Document 01's own cases first, then the damaged streams and the limits.
 fn cases() -> Vec<Case> {
     let mut cases = sound::cases();
     cases.extend(damage::cases());
+    cases.extend(limit::cases());
     cases
 }
 
-/// The case file: length and place as two bytes each (high byte first), room
-/// as one byte, then the stream; and what must be printed for it.
+/// The case file, and what must be printed for it.
 pub fn stdin_and_rows() -> (Vec<u8>, String) {
     let mut stdin = Vec::new();
     let mut rows = String::new();
     for (index, case) in cases().iter().enumerate() {
-        stdin.extend(two_bytes(case.stream.len()));
-        stdin.extend(two_bytes(case.place));
-        assert!(case.room < 256, "the case file holds the room");
-        stdin.push(case.room as u8);
-        stdin.extend(&case.stream);
-        read_to_end(&mut rows, index, case);
+        let name = case.name.map_or(index.to_string(), str::to_string);
+        stdin.extend(case.stored(&name));
+        case.read_to_end(&mut rows, &name);
     }
     (stdin, rows)
-}
-
-fn two_bytes(value: usize) -> [u8; 2] {
-    assert!(value < 65_536, "the case file holds the value");
-    [(value / 256) as u8, (value % 256) as u8]
-}
-
-fn read_to_end(rows: &mut String, index: usize, case: &Case) {
-    let mut start = case.place;
-    loop {
-        let (reading, line) = told::reading(&case.stream, start, case.room);
-        writeln!(
-            rows,
-            "{} {} {} {} {} {} {} {}",
-            index,
-            start,
-            reading.first,
-            reading.closing,
-            told::number(&reading),
-            reading.length,
-            reading.count,
-            line
-        )
-        .unwrap();
-        if reading.end || reading.is_call_refused() {
-            return;
-        }
-        start = reading.closing;
-    }
 }
 
 #[cfg(test)]
@@ -77,7 +156,7 @@ mod tests {
             .lines()
             .map(|row| row.split(' ').nth(4).unwrap())
             .collect();
-        for number in ["0", "5", "6", "7", "8", "9", "10", "4", "end"] {
+        for number in ["0", "2", "3", "4", "5", "6", "7", "8", "9", "10", "end"] {
             let times = numbers.iter().filter(|&&one| one == number).count();
             assert!(times >= 5, "{} occurs {} times", number, times);
         }

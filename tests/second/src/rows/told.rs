@@ -7,11 +7,19 @@ use crate::numbers::{DIGEST, DONE, FRAME_ROOM, KEY, LINE_MOST};
 use crate::reader::{read, Reading, Told};
 
 pub fn key() -> Vec<u8> {
-    by_rule(KEY, |i| 0x10 + i)
+    key_of(KEY)
 }
 
 pub fn digest() -> Vec<u8> {
-    by_rule(DIGEST, |i| 3 * i + 1)
+    digest_of(DIGEST)
+}
+
+fn key_of(length: usize) -> Vec<u8> {
+    by_rule(length, |i| 0x10 + i)
+}
+
+fn digest_of(length: usize) -> Vec<u8> {
+    by_rule(length, |i| 3 * i + 1)
 }
 
 /// The writer's frame of a line under that key and digest.
@@ -22,17 +30,20 @@ pub fn frame(nonce: &[u8], line: &[u8]) -> Vec<u8> {
     out[..answer.length].to_vec()
 }
 
-/// One reading under that key and digest, with the line as a row prints it.
-pub fn reading(stream: &[u8], place: usize, room: usize) -> (Reading, String) {
-    let (key, digest) = (key(), digest());
+/// One reading under a key and a digest of these lengths, with the line as a
+/// row prints it.
+pub fn reading(
+    key: usize,
+    digest: usize,
+    stream: &[u8],
+    place: usize,
+    room: usize,
+) -> (Reading, String) {
+    let (key, digest) = (key_of(key), digest_of(digest));
     let told = Told {
         key: &key,
         digest: &digest,
     };
-    reading_told(told, stream, place, room)
-}
-
-pub fn reading_told(told: Told, stream: &[u8], place: usize, room: usize) -> (Reading, String) {
     let mut out = vec![0; room.max(LINE_MOST)];
     let reading = read(told, stream, place, &mut out[..room]);
     let line = if reading.length == 0 {
