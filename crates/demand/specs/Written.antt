@@ -12,10 +12,10 @@ use Rattle.stuffing.specs.RoundTrip.{unstuff-stuff, stuff-unstuff}
 use Rattle.stuffing.specs.GoodStuffing.{stuff-well}
 use Rattle.stuffing.specs.Bytes.{unstuffed-below}
 use Rattle.line.specs.Lines.{lineRule, longest}
-use Rattle.ingage.specs.Instances.{first, first-fits}
-use Rattle.ingage.specs.Cipher.{Work}
-use Rattle.ingage.specs.RoundTrip.{open-seal, seal-open}
-use Rattle.ingage.specs.Results.{length-decrypted}
+use Rattle.cipher.specs.Instances.{first, first-fits}
+use Rattle.cipher.specs.Cipher.{Work}
+use Rattle.cipher.specs.RoundTrip.{open-seal, seal-open}
+use Rattle.cipher.specs.Results.{length-decrypted}
 use Rattle.body.specs.Fields.{nonceLength, shortest, fields, fieldsOf, body, associated}
 use Rattle.body.specs.Lengths.{Sized}
 use Rattle.body.specs.Places.{nonce-at, nonceAt}

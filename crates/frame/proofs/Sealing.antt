@@ -11,7 +11,7 @@ use Rattle.lists.specs.Over.{over-whole, take-over}
 use Rattle.ingage.specs.declared.Sealed.{Sealed}
 use Rattle.ingage.proofs.Sealed as sealed-type
 use Rattle.ingage.specs.declared.Sealed.the-variants as sealed-is
-use Rattle.ingage.specs.Instances.{first}
+use Rattle.cipher.specs.Instances.{first}
 use Rattle.ingage.specs.Answers.{sealCall}
 use Rattle.ingage.specs.Exactly.{sealed-within}
 use Rattle.body.specs.declared.Put.{Put}

@@ -3,8 +3,8 @@ use mathlib.Core.List.{List, [], _∷_}
 use Prim.Native.Nat.{ℕ}
 use native.Mathlib.Omega.{arith}
 use Rattle.lists.specs.Below.{Below, below-append}
-use Rattle.ingage.specs.Instances.{first}
-use Rattle.ingage.specs.Results.{encrypted-below}
+use Rattle.cipher.specs.Instances.{first}
+use Rattle.cipher.specs.Results.{encrypted-below}
 use Rattle.body.specs.Fields.{associated}
 use Rattle.body.specs.Bytes.{associated-below, body-below}
 use Rattle.stuffing.specs.Stuffing.{mark, stuffed}

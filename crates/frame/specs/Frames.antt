@@ -2,8 +2,8 @@
 -- body is made of nonce, font digest, ciphertext and seal, and stands stuffed between two marks. Assumes nothing: these are definitions.
 use mathlib.Core.List.{List, [], _∷_, _++_}
 use Prim.Native.Nat.{ℕ}
-use Rattle.ingage.specs.Instances.{first}
-use Rattle.ingage.specs.Cipher.{Work, encrypted}
+use Rattle.cipher.specs.Instances.{first}
+use Rattle.cipher.specs.Cipher.{Work, encrypted}
 use Rattle.body.specs.Fields.{body, associated}
 use Rattle.stuffing.specs.Stuffing.{mark, stuffed}
 use Rattle.frame.specs.Told.{Told}

@@ -6,8 +6,8 @@ use Prim.Native.Nat.{ℕ, _+_, _≤_, _<_}
 use native.Mathlib.Omega.{arith}
 use lib.ListN.{length, length-append}
 use Rattle.line.specs.Lines.{longest}
-use Rattle.ingage.specs.Instances.{first, first-fits}
-use Rattle.ingage.specs.Results.{seal-calls-first, length-encrypted, length-seal}
+use Rattle.cipher.specs.Instances.{first, first-fits}
+use Rattle.cipher.specs.Results.{seal-calls-first, length-encrypted, length-seal}
 use Rattle.body.specs.Fields.{nonceLength, digestLength, shortest, associated}
 use Rattle.body.specs.Lengths.{Sized, length-associated, length-body, besideCipher, shortestBody, longestBody}
 use Rattle.stuffing.specs.Stuffing.{longestStretch, stuffed}

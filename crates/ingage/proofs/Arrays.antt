@@ -13,10 +13,10 @@ use Rattle.gage.specs.Permutation.{permitted, answered}
 use Rattle.gage.specs.declared.Permuted.{Permuted}
 use Rattle.sponge.specs.Absorbing.{xored}
 use Rattle.lists.specs.Buffers.{copied}
-use Rattle.ingage.specs.declared.Instance.{Instance}
-use Rattle.ingage.specs.Instances.{Fitting}
-use Rattle.ingage.specs.Cipher.{whole, marked, keyed, started}
-use Rattle.ingage.specs.Masking.{xored-take}
+use Rattle.cipher.specs.declared.Instance.{Instance}
+use Rattle.cipher.specs.Instances.{Fitting}
+use Rattle.cipher.specs.Cipher.{whole, marked, keyed, started}
+use Rattle.cipher.specs.Masking.{xored-take}
 
 -- the permutation answers with the first n bytes permuted
 pub permuted : (f : List ℕ → List ℕ) → ((s : List ℕ) → length (f s) ≡ length s) → (s : List ℕ) (n : ℕ) (p : Permuted)

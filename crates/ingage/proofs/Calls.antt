@@ -12,14 +12,14 @@ use borrow.Author.Tests.{eqb-true, ltb-false, lt-ltb}
 use Rattle.lists.specs.Buffers.{over, copied, cleared, same}
 use Rattle.sponge.specs.Padding.{blockCount}
 use Rattle.sponge.specs.Absorbing.{Run}
-use Rattle.ingage.specs.declared.Instance.{Instance}
+use Rattle.cipher.specs.declared.Instance.{Instance}
 use Rattle.ingage.specs.declared.Sealed.the-variants as sealed
 use Rattle.ingage.specs.declared.Opened.the-variants as opened
-use Rattle.ingage.specs.Instances.{Fitting, first, first-fits}
-use Rattle.ingage.specs.Cipher.{from, begun, encrypting, decrypting, finished, sealOf, encrypted, decrypted, accepted}
+use Rattle.cipher.specs.Instances.{Fitting, first, first-fits}
+use Rattle.cipher.specs.Cipher.{from, begun, encrypting, decrypting, finished, sealOf, encrypted, decrypted, accepted}
 use Rattle.ingage.specs.Answers.{LONGEST-ASSOCIATED, LONGEST-TEXT, sized, tooLong, SealCall, sealCall, OpenCall, openCall}
-use Rattle.ingage.specs.Runs.{encrypting-from, decrypting-from}
-use Rattle.ingage.specs.Results.{seal-calls, open-calls, length-seal, length-decrypted}
+use Rattle.cipher.specs.Runs.{encrypting-from, decrypting-from}
+use Rattle.cipher.specs.Results.{seal-calls, open-calls, length-seal, length-decrypted}
 use Rattle.ingage.specs.Exactly.{Within, sealed-within, opened-within}
 use Rattle.ingage.proofs.Writing.{length-over}
 

@@ -11,10 +11,10 @@ use lib.Seq.{take-all, take-at, length-take-le}
 use Rattle.sponge.specs.Padding.{padded, block, blockCount, lastBlock, LARGEST-RATE}
 use Rattle.sponge.specs.Blocks.{blocks-suc, whole-rest, block-whole, last-block-cut}
 use borrow.Author.Tests.{eq-eqb, ne-eqb}
-use Rattle.ingage.specs.declared.Instance.{Instance}
-use Rattle.ingage.specs.Instances.{Fitting}
-use Rattle.ingage.specs.Cipher.{piece, marked, LAST-BLOCK, associatedBlock}
-use Rattle.ingage.specs.Pieces.{piece-starts, cut}
+use Rattle.cipher.specs.declared.Instance.{Instance}
+use Rattle.cipher.specs.Instances.{Fitting}
+use Rattle.cipher.specs.Cipher.{piece, marked, LAST-BLOCK, associatedBlock}
+use Rattle.cipher.specs.Pieces.{piece-starts, cut}
 
 -- the part of a text that the code takes for piece i
 pub piece-part : (R : ℕ) (m : List ℕ) (i end : ℕ) → i * R ≤ length m → end ≡ min (i * R + R) (length m) → take (end - i * R) (drop (i * R) m) ≡ piece R m i

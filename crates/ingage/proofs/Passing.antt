@@ -12,13 +12,13 @@ use Rattle.lists.specs.Buffers.{over, copied}
 use Rattle.sponge.specs.Padding.{padded, block, blockCount, lastBlock, LARGEST-RATE}
 use Rattle.sponge.specs.Blocks.{length-last-block}
 use Rattle.sponge.specs.Absorbing.{xored}
-use Rattle.ingage.specs.declared.Instance.{Instance}
-use Rattle.ingage.specs.Instances.{Fitting}
-use Rattle.ingage.specs.Cipher.{AFTER-ASSOCIATED, half, marked, from, associatedBlock, absorbing, absorbed, encrypting, piece, masked, decrypting}
-use Rattle.ingage.specs.Masking.{xored-take, masked-take, length-masked}
-use Rattle.ingage.specs.Pieces.{piece-starts, length-piece}
-use Rattle.ingage.specs.Runs.{length-encrypting, length-decrypting}
-use Rattle.ingage.specs.Flows.{sealing-grows, opening-grows, length-found}
+use Rattle.cipher.specs.declared.Instance.{Instance}
+use Rattle.cipher.specs.Instances.{Fitting}
+use Rattle.cipher.specs.Cipher.{AFTER-ASSOCIATED, half, marked, from, associatedBlock, absorbing, absorbed, encrypting, piece, masked, decrypting}
+use Rattle.cipher.specs.Masking.{xored-take, masked-take, length-masked}
+use Rattle.cipher.specs.Pieces.{piece-starts, length-piece}
+use Rattle.cipher.specs.Runs.{length-encrypting, length-decrypting}
+use Rattle.cipher.specs.Flows.{sealing-grows, opening-grows, length-found}
 use Rattle.ingage.proofs.Pads.{block-of, piece-part}
 use Rattle.ingage.proofs.Writing.{length-over, copied-in, written}
 

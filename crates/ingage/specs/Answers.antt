@@ -6,8 +6,8 @@ use mathlib.Core.List.{List}
 use lib.Dec.{eqb, ltb}
 use lib.ListN.{length}
 use Rattle.lists.specs.Buffers.{over, cleared}
-use Rattle.ingage.specs.Cipher.{encrypted, decrypted, accepted}
-use Rattle.ingage.specs.declared.Instance.{Instance}
+use Rattle.cipher.specs.Cipher.{encrypted, decrypted, accepted}
+use Rattle.cipher.specs.declared.Instance.{Instance}
 use Rattle.ingage.specs.declared.Sealed.{Sealed}
 use Rattle.ingage.specs.declared.Sealed.the-variants as sealed
 use Rattle.ingage.specs.declared.Opened.{Opened}

@@ -9,22 +9,14 @@ use native.Mathlib.Omega.{arith}
 use lib.ListN.{length, drop-of-length-le}
 use borrow.Author.Tests.{eq-eqb, le-ltb}
 use Rattle.lists.specs.Buffers.{over, cleared}
-use Rattle.lists.specs.Sameness.{same-eq, same-refl}
-use Rattle.ingage.specs.declared.Instance.{Instance}
+use Rattle.cipher.specs.declared.Instance.{Instance}
 use Rattle.ingage.specs.declared.Sealed.the-variants as sealed
 use Rattle.ingage.specs.declared.Opened.the-variants as opened
-use Rattle.ingage.specs.Instances.{Fitting}
-use Rattle.ingage.specs.Cipher.{Work, encrypted, decrypted, accepted}
-use Rattle.ingage.specs.RoundTrip.{seal-open, exactly}
-use Rattle.ingage.specs.Results.{length-encrypted, length-decrypted}
+use Rattle.cipher.specs.Instances.{Fitting}
+use Rattle.cipher.specs.Cipher.{Work, encrypted, decrypted, accepted}
+use Rattle.cipher.specs.RoundTrip.{seal-open, exactly, accepted-refl, accepted-eq}
+use Rattle.cipher.specs.Results.{length-encrypted, length-decrypted}
 use Rattle.ingage.specs.Answers.{sealCount, openCount, LONGEST-ASSOCIATED, LONGEST-TEXT, sized, tooLong, SealCall, sealCall, OpenCall, openCall}
-
--- a seal is accepted exactly when it is the one worked out
-pub accepted-refl : (T : List ℕ) → accepted T T ≡ true
-accepted-refl T = same-refl _
-
-pub accepted-eq : (T′ T : List ℕ) → accepted T′ T ≡ true → T′ ≡ T
-accepted-eq T′ T e = same-eq _ _ e
 
 -- seal makes C and T of the message P, in any buffers of just their lengths
 abbrev pub Makes : Instance → List ℕ → List ℕ → List ℕ → List ℕ → List ℕ → List ℕ → ℕ → Type 0

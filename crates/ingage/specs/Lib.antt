@@ -1,10 +1,2 @@
-pub mod Instances
-pub mod Cipher
 pub mod Answers
-pub mod Masking
-pub mod Pieces
-pub mod Runs
-pub mod Flows
-pub mod RoundTrip
-pub mod Results
 pub mod Exactly

@@ -1,19 +1,11 @@
 // InGAGE's cipher (document 000, section 2.1; document 01, 'The cipher'): seal and open. The instances' sizes are rows of one
-// table; the steps, over any row, are the module steps. The promises cite specs/Answers.antt and specs/Cipher.antt.
+// table; the steps, over any row, are the module steps. The promises cite specs/Answers.antt and the definitions of the crate cipher.
 mod steps;
 
+use cipher::Instance;
 ghost use mathlib.Core.Path.{_≡_};
-ghost use Rattle.ingage.specs.Instances.{first};
+ghost use Rattle.cipher.specs.Instances.{first};
 ghost use Rattle.ingage.specs.Answers.{sized, tooLong, sealCall, openCall};
-
-// The sizes of an instance in bytes.
-pub struct Instance {
-    pub key: usize,
-    pub nonce: usize,
-    pub seal: usize,
-    pub state: usize,
-    pub rate: usize,
-}
 
 // The instances (document 000, Table 2.1, which counts in bits).
 const INSTANCES: [Instance; 1] = [Instance {

@@ -1,6 +1,6 @@
-// The steps of InGAGE's Algorithms 5 and 6 (specs/Cipher.antt) over the sizes of an instance. A state is an array by value of which
+// The steps of InGAGE's Algorithms 5 and 6 (cipher/specs/Cipher.antt) over the sizes of an instance. A state is an array by value of which
 // the first bytes count, as many as the instance's state has. Every block, the last one too, is its piece of the text, padded.
-use crate::Instance;
+use cipher::Instance;
 use gage::LARGEST;
 use sponge::LARGEST_RATE;
 ghost use mathlib.Core.Path.{_≡_};
@@ -12,9 +12,9 @@ ghost use Rattle.gage.specs.Permutation.{permitted};
 ghost use Rattle.lists.specs.Buffers.{over};
 ghost use Rattle.sponge.specs.Padding.{blockCount, lastBlock};
 ghost use Rattle.sponge.specs.Absorbing.{xored};
-ghost use Rattle.ingage.specs.Instances.{Fitting};
+ghost use Rattle.cipher.specs.Instances.{Fitting};
 ghost use Rattle.ingage.specs.Answers.{LONGEST-ASSOCIATED, LONGEST-TEXT};
-ghost use Rattle.ingage.specs.Cipher.{whole, half, marked, from, passed, associatedBlock, absorbed, begun, encrypting, masked, decrypting, finished, sealOf};
+ghost use Rattle.cipher.specs.Cipher.{whole, half, marked, from, passed, associatedBlock, absorbed, begun, encrypting, masked, decrypting, finished, sealOf};
 
 // What is XORed into the last block of the associated data, into the state after it, and into the state after the message (document 000,
 // section 2.1).

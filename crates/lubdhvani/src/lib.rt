@@ -8,7 +8,7 @@ ghost use Rattle.digest.specs.Answers.{digestAnswer, digestOut};
 ghost use Rattle.digest.specs.Answers as hashing;
 ghost use Rattle.cells.specs.Sizes.{LARGEST};
 ghost use Rattle.gage.specs.Permutation.{ROUNDS, permute, unpermute};
-ghost use Rattle.ingage.specs.Instances.{first};
+ghost use Rattle.cipher.specs.Instances.{first};
 ghost use Rattle.ingage.specs.Answers.{sealCall, openCall, sealNumber, sealCount, openNumber, openCount};
 ghost use Rattle.frame.specs.Answers.{writeCall};
 ghost use Rattle.frame.specs.Answers as writing;

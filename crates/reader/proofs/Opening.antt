@@ -15,9 +15,9 @@ use Rattle.line.specs.declared.Judged.the-variants.{Accepted, Unlisted}
 use Rattle.line.specs.Lines.{lineRule}
 use Rattle.ingage.specs.declared.Opened.{Opened}
 use Rattle.ingage.specs.declared.Opened.the-variants as opened
-use Rattle.ingage.specs.Instances.{first, first-fits}
-use Rattle.ingage.specs.Cipher.{Work, decrypted}
-use Rattle.ingage.specs.Results.{length-decrypted}
+use Rattle.cipher.specs.Instances.{first, first-fits}
+use Rattle.cipher.specs.Cipher.{Work, decrypted}
+use Rattle.cipher.specs.Results.{length-decrypted}
 use Rattle.ingage.specs.Answers.{OpenCall, openCall}
 use Rattle.ingage.specs.Exactly.{Within, opened-within}
 use Rattle.ingage.proofs.Opened as opened-type

@@ -8,7 +8,7 @@ use lib.ListN.{length, take, drop}
 use Rattle.lists.specs.Below.{Below}
 use Rattle.lists.specs.Buffers.{same}
 use Rattle.line.specs.Lines.{longest}
-use Rattle.ingage.specs.Instances.{first}
+use Rattle.cipher.specs.Instances.{first}
 use Rattle.ingage.specs.Exactly.{Within}
 use Rattle.body.specs.declared.Judged.the-variants as judged-is
 use Rattle.body.specs.Fields.{nonceLength, digestLength, sealLength, Fields, fields, no-body, fieldsOf, body, associated}

@@ -16,8 +16,8 @@ use Rattle.stuffing.specs.Outcomes.{length-too-long, length-bad, length-good}
 use Rattle.line.specs.declared.Judged as line-judged
 use Rattle.line.specs.declared.Judged.the-variants.{Accepted, Unlisted}
 use Rattle.line.specs.Lines.{lineRule}
-use Rattle.ingage.specs.Instances.{first}
-use Rattle.ingage.specs.Cipher.{Work, decrypted}
+use Rattle.cipher.specs.Instances.{first}
+use Rattle.cipher.specs.Cipher.{Work, decrypted}
 use Rattle.body.specs.Fields.{Fields, fields, no-body, fieldsOf, associated}
 use Rattle.frame.specs.Told.{Told}
 use Rattle.reader.specs.Judged.{Judged, shape, stuffing, font, seal, unlisted, line}

@@ -6,7 +6,7 @@ use mathlib.Core.List.{List}
 use Prim.Native.Nat.{ℕ, _+_}
 use native.Mathlib.Omega.{arith}
 use lib.ListN.{length}
-use Rattle.ingage.specs.Results.{open-calls-first}
+use Rattle.cipher.specs.Results.{open-calls-first}
 use Rattle.body.specs.Fields.{associated}
 use Rattle.body.specs.Lengths.{length-associated}
 use Rattle.frame.specs.Told.{Told}

@@ -11,7 +11,7 @@ use Rattle.line.specs.declared.Judged as line-judged
 use Rattle.line.specs.declared.Judged.the-variants.{Accepted, Unlisted}
 use Rattle.line.specs.Lines as lines
 use Rattle.line.specs.Lines.{lineRule}
-use Rattle.ingage.specs.Cipher.{Work}
+use Rattle.cipher.specs.Cipher.{Work}
 use Rattle.body.specs.Fields.{Fields, fields, no-body, fieldsOf}
 use Rattle.body.specs.Answers.{judged, judgeNumber}
 use Rattle.frame.specs.Told.{Told}

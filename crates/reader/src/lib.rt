@@ -5,7 +5,7 @@ ghost use Prim.Native.Nat.{_≤_};
 ghost use lib.ListN.{length};
 ghost use Rattle.stream.specs.Stretches.{span};
 ghost use Rattle.line.specs.Lines.{longest};
-ghost use Rattle.ingage.specs.Instances.{first as firstInstance};
+ghost use Rattle.cipher.specs.Instances.{first as firstInstance};
 ghost use Rattle.ingage.specs.Exactly.{Within};
 ghost use Rattle.body.specs.Fields.{fieldsOf};
 ghost use Rattle.reader.specs.Judging.{judgeSealed, judgeFields, judge};

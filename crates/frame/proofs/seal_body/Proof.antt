@@ -5,8 +5,8 @@ use native.Mathlib.Omega.{arith}
 use lib.ListN.{length, replicate}
 use borrow.Author.Needs.{needs}
 use Rattle.lists.specs.Buffers.{over}
-use Rattle.ingage.specs.Cipher.{Work}
-use Rattle.ingage.specs.Instances.{first}
+use Rattle.cipher.specs.Cipher.{Work}
+use Rattle.cipher.specs.Instances.{first}
 use Rattle.frame.specs.Frames.{sealedBody, sealedLine}
 use Rattle.body.specs.declared.Put.the-variants as put-answer
 use Rattle.line.specs.Lines.{longest}

@@ -2,8 +2,8 @@
 -- nothing.
 use Rattle.ingage.proofs.Pads.{end-between, part-block, associated-last, associated-before}
 use Rattle.ingage.proofs.Arrays.{marked-take}
-use Rattle.ingage.specs.Pieces.{piece-starts}
-use Rattle.ingage.specs.Cipher.{marked, LAST-BLOCK}
+use Rattle.cipher.specs.Pieces.{piece-starts}
+use Rattle.cipher.specs.Cipher.{marked, LAST-BLOCK}
 use mathlib.Core.Path.{sym, ap, _∙_}
 use Prim.Native.Nat.{_-_, _*_, _≤_}
 use lib.ListN.{length}

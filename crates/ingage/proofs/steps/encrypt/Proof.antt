@@ -2,7 +2,7 @@
 -- the blocks left. Assumes nothing.
 use Rattle.ingage.proofs.Passing.{Sealing, sealing-none, sealing-more, sealing-all, length-sealing}
 use Rattle.ingage.proofs.Pads.{end-between, same-part, most-blocks, most-turns, fewer-turns}
-use Rattle.ingage.specs.Pieces.{piece-starts}
+use Rattle.cipher.specs.Pieces.{piece-starts}
 use native.Mathlib.Nat.{le-trans, le-add-right}
 use mir.Syntax.{w64}
 use mir.Val.{Fits}

@@ -1,6 +1,6 @@
 -- `finish` meets its promise: the mark and the permutation, one after the other. Assumes nothing.
 use mathlib.Core.Path.{_∙_}
-use Rattle.ingage.specs.Cipher.{finished}
+use Rattle.cipher.specs.Cipher.{finished}
 use native.Mathlib.Omega.{arith}
 use borrow.Author.Needs.{needs}
 use Rattle.ingage.proofs.steps.finish.Statement.{statement}

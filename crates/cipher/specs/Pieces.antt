@@ -11,7 +11,7 @@ use lib.ListN.{length, take, drop, replicate, length-take, length-drop}
 use lib.Seq.{take-all, take-length, take-take, take-add, take-append-le, drop-append-le, drop-at, length-take-le}
 use Rattle.sponge.specs.Padding.{padded, block, blockCount}
 use Rattle.sponge.specs.Blocks.{blocks-suc, whole-rest}
-use Rattle.ingage.specs.Cipher.{piece}
+use Rattle.cipher.specs.Cipher.{piece}
 
 -- a piece that there is starts in the text or at its end
 pub piece-starts : (R : ℕ) (m : List ℕ) (i : ℕ) → i < blockCount R m → i * R ≤ length m

@@ -15,13 +15,13 @@ use Rattle.sponge.specs.Padding.{block, blockCount}
 use Rattle.sponge.specs.Blocks.{block-below}
 use Rattle.sponge.specs.Absorbing.{xored, Run}
 use Rattle.sponge.specs.Xor.{xored-below}
-use Rattle.ingage.specs.declared.Instance.{Instance}
-use Rattle.ingage.specs.Instances.{Fitting, first}
-use Rattle.ingage.specs.Cipher.{passed, marked, LAST-BLOCK, AFTER-ASSOCIATED, AFTER-MESSAGE, keyed, started, associatedBlock, absorbing, absorbed, begun, encrypting, piece, masked, decrypting, finished, sealOf, encrypted, decrypted}
-use Rattle.ingage.specs.Masking.{masked-below, marked-below}
-use Rattle.ingage.specs.Runs.{encrypting-calls, decrypting-calls, begun-calls, length-begun, length-encrypting, length-finished}
-use Rattle.ingage.specs.Flows.{length-ciphertext, opened-follows}
-use Rattle.ingage.specs.RoundTrip.{wide}
+use Rattle.cipher.specs.declared.Instance.{Instance}
+use Rattle.cipher.specs.Instances.{Fitting, first}
+use Rattle.cipher.specs.Cipher.{passed, marked, LAST-BLOCK, AFTER-ASSOCIATED, AFTER-MESSAGE, keyed, started, associatedBlock, absorbing, absorbed, begun, encrypting, piece, masked, decrypting, finished, sealOf, encrypted, decrypted}
+use Rattle.cipher.specs.Masking.{masked-below, marked-below}
+use Rattle.cipher.specs.Runs.{encrypting-calls, decrypting-calls, begun-calls, length-begun, length-encrypting, length-finished}
+use Rattle.cipher.specs.Flows.{length-ciphertext, opened-follows}
+use Rattle.cipher.specs.RoundTrip.{wide}
 
 module _ (z : Instance) (key nonce A : List ℕ) where
   -- one call at the start, one for each block of the associated data and of the message, one at the end

@@ -10,7 +10,7 @@ use lib.ListN.{length, take, replicate, length-take}
 use Rattle.lists.specs.Below.{Below, below-take, below-append, below-replicate}
 use Rattle.sponge.specs.Absorbing.{xored}
 use Rattle.sponge.specs.Xor.{length-xored, xored-below}
-use Rattle.ingage.specs.Cipher.{masked, marked}
+use Rattle.cipher.specs.Cipher.{masked, marked}
 
 -- two bits
 bit-back : (a b : ℕ) → a < 2 → b < 2 → differ (bitXor a b) b ≡ a

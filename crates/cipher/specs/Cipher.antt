@@ -9,7 +9,7 @@ use Rattle.lists.specs.Buffers.{same}
 use Rattle.gage.specs.Permutation.{ROUNDS, permute}
 use Rattle.sponge.specs.Padding.{block, blockCount}
 use Rattle.sponge.specs.Absorbing.{xored, Run, changed, called}
-use Rattle.ingage.specs.declared.Instance.{Instance}
+use Rattle.cipher.specs.declared.Instance.{Instance}
 
 -- the permutation runs ROUNDS at the start and at the end, and ROUNDS / 2 after each block (r1 and r2)
 abbrev pub whole : List ℕ → List ℕ

@@ -10,9 +10,9 @@ use Rattle.gage.specs.States.{length-permute}
 use Rattle.sponge.specs.Padding.{block, blockCount}
 use Rattle.sponge.specs.Absorbing.{xored, Run}
 use Rattle.sponge.specs.Xor.{length-xored}
-use Rattle.ingage.specs.Cipher.{from, passed, keyed, started, associatedBlock, absorbing, absorbed, begun, encrypting, decrypting, finished, marked, AFTER-ASSOCIATED, AFTER-MESSAGE}
-use Rattle.ingage.specs.Masking.{length-marked}
-use Rattle.ingage.specs.declared.Instance.{Instance}
+use Rattle.cipher.specs.Cipher.{from, passed, keyed, started, associatedBlock, absorbing, absorbed, begun, encrypting, decrypting, finished, marked, AFTER-ASSOCIATED, AFTER-MESSAGE}
+use Rattle.cipher.specs.Masking.{length-marked}
+use Rattle.cipher.specs.declared.Instance.{Instance}
 
 -- a state keeps its length
 length-passed : (b : List ℕ) (r : Run) → length (passed b r .state) ≡ length (r .state)

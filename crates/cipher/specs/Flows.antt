@@ -13,10 +13,10 @@ use Rattle.sponge.specs.Padding.{block, blockCount}
 use Rattle.sponge.specs.Blocks.{block-take, length-block}
 use Rattle.sponge.specs.Absorbing.{xored, Run}
 use Rattle.sponge.specs.Xor.{length-xored}
-use Rattle.ingage.specs.Cipher.{passed, encrypting, piece, masked, decrypting}
-use Rattle.ingage.specs.Masking.{masked-take, length-masked, masked-back}
-use Rattle.ingage.specs.Pieces.{piece-starts, pieces-reach, take-piece, length-piece, take-both, block-piece, same-pieces, Growing, grown, grown-piece}
-use Rattle.ingage.specs.Runs.{length-encrypting, length-decrypting}
+use Rattle.cipher.specs.Cipher.{passed, encrypting, piece, masked, decrypting}
+use Rattle.cipher.specs.Masking.{masked-take, length-masked, masked-back}
+use Rattle.cipher.specs.Pieces.{piece-starts, pieces-reach, take-piece, length-piece, take-both, block-piece, same-pieces, Growing, grown, grown-piece}
+use Rattle.cipher.specs.Runs.{length-encrypting, length-decrypting}
 
 module _ (R : ℕ) (pos : 0 < R) (r : Run) (wide : R ≤ length (r .state)) (P : List ℕ) where
   -- the state before block i

@@ -11,7 +11,7 @@ use lib.ListN.{length, getD}
 use Rattle.gage.specs.Permutation.{among, permitted}
 use Rattle.gage.specs.Tables.{permitted-size}
 use Rattle.sponge.specs.Padding.{LARGEST-RATE}
-use Rattle.ingage.specs.declared.Instance.{Instance}
+use Rattle.cipher.specs.declared.Instance.{Instance}
 
 -- Table 2.1, row 1: |K| = 128, |N| = 96, |T| = 128, b = 232 and r = 8 bits; here in bytes
 abbrev pub first : Instance

@@ -1,20 +1,22 @@
 -- Sealing and opening undo each other, at every instance that keeps the rule of the table, every key and nonce of its sizes and every
 -- associated data (the buyer's demand 2): texts, seals and counts. Assumes nothing.
 use mathlib.Core.Path.{_≡_, sym, ap, ap₂, _∙_}
+use mathlib.Core.Bool.{true}
 use mathlib.Core.Logic.{_↔_}
 use mathlib.Core.List.{List}
 use Prim.Native.Nat.{ℕ, _*_, _≤_}
 use native.Mathlib.Omega.{arith}
 use lib.ListN.{length}
 use lib.Seq.{take-all}
+use Rattle.lists.specs.Sameness.{same-eq, same-refl}
 use Rattle.sponge.specs.Padding.{blockCount}
 use Rattle.sponge.specs.Absorbing.{Run}
-use Rattle.ingage.specs.declared.Instance.{Instance}
-use Rattle.ingage.specs.Instances.{Fitting}
-use Rattle.ingage.specs.Cipher.{Work, worked, begun, encrypting, finished, encrypted, decrypted}
-use Rattle.ingage.specs.Pieces.{pieces-reach}
-use Rattle.ingage.specs.Runs.{length-begun}
-use Rattle.ingage.specs.Flows.{Follows, ciphertext-follows, follows-ciphertext, follows-opened, opened-follows}
+use Rattle.cipher.specs.declared.Instance.{Instance}
+use Rattle.cipher.specs.Instances.{Fitting}
+use Rattle.cipher.specs.Cipher.{Work, worked, begun, encrypting, finished, encrypted, decrypted, accepted}
+use Rattle.cipher.specs.Pieces.{pieces-reach}
+use Rattle.cipher.specs.Runs.{length-begun}
+use Rattle.cipher.specs.Flows.{Follows, ciphertext-follows, follows-ciphertext, follows-opened, opened-follows}
 
 module _ (z : Instance) (fits : Fitting z) (key nonce A : List ℕ) (k : length key ≡ z .key) (n : length nonce ≡ z .nonce) where
   abbrev here : Run
@@ -65,3 +67,10 @@ module _ (z : Instance) (fits : Fitting z) (key nonce A : List ℕ) (k : length 
     λ e. ap (λ (w : Work). encrypted z key nonce A (w .text)) (sym e) ∙ seal-open C
         ∙ ap (λ (w : Work). record { text = C; seal = w .seal; calls = w .calls }) e,
   )
+
+-- a seal is accepted exactly when it is the one worked out
+pub accepted-refl : (T : List ℕ) → accepted T T ≡ true
+accepted-refl T = same-refl _
+
+pub accepted-eq : (T′ T : List ℕ) → accepted T′ T ≡ true → T′ ≡ T
+accepted-eq T′ T e = same-eq _ _ e

@@ -1,0 +1,9 @@
+pub mod Instances
+pub mod Cipher
+pub mod Masking
+pub mod Pieces
+pub mod Runs
+pub mod Flows
+pub mod RoundTrip
+pub mod Results
+pub mod Known
