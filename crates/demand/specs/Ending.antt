@@ -13,7 +13,7 @@ use Rattle.stream.specs.Places.{Next, nothing, something, next-cases}
 use Rattle.frame.specs.Told.{told}
 use Rattle.reader.specs.declared.Answer.{Answer}
 use Rattle.reader.specs.declared.Answer.the-variants as answer-is
-use Rattle.reader.specs.Sizes.{Sizes}
+use Rattle.judging.specs.Sizes.{Sizes}
 use Rattle.reader.specs.Answers.{longestStream, call, found, answer, closingOf}
 use Rattle.demand.specs.Promises.{Reads, isEnd, Seen, seenFrom, Run, none, next}
 use Rattle.demand.specs.Resync.{sized}

@@ -20,8 +20,8 @@ use Rattle.frame.specs.Told.{told}
 use Rattle.frame.specs.Frames.{sealedBody, framed, frameOf}
 use Rattle.reader.specs.declared.Answer.{Answer}
 use Rattle.reader.specs.declared.Answer.the-variants as answer-is
-use Rattle.reader.specs.Sizes.{Sizes}
-use Rattle.reader.specs.Resync.{Mark}
+use Rattle.judging.specs.Sizes.{Sizes}
+use Rattle.judging.specs.Resync.{Mark}
 use Rattle.reader.specs.Answers.{longestStream}
 use Rattle.demand.specs.Promises.{Reads, Writes, Seen, seenFrom, Run, next}
 use Rattle.demand.specs.GivenWritten.{Made, wrote, frame-read, written-made, written-is-given}

@@ -9,8 +9,8 @@ use native.Mathlib.Omega.{arith}
 use lib.ListN.{length, take, drop, length-take}
 use Rattle.frame.specs.Told.{told}
 use Rattle.reader.specs.declared.Answer.{Answer}
-use Rattle.reader.specs.Sizes.{Sizes}
-use Rattle.reader.specs.Resync.{Mark}
+use Rattle.judging.specs.Sizes.{Sizes}
+use Rattle.judging.specs.Resync.{Mark}
 use Rattle.reader.specs.Answers.{longestStream}
 use Rattle.demand.specs.Promises.{Seen, seenFrom, Run, none, next}
 use Rattle.demand.specs.Resync.{resync}

@@ -30,11 +30,11 @@ use Rattle.frame.specs.Lengths.{besideLine, length-framed, stretch-some, write-
 use Rattle.frame.specs.Outcomes.{Accepts, done-accepts, write-done}
 use Rattle.reader.specs.declared.Answer.{Answer}
 use Rattle.reader.specs.declared.Answer.the-variants as answer-is
-use Rattle.reader.specs.Sizes.{Sizes}
-use Rattle.reader.specs.Judged.{Judged, shape, stuffing, seal, unlisted, line}
-use Rattle.reader.specs.Judged as judged-is
-use Rattle.reader.specs.Judging.{judge}
-use Rattle.reader.specs.Readings.{ends}
+use Rattle.judging.specs.Sizes.{Sizes}
+use Rattle.judging.specs.Judged.{Judged, shape, stuffing, seal, unlisted, line}
+use Rattle.judging.specs.Judged as judged-is
+use Rattle.judging.specs.Judging.{judge}
+use Rattle.judging.specs.Readings.{ends}
 use Rattle.reader.specs.Answers.{longestStream, sizedTold, Found, call, stretch, found, answer, buffer, answerAt}
 use Rattle.demand.specs.Promises.{Reads, Writes}
 use Rattle.demand.specs.Resync.{sized}

@@ -13,11 +13,11 @@ use Rattle.stream.specs.Places as places
 use Rattle.frame.specs.Told.{told}
 use Rattle.reader.specs.declared.Answer.{Answer}
 use Rattle.reader.specs.declared.Answer.the-variants as answer-is
-use Rattle.reader.specs.Sizes.{Sizes}
-use Rattle.reader.specs.Judging.{judge}
-use Rattle.reader.specs.Readings.{ends}
-use Rattle.reader.specs.Resync.{Mark}
-use Rattle.reader.specs.Reaching.{UpTo, closes, behind, up-to}
+use Rattle.judging.specs.Sizes.{Sizes}
+use Rattle.judging.specs.Judging.{judge}
+use Rattle.judging.specs.Readings.{ends}
+use Rattle.judging.specs.Resync.{Mark}
+use Rattle.judging.specs.Reaching.{UpTo, closes, behind, up-to}
 use Rattle.reader.specs.Answers.{longestStream, Found, call, stretch, found, answer, buffer, closingOf}
 use Rattle.demand.specs.Promises.{Reads, isEnd, Seen, seenFrom, Run, none, next}
 use Rattle.demand.specs.Resync.{seen-at, closing-at, sized}

@@ -16,10 +16,10 @@ use Rattle.stream.specs.Places.{next-within, next-after}
 use Rattle.stream.specs.Shift.{Alike, moved, next-moved, next-shift}
 use Rattle.frame.specs.Told.{Told, told}
 use Rattle.reader.specs.declared.Answer.the-variants as answer-is
-use Rattle.reader.specs.Judged.{Judged, shape, stuffing, font, seal, unlisted, line, numberIn, lineIn, callsIn}
-use Rattle.reader.specs.Judging.{judge}
-use Rattle.reader.specs.Readings.{ends, eqb-moved}
-use Rattle.reader.specs.Resync.{Mark}
+use Rattle.judging.specs.Judged.{Judged, shape, stuffing, font, seal, unlisted, line, numberIn, lineIn, callsIn}
+use Rattle.judging.specs.Judging.{judge}
+use Rattle.judging.specs.Readings.{ends, eqb-moved}
+use Rattle.judging.specs.Resync.{Mark}
 use Rattle.reader.specs.Answers.{longestStream, sizedTold, Found, call, stretch, found, answer, buffer, answerAt, lineOver, closingOf}
 use Rattle.demand.specs.Promises.{Seen, seenFrom, Run, none, next}
 

@@ -24,10 +24,10 @@ use Rattle.frame.specs.Told.{Told}
 use Rattle.frame.specs.Frames.{sealedLine, sealedBody, framed, frameOf}
 use Rattle.frame.specs.Lengths.{besideLine, sealed-sized, stretch-within, write-calls}
 use Rattle.frame.specs.Outcomes.{Accepts}
-use Rattle.reader.specs.Sizes.{Sizes}
-use Rattle.reader.specs.Judged.{line}
-use Rattle.reader.specs.Judging.{judge}
-use Rattle.reader.specs.Cases.{Holds, Case, given, opening, judge-case, judge-line}
+use Rattle.judging.specs.Sizes.{Sizes}
+use Rattle.judging.specs.Judged.{line}
+use Rattle.judging.specs.Judging.{judge}
+use Rattle.judging.specs.Cases.{Holds, Case, given, opening, judge-case, judge-line}
 
 -- the bytes s between two marks
 abbrev pub marked : List ℕ → List ℕ

@@ -15,8 +15,8 @@ use Rattle.reader.specs.declared.Answer.{Answer}
 use Rattle.reader.specs.declared.Answer.the-variants as answer-is
 use Rattle.frame.specs.Told.{Told}
 use Rattle.frame.specs.Told.{told}
-use Rattle.reader.specs.Sizes.{Sizes}
-use Rattle.reader.specs.Judging.{judge}
+use Rattle.judging.specs.Sizes.{Sizes}
+use Rattle.judging.specs.Judging.{judge}
 use Rattle.reader.specs.Answers.{longestStream, sizedTold, Found, call, stretch, found, answer, buffer, answerAt, lineOver, readAnswer, readOut}
 
 -- the places that `next_span` gives

@@ -23,8 +23,8 @@ use Rattle.ingage.specs.Exactly.{Within, opened-within}
 use Rattle.ingage.proofs.Opened as opened-type
 use Rattle.stream.specs.declared.Span.{Span}
 use Rattle.reader.specs.declared.Answer.the-variants as answer-is
-use Rattle.reader.specs.Judged.{Judged, seal, unlisted, line}
-use Rattle.reader.specs.Judging.{judgeWork, judgeSealed}
+use Rattle.judging.specs.Judged.{Judged, seal, unlisted, line}
+use Rattle.judging.specs.Judging.{judgeWork, judgeSealed}
 use Rattle.reader.proofs.Shown.{Shows, shown}
 
 module _ (key nonce A C T : List ℕ) {room : List ℕ} (w : Within first key nonce A C T room) where

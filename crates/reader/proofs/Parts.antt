@@ -17,9 +17,9 @@ use Rattle.body.specs.Lengths.{Sized, besideCipher, length-body, length-associa
 use Rattle.body.specs.Places.{nonceAt, associatedAt, digestAt, cipherAt, sealAt, nonce-at, associated-at, digest-at, cipher-at, seal-at}
 use Rattle.body.specs.OneToOne.{body-fields}
 use Rattle.frame.specs.Told.{Told}
-use Rattle.reader.specs.Sizes.{Sizes}
-use Rattle.reader.specs.Judged.{shape, font}
-use Rattle.reader.specs.Judging.{judgeSealed, judgeFields}
+use Rattle.judging.specs.Sizes.{Sizes}
+use Rattle.judging.specs.Judged.{shape, font}
+use Rattle.judging.specs.Judging.{judgeSealed, judgeFields}
 
 -- the parts of a body that are lent on
 abbrev pub nonceIn : List ℕ → List ℕ

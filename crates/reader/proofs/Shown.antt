@@ -4,7 +4,7 @@ use mathlib.Core.List.{List}
 use Prim.Native.Nat.{ℕ}
 use Rattle.stream.specs.declared.Span.{Span}
 use Rattle.reader.specs.declared.Answer.{Answer}
-use Rattle.reader.specs.Judged.{Judged}
+use Rattle.judging.specs.Judged.{Judged}
 use Rattle.reader.specs.Answers.{answerAt, lineOver}
 
 -- the answer at the stretch's places and the line buffer, where the judgement promised is k

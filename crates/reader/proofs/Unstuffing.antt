@@ -14,9 +14,9 @@ use Rattle.stuffing.specs.Answers.{unstuffAnswer, unstuffOut}
 use Rattle.stuffing.specs.Outcomes.{Outcome, too-long, bad, no-room, done, unstuff-outcome}
 use Rattle.body.specs.Fields.{fieldsOf}
 use Rattle.frame.specs.Told.{Told}
-use Rattle.reader.specs.Judged.{shape, stuffing}
-use Rattle.reader.specs.Judging.{judgeFields, judge}
-use Rattle.reader.specs.Cases.{judge-too-long, judge-bad, judge-fields}
+use Rattle.judging.specs.Judged.{shape, stuffing}
+use Rattle.judging.specs.Judging.{judgeFields, judge}
+use Rattle.judging.specs.Cases.{judge-too-long, judge-bad, judge-fields}
 
 module _ (t : Told) (s o : List ℕ) where
   outcome : (r : Unstuffed) → unstuffAnswer s o ≡ r → Outcome s o r (unstuffOut s o)

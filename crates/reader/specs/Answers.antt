@@ -14,9 +14,9 @@ use Rattle.body.specs.Fields.{digestLength}
 use Rattle.reader.specs.declared.Answer.{Answer}
 use Rattle.reader.specs.declared.Answer.the-variants as answer-is
 use Rattle.frame.specs.Told.{Told}
-use Rattle.reader.specs.Judged.{Judged, shape, stuffing, font, seal, unlisted, line}
-use Rattle.reader.specs.Readings.{ends}
-use Rattle.reader.specs.Judging.{judge}
+use Rattle.judging.specs.Judged.{Judged, shape, stuffing, font, seal, unlisted, line}
+use Rattle.judging.specs.Readings.{ends}
+use Rattle.judging.specs.Judging.{judge}
 
 -- the longest stream in bytes (document 01, number 3)
 abbrev pub longestStream : ℕ

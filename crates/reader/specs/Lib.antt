@@ -1,11 +1,1 @@
-pub mod Sizes
-pub mod Judged
-pub mod Readings
-pub mod Resync
-pub mod Reaching
-pub mod Joining
-pub mod Judging
 pub mod Answers
-pub mod Cases
-pub mod Counts
-pub mod Numbers

@@ -2,8 +2,8 @@
 -- Assumes nothing.
 use Rattle.reader.proofs.Parts.{Parts, parts, no-fields, other-font, its-font, within}
 use Rattle.reader.proofs.Shown.{shown, passed}
-use Rattle.reader.specs.Judging.{judgeFields}
-use Rattle.reader.specs.Judged.{shape, font}
+use Rattle.judging.specs.Judging.{judgeFields}
+use Rattle.judging.specs.Judged.{shape, font}
 use Rattle.frame.specs.Told.{told}
 use Rattle.body.specs.Fields.{fieldsOf}
 use Rattle.lists.specs.Below.{below-all}

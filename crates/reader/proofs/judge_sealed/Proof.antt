@@ -2,8 +2,8 @@
 -- the buffer beside the caller's and is copied whole. Assumes nothing.
 use Rattle.reader.proofs.Opening.{told-seal, told-other, told-unlisted, gives}
 use Rattle.reader.proofs.Shown.{shown}
-use Rattle.reader.specs.Judging.{judgeSealed}
-use Rattle.reader.specs.Judged.{seal, unlisted}
+use Rattle.judging.specs.Judging.{judgeSealed}
+use Rattle.judging.specs.Judged.{seal, unlisted}
 use Rattle.stream.specs.Stretches.{span}
 use native.Mathlib.Omega.{arith}
 use borrow.Author.Needs.{needs}

@@ -2,8 +2,8 @@
 -- longer than its stretch. Assumes nothing.
 use Rattle.reader.proofs.Unstuffing.{told-long, told-bad, told-small, told-fits, told-body}
 use Rattle.reader.proofs.Shown.{shown, passed}
-use Rattle.reader.specs.Judging.{judge}
-use Rattle.reader.specs.Judged.{shape, stuffing}
+use Rattle.judging.specs.Judging.{judge}
+use Rattle.judging.specs.Judged.{shape, stuffing}
 use Rattle.frame.specs.Told.{told}
 use Rattle.stream.specs.Stretches.{span}
 use mathlib.Core.Path.{sym, _∙_}

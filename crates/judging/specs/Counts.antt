@@ -11,10 +11,10 @@ use Rattle.body.specs.Fields.{associated}
 use Rattle.body.specs.Lengths.{length-associated}
 use Rattle.frame.specs.Told.{Told}
 use Rattle.frame.specs.Lengths.{besideLine}
-use Rattle.reader.specs.Sizes.{Sizes}
-use Rattle.reader.specs.Judged.{Judged, callsIn}
-use Rattle.reader.specs.Judging.{judge}
-use Rattle.reader.specs.Cases.{Holds, Case, opening, judge-case, too-long, bad-stuffing, no-fields, other-font, other-seal, not-listed, given}
+use Rattle.judging.specs.Sizes.{Sizes}
+use Rattle.judging.specs.Judged.{Judged, callsIn}
+use Rattle.judging.specs.Judging.{judge}
+use Rattle.judging.specs.Cases.{Holds, Case, opening, judge-case, too-long, bad-stuffing, no-fields, other-font, other-seal, not-listed, given}
 
 -- nothing was opened, or a ciphertext was
 abbrev pub Counted : Told → List ℕ → Judged → Type 0

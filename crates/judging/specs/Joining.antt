@@ -12,10 +12,10 @@ use Rattle.stream.specs.declared.Span.{Span}
 use Rattle.stream.specs.Stretches.{span, bytesAt, nextSpan, nextStretch}
 use Rattle.stream.specs.Meaning.{Stretch}
 use Rattle.stream.specs.Places.{Found, stretch-next}
-use Rattle.reader.specs.Judged.{Judged}
-use Rattle.reader.specs.Readings.{Reading, reading, ends, readings, readings-step}
-use Rattle.reader.specs.Resync.{fromPlace, Mark, resync}
-use Rattle.reader.specs.Reaching.{UpTo, closes, behind, up-to}
+use Rattle.judging.specs.Judged.{Judged}
+use Rattle.judging.specs.Readings.{Reading, reading, ends, readings, readings-step}
+use Rattle.judging.specs.Resync.{fromPlace, Mark, resync}
+use Rattle.judging.specs.Reaching.{UpTo, closes, behind, up-to}
 
 -- every reading of a list closes at place i or before it
 abbrev pub ClosedBy : ℕ → List Reading → Type 0

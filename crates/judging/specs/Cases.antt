@@ -20,8 +20,8 @@ use Rattle.cipher.specs.Instances.{first}
 use Rattle.cipher.specs.Cipher.{Work, decrypted}
 use Rattle.body.specs.Fields.{Fields, fields, no-body, fieldsOf, associated}
 use Rattle.frame.specs.Told.{Told}
-use Rattle.reader.specs.Judged.{Judged, shape, stuffing, font, seal, unlisted, line}
-use Rattle.reader.specs.Judging.{byRule, judgeSealed, judgeFields, judge}
+use Rattle.judging.specs.Judged.{Judged, shape, stuffing, font, seal, unlisted, line}
+use Rattle.judging.specs.Judging.{byRule, judgeSealed, judgeFields, judge}
 
 same-differs : (a b : List ℕ) → same a b ≡ false → a ≡ b → ⊥
 same-differs a b e q =

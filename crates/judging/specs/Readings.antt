@@ -13,7 +13,7 @@ use Rattle.stream.specs.declared.Span.{Span}
 use Rattle.stream.specs.Stretches.{span, nextSpan, nextStretch}
 use Rattle.stream.specs.Places.{Found, next-found, next-within}
 use Rattle.stream.specs.Shift.{moved, next-moved, stretch-moved}
-use Rattle.reader.specs.Judged.{Judged}
+use Rattle.judging.specs.Judged.{Judged}
 
 -- one reading: where the stretch stands, and what it is found to be
 pub record Reading : Type 0 where

@@ -9,7 +9,7 @@ use Rattle.stream.specs.declared.Span.{Span}
 use Rattle.stream.specs.Stretches.{span, nextSpan}
 use Rattle.stream.specs.Meaning.{Stretch}
 use Rattle.stream.specs.Places.{Found, Next, nothing, something, next-cases, next-none, stretch-closing}
-use Rattle.reader.specs.Resync.{Mark}
+use Rattle.judging.specs.Resync.{Mark}
 
 -- what is found from a place is one stretch
 found-one : (s : List ℕ) (from : ℕ) (p q : Span) → Found s from p → Found s from q → p ≡ q

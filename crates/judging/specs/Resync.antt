@@ -8,8 +8,8 @@ use lib.ListN.{length, getD, drop}
 use Rattle.stuffing.specs.Stuffing.{mark}
 use Rattle.stream.specs.Stretches.{span}
 use Rattle.stream.specs.Shift.{Alike}
-use Rattle.reader.specs.Judged.{Judged}
-use Rattle.reader.specs.Readings.{Reading, reading, movedReading, readings, readings-moved}
+use Rattle.judging.specs.Judged.{Judged}
+use Rattle.judging.specs.Readings.{Reading, reading, movedReading, readings, readings-moved}
 
 -- a reading with its places counted from place i
 abbrev pub fromPlace : ℕ → Reading → Reading

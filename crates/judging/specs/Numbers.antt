@@ -15,9 +15,9 @@ use Rattle.cipher.specs.Cipher.{Work}
 use Rattle.body.specs.Fields.{Fields, fields, no-body, fieldsOf}
 use Rattle.body.specs.Answers.{judged, judgeNumber}
 use Rattle.frame.specs.Told.{Told}
-use Rattle.reader.specs.Judged.{Judged, numberIn}
-use Rattle.reader.specs.Judging.{byRule, judgeSealed, judgeFields, judge}
-use Rattle.reader.specs.Cases.{Stuffed, Holds, Case, opening, judge-case, judge-fields, judge-holds, too-long, bad-stuffing, no-fields, other-font, other-seal, not-listed, given}
+use Rattle.judging.specs.Judged.{Judged, numberIn}
+use Rattle.judging.specs.Judging.{byRule, judgeSealed, judgeFields, judge}
+use Rattle.judging.specs.Cases.{Stuffed, Holds, Case, opening, judge-case, judge-fields, judge-holds, too-long, bad-stuffing, no-fields, other-font, other-seal, not-listed, given}
 
 module _ (t : Told) (s : List ℕ) where
   -- a stretch that is too long or badly stuffed: 7, 6

@@ -1,0 +1,10 @@
+pub mod Sizes
+pub mod Judged
+pub mod Judging
+pub mod Cases
+pub mod Numbers
+pub mod Counts
+pub mod Readings
+pub mod Resync
+pub mod Reaching
+pub mod Joining
