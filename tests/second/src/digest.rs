@@ -40,7 +40,7 @@ pub fn sponge(
     (size, rate): (usize, usize),
     message: &[u8],
 ) -> (Vec<u8>, usize) {
-    let mut permutation = Permutation::new(readings, size);
+    let mut permutation = Permutation::new(readings);
     let mut state = vec![0; size];
     for block in padded(message, rate).chunks(rate) {
         for (byte, &from) in state.iter_mut().zip(block) {
