@@ -15,6 +15,7 @@ pub const ROUNDS: usize = 32;
 pub const PERMITTED: [usize; 9] = [29, 30, 32, 34, 36, 40, 48, 68, 72];
 
 /// The permutation under one reading, with its call counter.
+#[derive(Clone)]
 pub struct Permutation {
     convention: Convention,
     leader_more: bool,

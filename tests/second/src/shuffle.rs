@@ -61,6 +61,7 @@ pub fn cells(convention: Convention, size: usize) -> Vec<(usize, usize)> {
 /// The eight bits of a byte go to eight bytes, and each way is known for every
 /// value of the byte before a state is seen: byte j of a number, its lowest
 /// being byte 0, is what goes to the byte j places off.
+#[derive(Clone)]
 pub struct Shuffle {
     /// From byte i of the old state to the bytes i, i-1, .. i-7 of the new one.
     there: [u64; 256],
