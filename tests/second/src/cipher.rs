@@ -38,7 +38,7 @@ impl<'a> Steps<'a> {
         let mut state = vec![0; sizes.state];
         state[..nonce.len()].copy_from_slice(nonce);
         state[nonce.len()..nonce.len() + key.len()].copy_from_slice(key);
-        let mut permutation = Permutation::new(readings, sizes.state);
+        let mut permutation = Permutation::new(readings);
         permutation.permute(&mut state, ROUNDS);
         // 0||K||0*: the zero stands in the place that N has in N||K||0*.
         let mut key_again = vec![0; sizes.state];

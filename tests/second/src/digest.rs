@@ -34,26 +34,48 @@ pub fn sizes(instance: usize) -> Option<(usize, usize)> {
     Some((b / 8, r / 8))
 }
 
-/// Absorbs and squeezes; gives the digest and the calls counted on the way.
-pub fn sponge(
-    readings: &Readings,
-    (size, rate): (usize, usize),
-    message: &[u8],
-) -> (Vec<u8>, usize) {
-    let mut permutation = Permutation::new(readings, size);
-    let mut state = vec![0; size];
-    for block in padded(message, rate).chunks(rate) {
-        for (byte, &from) in state.iter_mut().zip(block) {
-            *byte ^= from;
+/// A sponge on its way: the state, and the permutation that counts its calls.
+#[derive(Clone)]
+pub struct Sponge {
+    permutation: Permutation,
+    state: Vec<u8>,
+    rate: usize,
+}
+
+impl Sponge {
+    pub fn new(readings: &Readings, (size, rate): (usize, usize)) -> Sponge {
+        Sponge {
+            permutation: Permutation::new(readings),
+            state: vec![0; size],
+            rate,
         }
-        permutation.permute(&mut state, ROUNDS);
     }
-    let mut hash = Vec::new();
-    while hash.len() < DIGEST {
-        permutation.permute(&mut state, ROUNDS);
-        hash.extend_from_slice(&state[..rate]);
+
+    pub fn absorb(&mut self, blocks: &[u8]) {
+        for block in blocks.chunks(self.rate) {
+            for (byte, &from) in self.state.iter_mut().zip(block) {
+                *byte ^= from;
+            }
+            self.permutation.permute(&mut self.state, ROUNDS);
+        }
     }
-    (hash, permutation.calls())
+
+    /// Gives the digest and the calls counted on the way.
+    pub fn squeeze(mut self) -> (Vec<u8>, usize) {
+        let mut hash = Vec::new();
+        while hash.len() < DIGEST {
+            self.permutation.permute(&mut self.state, ROUNDS);
+            hash.extend_from_slice(&self.state[..self.rate]);
+        }
+        (hash, self.permutation.calls())
+    }
+}
+
+/// Absorbs the message and squeezes.
+pub fn sponge(readings: &Readings, shape: (usize, usize), message: &[u8]) -> (Vec<u8>, usize) {
+    let mut sponge = Sponge::new(readings, shape);
+    sponge.absorb(&padded(message, shape.1));
+    sponge.squeeze()
 }
 
 /// The public call. Writes 32 bytes on success and nothing on a refusal.

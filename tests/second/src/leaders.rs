@@ -22,11 +22,9 @@ const TABLE_1_11: [u8; 255] = [
     2, 1, 2, 1, 0, 3, 0, 1, 0, 3, 0, 3, 0, 1, 2,
 ];
 
-/// The first `count` leaders; past its 255 entries the table starts again.
-pub fn leaders(count: usize) -> Vec<u8> {
-    (0..count)
-        .map(|i| TABLE_1_11[i % TABLE_1_11.len()])
-        .collect()
+/// Leader l_i; past its 255 entries the table starts again.
+pub fn leader(i: usize) -> u8 {
+    TABLE_1_11[i % TABLE_1_11.len()]
 }
 
 #[cfg(test)]
@@ -35,13 +33,16 @@ mod tests {
 
     #[test]
     fn thirty_two_leaders() {
-        let document_01 = [
+        let document_01: [u8; 32] = [
             0, 3, 0, 3, 0, 1, 2, 3, 2, 1, 2, 3, 2, 1, 2, 3, 0, 1, 2, 3, 2, 3, 0, 3, 2, 3, 2, 3, 2,
             1, 2, 1,
         ];
-        assert_eq!(leaders(32), document_01);
-        assert_eq!(leaders(33)[32], 0);
-        assert_eq!(leaders(256)[255], leaders(1)[0]);
+        for (i, &number) in document_01.iter().enumerate() {
+            assert_eq!(leader(i), number);
+        }
+        assert_eq!(leader(32), 0);
+        assert_eq!(leader(254), 2);
+        assert_eq!(leader(255), leader(0));
     }
 
     #[test]

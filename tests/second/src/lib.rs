@@ -1,9 +1,8 @@
 //! The independent second program of Lubdhvani, as a library: every public
-//! call of the product, written from the papers alone and the slow way they
+//! call of the product, written from the papers alone and the plain way they
 //! read. Plain slices in, plain structs out, lent buffers as document 01 says.
 
 pub mod answers;
-pub mod bits;
 pub mod cipher;
 pub mod compose;
 pub mod diffusion;

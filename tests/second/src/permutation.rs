@@ -2,11 +2,10 @@
 //! and any rounds, and the two public calls at the permitted sizes.
 //! `Permutation` counts its own calls: the counter steps where a call is made.
 
-use crate::bits::{bits_of, bytes_of};
-use crate::leaders::leaders;
+use crate::leaders::leader;
 use crate::numbers::{DONE, UNKNOWN};
-use crate::readings::{Readings, PRODUCT};
-use crate::shuffle::{cells, shuffle, unshuffle, wiring};
+use crate::readings::{Convention, Readings, PRODUCT};
+use crate::shuffle::Shuffle;
 use crate::substitution::{substitute, unsubstitute};
 
 /// ROUNDS of document 000.
@@ -15,20 +14,21 @@ pub const ROUNDS: usize = 32;
 /// Permitted state sizes in bytes (document 01).
 pub const PERMITTED: [usize; 9] = [29, 30, 32, 34, 36, 40, 48, 68, 72];
 
-/// The permutation of one size under one reading, with its call counter.
+/// The permutation under one reading, with its call counter.
+#[derive(Clone)]
 pub struct Permutation {
+    convention: Convention,
     leader_more: bool,
-    from: Vec<usize>,
-    cells: Vec<(usize, usize)>,
+    shuffle: Shuffle,
     calls: usize,
 }
 
 impl Permutation {
-    pub fn new(readings: &Readings, size: usize) -> Permutation {
+    pub fn new(readings: &Readings) -> Permutation {
         Permutation {
+            convention: readings.convention,
             leader_more: readings.leader_more,
-            from: wiring(readings.convention, size),
-            cells: cells(readings.convention, size),
+            shuffle: Shuffle::new(readings.convention),
             calls: 0,
         }
     }
@@ -39,48 +39,29 @@ impl Permutation {
     }
 
     /// Substitute with leader 0; then for each further leader shuffle and
-    /// substitute. The state has this permutation's size; rounds are at least 1.
+    /// substitute. The state has eight bytes or more; rounds are at least 1.
     pub fn permute(&mut self, state: &mut [u8], rounds: usize) {
         self.calls += 1;
-        let leaders = self.leaders(rounds);
-        let mut bits = bits_of(state);
-        self.on_cells(&mut bits, |cells| substitute(leaders[0], cells));
-        for &leader in &leaders[1..] {
-            bits = shuffle(&self.from, &bits);
-            self.on_cells(&mut bits, |cells| substitute(leader, cells));
+        substitute(self.convention, leader(0), state);
+        for i in 1..self.leaders(rounds) {
+            self.shuffle.shuffle(state);
+            substitute(self.convention, leader(i), state);
         }
-        state.copy_from_slice(&bytes_of(&bits));
     }
 
     /// The same steps undone, last first.
     pub fn unpermute(&mut self, state: &mut [u8], rounds: usize) {
         self.calls += 1;
-        let leaders = self.leaders(rounds);
-        let mut bits = bits_of(state);
-        for &leader in leaders[1..].iter().rev() {
-            self.on_cells(&mut bits, |cells| unsubstitute(leader, cells));
-            bits = unshuffle(&self.from, &bits);
+        for i in (1..self.leaders(rounds)).rev() {
+            unsubstitute(self.convention, leader(i), state);
+            self.shuffle.unshuffle(state);
         }
-        self.on_cells(&mut bits, |cells| unsubstitute(leaders[0], cells));
-        state.copy_from_slice(&bytes_of(&bits));
+        unsubstitute(self.convention, leader(0), state);
     }
 
-    fn leaders(&self, rounds: usize) -> Vec<u8> {
-        leaders(if self.leader_more { rounds + 1 } else { rounds })
-    }
-
-    /// Reads the bits as cells, changes the cells, writes them back as bits.
-    fn on_cells<F: Fn(&mut [u8])>(&self, bits: &mut [u8], change: F) {
-        let mut cells: Vec<u8> = self
-            .cells
-            .iter()
-            .map(|&(high, low)| 2 * bits[high] + bits[low])
-            .collect();
-        change(&mut cells);
-        for (&(high, low), cell) in self.cells.iter().zip(cells) {
-            bits[high] = cell >> 1;
-            bits[low] = cell & 1;
-        }
+    /// How many leaders so many rounds have.
+    fn leaders(&self, rounds: usize) -> usize {
+        rounds + usize::from(self.leader_more)
     }
 }
 
@@ -90,7 +71,7 @@ pub fn permute(state: &mut [u8]) -> u8 {
     if !PERMITTED.contains(&state.len()) {
         return UNKNOWN;
     }
-    Permutation::new(&PRODUCT, state.len()).permute(state, ROUNDS);
+    Permutation::new(&PRODUCT).permute(state, ROUNDS);
     DONE
 }
 
@@ -99,29 +80,71 @@ pub fn unpermute(state: &mut [u8]) -> u8 {
     if !PERMITTED.contains(&state.len()) {
         return UNKNOWN;
     }
-    Permutation::new(&PRODUCT, state.len()).unpermute(state, ROUNDS);
+    Permutation::new(&PRODUCT).unpermute(state, ROUNDS);
     DONE
 }
 
 #[cfg(test)]
 mod tests {
     use super::*;
-    use crate::readings::{every_combination, Convention};
+    use crate::readings::every_combination;
+    use crate::shuffle::{cells, wiring};
+    use crate::substitution::star;
 
-    fn substituted(leader: u8, state: &[u8]) -> Vec<u8> {
-        let permutation = Permutation::new(&PRODUCT, state.len());
-        let mut bits = bits_of(state);
-        permutation.on_cells(&mut bits, |cells| substitute(leader, cells));
+    /// Every reading that the permutation knows of, its other switches the product's.
+    fn every_reading() -> impl Iterator<Item = Readings> {
+        every_combination().into_iter().filter(|readings| {
+            readings.block_rounds == PRODUCT.block_rounds && readings.key_again == PRODUCT.key_again
+        })
+    }
+
+    fn bits_of(bytes: &[u8]) -> Vec<u8> {
+        let bit = |k: usize| bytes[k / 8] >> (7 - k % 8) & 1;
+        (0..8 * bytes.len()).map(bit).collect()
+    }
+
+    fn bytes_of(bits: &[u8]) -> Vec<u8> {
+        let byte = |eight: &[u8]| eight.iter().fold(0, |byte, &bit| 2 * byte + bit);
+        bits.chunks(8).map(byte).collect()
+    }
+
+    /// Algorithm 1 cell by cell over a state's bits.
+    fn substituted_bits(cells: &[(usize, usize)], leader: u8, old: &[u8]) -> Vec<u8> {
+        let mut new = vec![0; old.len()];
+        let mut left = leader;
+        for &(high, low) in cells {
+            let cell = 2 * old[high] + old[low];
+            new[high] = star(left, cell) >> 1;
+            new[low] = star(left, cell) & 1;
+            left = cell;
+        }
+        new
+    }
+
+    /// Algorithm 2 with so many leaders, every bit and every cell by itself.
+    fn permuted_bits(convention: Convention, leaders: usize, state: &[u8]) -> Vec<u8> {
+        let (from, cells) = (
+            wiring(convention, state.len()),
+            cells(convention, state.len()),
+        );
+        let mut bits = substituted_bits(&cells, leader(0), &bits_of(state));
+        for i in 1..leaders {
+            bits = from.iter().map(|&old| bits[old]).collect();
+            bits = substituted_bits(&cells, leader(i), &bits);
+        }
         bytes_of(&bits)
     }
 
+    fn substituted(leader: u8, state: &[u8]) -> Vec<u8> {
+        let mut state = state.to_vec();
+        substitute(PRODUCT.convention, leader, &mut state);
+        state
+    }
+
     fn shuffled(byte_0: u8) -> Vec<u8> {
-        let mut state = vec![0; 29];
-        state[0] = byte_0;
-        bytes_of(&shuffle(
-            &wiring(Convention::Document01, 29),
-            &bits_of(&state),
-        ))
+        let mut state = only(0, byte_0);
+        Shuffle::new(PRODUCT.convention).shuffle(&mut state);
+        state
     }
 
     fn only(place: usize, value: u8) -> Vec<u8> {
@@ -156,17 +179,32 @@ mod tests {
     #[test]
     fn one_round_is_one_substitution() {
         let mut state = vec![0; 29];
-        Permutation::new(&PRODUCT, 29).permute(&mut state, 1);
+        Permutation::new(&PRODUCT).permute(&mut state, 1);
         assert_eq!(state, vec![0x55; 29]);
     }
 
     #[test]
+    fn bytes_give_what_bits_and_cells_give() {
+        for readings in every_reading() {
+            for size in [8, 29, 30, 32, 34, 36, 40, 48, 64, 68, 72] {
+                for rounds in [1, 2, 16, 32, 256] {
+                    let mut state: Vec<u8> = (0..size).map(|i| (31 * i + rounds) as u8).collect();
+                    let leaders = rounds + usize::from(readings.leader_more);
+                    let bit_by_bit = permuted_bits(readings.convention, leaders, &state);
+                    Permutation::new(&readings).permute(&mut state, rounds);
+                    assert_eq!(state, bit_by_bit);
+                }
+            }
+        }
+    }
+
+    #[test]
     fn the_inverse_undoes_it_at_every_size_rounds_and_reading() {
-        for readings in every_combination() {
+        for readings in every_reading() {
             for size in [8, 29, 30, 32, 34, 36, 40, 48, 64, 68, 72] {
                 for rounds in [1, 2, 16, 32, 255] {
                     let old: Vec<u8> = (0..size).map(|i| (37 * i + rounds) as u8).collect();
-                    let mut permutation = Permutation::new(&readings, size);
+                    let mut permutation = Permutation::new(&readings);
                     let mut state = old.clone();
                     permutation.permute(&mut state, rounds);
                     assert_ne!(state, old);
