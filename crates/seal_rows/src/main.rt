@@ -1,7 +1,9 @@
-// Prints the rows that the second program makes of its own seals (tests/second, src/rows/seal.rs): what sealing or opening gives for each
-// case on standard input. A case is its head, its name and the call's five parts: key, nonce, associated data, text, seal. The head has
-// the lengths of those, the room for the text that comes out, and 1 where the call is to open: four bytes each, the high byte first.
+// Prints the rows that the second program makes of its own seals and frames (tests/second, src/rows/call.rs): what sealing, opening or
+// writing gives for each case on standard input. A case is its head, its name and the call's five parts: key, nonce, associated data (of a
+// frame the font digest), text (or line), seal. The head has the lengths of those, the room for what comes out, and 1 where the call is to
+// open, 2 where it is to write: four bytes each, the high byte first.
 use digest::DIGEST;
+use frame::Written;
 use ingage::Opened;
 use ingage::Sealed;
 use libc::STDIN_FILENO;
@@ -24,7 +26,12 @@ const BEFORE: u8 = 0xEE;
 
 const PRINTED_AS_DIGEST: usize = 4096;
 
-// Where the name and the parts of a case end in its bytes, its room, and whether it is to open.
+// The calls that are not to seal.
+const OPENS: usize = 1;
+
+const WRITES: usize = 2;
+
+// Where the name and the parts of a case end in its bytes, its room and its call.
 struct Case {
     name: usize,
     key: usize,
@@ -33,12 +40,13 @@ struct Case {
     text: usize,
     seal: usize,
     room: usize,
-    opens: bool,
+    call: usize,
 }
 
-// The number and the count of a call.
+// The number of a call, the length of a frame, and the count.
 struct Outcome {
     number: usize,
+    length: usize,
     count: usize,
 }
 
@@ -76,7 +84,11 @@ fn shown(bytes: &[u8]) {
 }
 
 fn answered(number: usize, count: usize) -> Outcome {
-    Outcome { number, count }
+    Outcome {
+        number,
+        length: 0,
+        count,
+    }
 }
 
 fn of_seal(answer: Sealed) -> Outcome {
@@ -98,6 +110,20 @@ fn of_open(answer: Opened) -> Outcome {
     }
 }
 
+fn of_write(answer: Written) -> Outcome {
+    match answer {
+        Written::Done { length, calls } => Outcome {
+            number: 0,
+            length,
+            count: calls,
+        },
+        Written::Sizes => answered(2, 0),
+        Written::TooLong => answered(3, 0),
+        Written::Unlisted => answered(9, 0),
+        Written::NoRoom => answered(4, 0),
+    }
+}
+
 fn part(all: &[u8], from: usize, to: usize) -> &[u8] {
     if to > all.len() {
         return &all[0..0];
@@ -108,23 +134,44 @@ fn part(all: &[u8], from: usize, to: usize) -> &[u8] {
     &all[from..to]
 }
 
-fn called(c: Case, all: &[u8], out: &mut [u8], seal: &mut [u8]) -> Outcome {
-    let key = part(all, c.name, c.key);
-    let nonce = part(all, c.key, c.nonce);
-    let associated = part(all, c.nonce, c.associated);
-    let text = part(all, c.associated, c.text);
-    if c.opens {
+fn called(
+    call: usize,
+    key: &[u8],
+    nonce: &[u8],
+    associated: &[u8],
+    text: &[u8],
+    out: &mut [u8],
+    seal: &mut [u8],
+) -> Outcome {
+    if call == OPENS {
         return of_open(ingage::open(key, nonce, associated, text, seal, out));
+    }
+    if call == WRITES {
+        return of_write(frame::write(key, nonce, associated, text, out));
     }
     of_seal(ingage::seal(key, nonce, associated, text, out, seal))
 }
 
+// The call with the parts of a case.
+fn parted(c: Case, all: &[u8], out: &mut [u8], seal: &mut [u8]) -> Outcome {
+    called(
+        c.call,
+        part(all, c.name, c.key),
+        part(all, c.key, c.nonce),
+        part(all, c.nonce, c.associated),
+        part(all, c.associated, c.text),
+        out,
+        seal,
+    )
+}
+
 fn row(c: Case, all: &[u8], out: &mut [u8], seal: &mut [u8]) {
     lists::copy(part(all, c.text, c.seal), seal);
-    let t = called(c, all, out, seal);
+    let t = parted(c, all, out, seal);
     say(part(all, 0, c.name));
     say(b" ");
     cell(t.number);
+    cell(t.length);
     cell(t.count);
     shown(out);
     say(b" ");
@@ -182,7 +229,7 @@ fn case_of(h: [u8; HEAD]) -> Case {
         text,
         seal,
         room: number_in(h, 6),
-        opens: number_in(h, 7) == 1,
+        call: number_in(h, 7),
     }
 }
 

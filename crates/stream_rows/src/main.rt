@@ -5,7 +5,9 @@ use libc::STDIN_FILENO;
 use libc::STDOUT_FILENO;
 use reader::Answer;
 use reader::LONGEST_STREAM;
+ghost use mathlib.Core.Path.{_≡_};
 ghost use Prim.Native.Nat.{_<_};
+ghost use lib.ListN.{length};
 
 // The head of a case has so many numbers and bytes; and the longest name, stream, line buffer, key and font digest that a case has.
 const NUMBERS: usize = 9;
@@ -227,8 +229,14 @@ fn one(buffer: &mut [u8]) -> bool {
     named(c, &mut buffer[0..n])
 }
 
+fn empty() -> [u8; LONGEST]
+    ensures { λ r. ⌜ 65537 ≡ length r ⌝ }
+{
+    [0; LONGEST]
+}
+
 fn main() {
-    let mut buffer = [0u8; LONGEST];
+    let mut buffer = empty();
     let mut left: usize = 10000;
     while left > 0 {
         if one(&mut buffer) {

@@ -1,13 +1,14 @@
 //! The expected outputs of the product's test programs, one file of rows each.
 //! Where a test program reads cases, its standard input is made here too.
 
+mod call;
 mod chance;
 mod damage;
 pub mod digest;
-pub mod frame;
+mod frame;
 mod limit;
 pub mod permute;
-pub mod seal;
+mod seal;
 mod sound;
 pub mod stream;
 pub mod stretch;
@@ -43,13 +44,12 @@ impl Rows {
 }
 
 pub fn all() -> Vec<Rows> {
-    let (sealings, seal_rows) = seal::stdin_and_rows();
+    let (sealings, seal_rows) = call::stdin_and_rows();
     let (readings, stream_rows) = stream::stdin_and_rows();
     vec![
         Rows::printed("digest_rows", digest::rows()),
         Rows::printed("permute_rows", permute::rows()),
         Rows::of_cases("seal_rows", sealings, seal_rows),
-        Rows::printed("frame_rows", frame::rows()),
         Rows::of_cases("stream_rows", readings, stream_rows),
         Rows::printed("stretch_rows", stretch::rows()),
     ]

@@ -1,0 +1,137 @@
+//! `seal_rows`: one call and one row for each case of the case file, which seals,
+//! opens or writes a frame.
+
+use std::fmt::Write;
+
+use super::{frame, in_bytes, seal};
+use crate::cipher;
+use crate::digest::digest;
+use crate::frame::write;
+use crate::numbers::DIGEST;
+use crate::text::value;
+
+/// Buffers from this length on are printed as their instance 1 digest.
+const PRINTED_AS_DIGEST: usize = 4096;
+
+/// What buffers hold before the call.
+pub const BEFORE: u8 = 0xee;
+
+#[derive(Clone, Copy)]
+pub enum Call {
+    Seal,
+    Open,
+    Write,
+}
+
+/// The arguments of a call: text is the message, the ciphertext or the line,
+/// associated what is associated with it (of a frame the font digest), and seal
+/// what the seal's buffer holds before.
+#[derive(Clone)]
+pub struct Case {
+    pub call: Call,
+    pub key: Vec<u8>,
+    pub nonce: Vec<u8>,
+    pub associated: Vec<u8>,
+    pub text: Vec<u8>,
+    pub seal: Vec<u8>,
+    pub room: usize,
+}
+
+/// A case and how its row begins.
+pub type Named = (String, Case);
+
+/// What a call gives: its number, the length of a frame, its count and both
+/// buffers.
+pub struct Given {
+    number: u8,
+    length: usize,
+    count: usize,
+    pub out: Vec<u8>,
+    pub seal: Vec<u8>,
+}
+
+impl Case {
+    pub fn given(&self) -> Given {
+        let mut out = vec![BEFORE; self.room];
+        let mut seal = self.seal.clone();
+        let (number, length, count) = self.answered(&mut out, &mut seal);
+        Given {
+            number,
+            length,
+            count,
+            out,
+            seal,
+        }
+    }
+
+    /// Number, length and count.
+    fn answered(&self, out: &mut [u8], seal: &mut [u8]) -> (u8, usize, usize) {
+        let (key, nonce, associated) = (&self.key, &self.nonce, &self.associated);
+        match self.call {
+            Call::Seal => {
+                let answer = cipher::seal(key, nonce, associated, &self.text, out, seal);
+                (answer.number, 0, answer.count)
+            }
+            Call::Open => {
+                let answer = cipher::open(key, nonce, associated, &self.text, seal, out);
+                (answer.number, 0, answer.count)
+            }
+            Call::Write => {
+                let answer = write(key, nonce, associated, &self.text, out);
+                (answer.number, answer.length, answer.count)
+            }
+        }
+    }
+
+    /// As the case file holds it: the lengths of the name and of the five
+    /// parts, the room, and which call; then the name and the parts.
+    fn stored(&self, name: &str) -> Vec<u8> {
+        let parts = [
+            name.as_bytes(),
+            &self.key,
+            &self.nonce,
+            &self.associated,
+            &self.text,
+            &self.seal,
+        ];
+        let mut head: Vec<usize> = parts.iter().map(|part| part.len()).collect();
+        head.extend([self.room, self.call as usize]);
+        let head: Vec<[u8; 4]> = head.into_iter().map(in_bytes).collect();
+        [head.concat(), parts.concat()].concat()
+    }
+
+    fn row(&self, rows: &mut String, name: &str) {
+        let given = self.given();
+        writeln!(
+            rows,
+            "{} {} {} {} {} {}",
+            name,
+            given.number,
+            given.length,
+            given.count,
+            shown(&given.out),
+            value(&given.seal)
+        )
+        .unwrap();
+    }
+}
+
+fn shown(buffer: &[u8]) -> String {
+    if buffer.len() < PRINTED_AS_DIGEST {
+        return value(buffer);
+    }
+    let mut out = [0; DIGEST];
+    digest(1, buffer, &mut out);
+    value(&out)
+}
+
+/// The case file, and what must be printed for it.
+pub fn stdin_and_rows() -> (Vec<u8>, String) {
+    let mut stdin = Vec::new();
+    let mut rows = String::new();
+    for (name, case) in seal::cases().into_iter().chain(frame::cases()) {
+        stdin.extend(case.stored(&name));
+        case.row(&mut rows, &name);
+    }
+    (stdin, rows)
+}
