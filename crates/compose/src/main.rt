@@ -188,10 +188,17 @@ fn compose(key: &[u8], font: &[u8]) {
     }
 }
 
+// The key, where key.bin is one.
+fn key_read(key: &mut [u8]) -> bool {
+    match files::load(b"key.bin", key) {
+        Loaded::Bytes(n) => n == KEY_LENGTH,
+        _ => false,
+    }
+}
+
 // The font's digest, where font.bin is a font of at most 65,536 bytes.
-fn font_digest(font: &mut [u8]) -> bool {
-    let mut buffer = io::large_buffer();
-    let Loaded::Bytes(n) = files::load(b"font.bin", &mut buffer) else {
+fn font_digest(buffer: &mut [u8], font: &mut [u8]) -> bool {
+    let Loaded::Bytes(n) = files::load(b"font.bin", buffer) else {
         return false;
     };
     if n > buffer.len() {
@@ -206,15 +213,12 @@ fn font_digest(font: &mut [u8]) -> bool {
 fn main() {
     let mut key = [0u8; KEY_LENGTH];
     let mut font = [0u8; DIGEST];
-    let Loaded::Bytes(k) = files::load(b"key.bin", &mut key) else {
-        complain(b"no key\n");
-        return;
-    };
-    if k != KEY_LENGTH {
+    let mut buffer = io::large_buffer();
+    if !key_read(&mut key) {
         complain(b"no key\n");
         return;
     }
-    if !font_digest(&mut font) {
+    if !font_digest(&mut buffer, &mut font) {
         complain(b"no font\n");
         return;
     }

@@ -133,29 +133,38 @@ fn font_digest(buffer: &mut [u8], font: &mut [u8]) -> bool {
     }
 }
 
-fn main() {
-    let mut key = [0u8; KEY_LENGTH];
-    let mut font = [0u8; DIGEST];
-    let Loaded::Bytes(k) = files::load(b"key.bin", &mut key) else {
-        say(b"no key\n");
-        return;
-    };
-    if k != KEY_LENGTH {
-        say(b"no key\n");
-        return;
+// The key, where key.bin is one.
+fn key_read(key: &mut [u8]) -> bool {
+    match files::load(b"key.bin", key) {
+        Loaded::Bytes(n) => n == KEY_LENGTH,
+        _ => false,
     }
-    let mut buffer = io::large_buffer();
-    if !font_digest(&mut buffer, &mut font) {
-        say(b"no font\n");
-        return;
-    }
-    match files::take_in(STDIN_FILENO, &mut buffer) {
+}
+
+// The listing of what stands on standard input.
+fn list_input(buffer: &mut [u8], key: &[u8], font: &[u8]) {
+    match files::take_in(STDIN_FILENO, buffer) {
         Loaded::Bytes(n) => {
             if n <= buffer.len() {
-                list(&buffer[0..n], &key, &font);
+                list(&buffer[0..n], key, font);
             }
         }
         Loaded::Long => say(b"too long\n"),
         Loaded::Failed => say(b"no stream\n"),
     }
+}
+
+fn main() {
+    let mut key = [0u8; KEY_LENGTH];
+    let mut font = [0u8; DIGEST];
+    let mut buffer = io::large_buffer();
+    if !key_read(&mut key) {
+        say(b"no key\n");
+        return;
+    }
+    if !font_digest(&mut buffer, &mut font) {
+        say(b"no font\n");
+        return;
+    }
+    list_input(&mut buffer, &key, &font);
 }
