@@ -1,5 +1,5 @@
 // The reader (document 01, 'A frame and a stream'): judging a stretch and the read call.
-// The promises cite specs/Answers.antt; the order in which a stretch is judged stands in specs/Judging.antt.
+// The promises cite specs/Answers.antt; the order in which a stretch is judged stands in judging/specs/Judging.antt.
 ghost use mathlib.Core.Path.{_≡_};
 ghost use Prim.Native.Nat.{_≤_};
 ghost use lib.ListN.{length};
