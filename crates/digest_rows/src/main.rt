@@ -1,33 +1,44 @@
-// Prints the rows that the second program makes of its own digests (tests/second, src/rows/digest.rs): every instance over the
-// lengths around its blocks and the limits, the refusals, and a buffer longer than the digest.
-use digest::DIGEST;
+// Prints the rows that the second program makes of its own digests (tests/second, src/rows/digest.rs): one call for each case on standard
+// input, which is an instance, the length of a message and the room for the digest, four bytes each, the high byte first.
+ghost use mathlib.Core.Path.{_≡_};
+ghost use Prim.Native.Nat.{_<_};
+ghost use lib.ListN.{length};
 use digest::Digested;
 use digest::LIMIT;
+use libc::STDIN_FILENO;
 use libc::STDOUT_FILENO;
 
-// The rates of instances 1 to 10 in bytes, by which the lengths go.
-const RATES: [usize; 10] = [1, 2, 4, 8, 2, 4, 8, 16, 4, 8];
+// A case has so many numbers and bytes; and the longest message and room that a case has.
+const NUMBERS: usize = 3;
+
+const CASE: usize = 4 * NUMBERS;
+
+const LONGEST: usize = LIMIT + 1;
+
+const LONGEST_ROOM: usize = 40;
+
+// What a room holds before the call.
+const BEFORE: u8 = 0xA5;
 
 fn say(text: &[u8]) {
     io::write_all(STDOUT_FILENO, text);
 }
 
-fn number(n: usize) {
+// A number and the blank behind it.
+fn cell(n: usize) {
     io::print_decimal(STDOUT_FILENO, n as u64);
+    say(b" ");
 }
 
+// In hexadecimal, or - where there is none.
 fn hex(bytes: &[u8]) {
-    let mut digits = [0u8; 128];
+    let mut digits = [0u8; 2 * LONGEST_ROOM];
     let n = text::put_hex(bytes, &mut digits);
+    if n == 0 {
+        say(b"-");
+    }
     if n <= digits.len() {
         say(&digits[0..n]);
-    }
-}
-
-fn count_of(answer: Digested) -> usize {
-    match answer {
-        Digested::Done(n) => n,
-        _ => 0,
     }
 }
 
@@ -40,108 +51,81 @@ fn number_of(answer: Digested) -> usize {
     }
 }
 
-// A number and the blank behind it.
-fn cell(n: usize) {
-    number(n);
-    say(b" ");
+fn count_of(answer: Digested) -> usize {
+    match answer {
+        Digested::Done(n) => n,
+        _ => 0,
+    }
 }
 
-fn show(instance: usize, length: usize, count: usize, out: &[u8]) {
+fn row(instance: usize, message: &[u8], out: &mut [u8]) {
+    let answer = digest::digest(instance, message, out);
     cell(instance);
-    cell(length);
-    cell(count);
+    cell(message.len());
+    cell(out.len());
+    cell(number_of(answer));
+    cell(count_of(answer));
     hex(out);
     say(b"\n");
 }
 
-fn show_refused(instance: usize, length: usize, room: usize, answer: Digested) {
-    say(b"refused ");
-    cell(instance);
-    cell(length);
-    cell(room);
-    number(number_of(answer));
-    say(b"\n");
-}
-
-// The digest of the message of n bytes, whose byte i is 7*i + n.
-fn tried(instance: usize, message: &mut [u8], length: usize, out: &mut [u8]) -> Digested {
-    if length > message.len() {
-        return Digested::TooLong;
-    }
-    ramp::fill(&mut message[0..length], (length % 256) as u8, 7);
-    digest::digest(instance, &message[0..length], out)
-}
-
-// One row: instance, length, calls of the permutation, digest.
-fn row(instance: usize, message: &mut [u8], length: usize) {
-    let mut out = [0u8; DIGEST];
-    let answer = tried(instance, message, length, &mut out);
-    show(instance, length, count_of(answer), &out);
-}
-
-// All lengths from 0 to two blocks and two bytes.
-fn short_rows(instance: usize, rate: usize, message: &mut [u8]) {
-    let end = std::num::wrapping_add_usize(std::num::wrapping_add_usize(rate, rate), 3);
-    let mut n = 0;
-    while n < end {
-        row(instance, message, n);
-        n += 1;
-    }
-}
-
-fn instance_rows(instance: usize, rate: usize, message: &mut [u8]) {
-    short_rows(instance, rate, message);
-    row(instance, message, 63);
-    row(instance, message, 64);
-    row(instance, message, 65);
-    row(instance, message, 1000);
-    row(instance, message, LIMIT - 1);
-    row(instance, message, LIMIT);
-}
-
-fn all_rows(message: &mut [u8]) {
-    let rates = RATES;
-    let mut i = 0;
-    while i < 10 {
-        let rate = rates[i];
-        i += 1;
-        instance_rows(i, rate, message);
-    }
-}
-
-// A call that is refused: instance, length, room, number.
-fn refused(instance: usize, message: &mut [u8], length: usize, room: usize) {
-    let mut out = [0u8; DIGEST];
-    if room > DIGEST {
+// The row of a message whose byte i is 7*i and the message's length.
+fn case_row(instance: usize, room: usize, message: &mut [u8]) {
+    let mut out = [BEFORE; LONGEST_ROOM];
+    if room > LONGEST_ROOM {
         return;
     }
-    let answer = tried(instance, message, length, &mut out[0..room]);
-    show_refused(instance, length, room, answer);
+    ramp::fill(message, (message.len() % 256) as u8, 7);
+    row(instance, message, &mut out[0..room]);
 }
 
-fn refused_rows(message: &mut [u8]) {
-    refused(0, message, 5, DIGEST);
-    refused(11, message, 5, DIGEST);
-    refused(255, message, 5, DIGEST);
-    refused(1, message, LIMIT + 1, DIGEST);
-    refused(1, message, 5, DIGEST - 1);
-    refused(1, message, 5, 0);
-    refused(0, message, LIMIT + 1, 0);
-    refused(3, message, LIMIT + 1, DIGEST - 1);
+// Number i of a case.
+fn number_in(c: [u8; CASE], i: usize) -> usize {
+    if i >= NUMBERS {
+        return 0;
+    }
+    let at = 4 * i;
+    two(c[at], c[at + 1]) * 65536 + two(c[at + 2], c[at + 3])
 }
 
-// A buffer longer than the digest: its rest stays.
-fn rest_row(message: &mut [u8]) {
-    let mut out = [0xA5u8; 40];
-    tried(1, message, 3, &mut out);
-    say(b"rest 1 3 40 ");
-    hex(&out);
-    say(b"\n");
+fn two(high: u8, low: u8) -> usize
+    ensures { λ r. ⌜ r < 65536 ⌝ }
+{
+    (high as usize) * 256 + low as usize
+}
+
+// One case from standard input; false where there is none left.
+fn one(buffer: &mut [u8]) -> bool {
+    let mut case = [0u8; CASE];
+    if io::read_full(STDIN_FILENO, &mut case) != CASE {
+        return false;
+    }
+    let length = number_in(case, 1);
+    if length > buffer.len() {
+        return false;
+    }
+    case_row(
+        number_in(case, 0),
+        number_in(case, 2),
+        &mut buffer[0..length],
+    );
+    true
+}
+
+fn empty() -> [u8; LONGEST]
+    ensures { λ r. ⌜ 65537 ≡ length r ⌝ }
+{
+    [0; LONGEST]
 }
 
 fn main() {
-    let mut message = [0u8; 65537];
-    all_rows(&mut message);
-    refused_rows(&mut message);
-    rest_row(&mut message);
+    let mut buffer = empty();
+    let mut left: usize = 10000;
+    while left > 0 {
+        if one(&mut buffer) {
+            left -= 1;
+        } else {
+            left = 0;
+        }
+    }
 }

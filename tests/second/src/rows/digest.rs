@@ -1,13 +1,14 @@
 //! `digest_rows`: every instance over the lengths around its blocks and the
-//! limits, then the refusals, then a buffer longer than the digest.
+//! limits, then the refusals, then a buffer longer than the digest: one call and
+//! one row for each case of the case file.
 
 use std::collections::BTreeSet;
 use std::fmt::Write;
 
-use super::by_rule;
+use super::{by_rule, in_bytes};
 use crate::digest::{digest, instances, sizes};
 use crate::numbers::DIGEST;
-use crate::text::hex;
+use crate::text::value;
 
 /// Byte i of a message is (7*i + length) mod 256.
 fn message(length: usize) -> Vec<u8> {
@@ -20,34 +21,62 @@ fn lengths(rate: usize) -> BTreeSet<usize> {
         .collect()
 }
 
-/// (instance, length, room)
-const REFUSED: [(usize, usize, usize); 8] = [
-    (0, 5, 32),
-    (11, 5, 32),
-    (255, 5, 32),
-    (1, 65_537, 32),
-    (1, 5, 31),
-    (1, 5, 0),
-    (0, 65_537, 0),
-    (3, 65_537, 31),
+/// Instance, message length and room.
+type Case = [usize; 3];
+
+/// Refused each alone, and several at once for the order of the numbers.
+const REFUSED: [Case; 8] = [
+    [0, 5, 32],
+    [11, 5, 32],
+    [255, 5, 32],
+    [1, 65_537, 32],
+    [1, 5, 31],
+    [1, 5, 0],
+    [0, 65_537, 0],
+    [3, 65_537, 31],
 ];
 
-pub fn rows() -> String {
-    let mut rows = String::new();
+/// A buffer longer than the digest, whose rest stays.
+const REST: Case = [1, 3, 40];
+
+/// What a buffer holds before the call.
+const BEFORE: u8 = 0xa5;
+
+fn cases() -> Vec<Case> {
+    let mut cases = Vec::new();
     for instance in instances() {
         let (_, rate) = sizes(instance).expect("a known instance");
-        for length in lengths(rate) {
-            let mut out = [0; DIGEST];
-            let count = digest(instance, &message(length), &mut out).count;
-            writeln!(rows, "{} {} {} {}", instance, length, count, hex(&out)).unwrap();
-        }
+        let done = |length| [instance, length, DIGEST];
+        cases.extend(lengths(rate).into_iter().map(done));
     }
-    for (instance, length, room) in REFUSED {
-        let number = digest(instance, &message(length), &mut vec![0; room]).number;
-        writeln!(rows, "refused {} {} {} {}", instance, length, room, number).unwrap();
+    cases.extend(REFUSED);
+    cases.push(REST);
+    cases
+}
+
+fn row(rows: &mut String, [instance, length, room]: Case) {
+    let mut out = vec![BEFORE; room];
+    let answer = digest(instance, &message(length), &mut out);
+    writeln!(
+        rows,
+        "{} {} {} {} {} {}",
+        instance,
+        length,
+        room,
+        answer.number,
+        answer.count,
+        value(&out)
+    )
+    .unwrap();
+}
+
+/// The case file, and what must be printed for it.
+pub fn stdin_and_rows() -> (Vec<u8>, String) {
+    let mut stdin = Vec::new();
+    let mut rows = String::new();
+    for case in cases() {
+        stdin.extend(case.map(in_bytes).concat());
+        row(&mut rows, case);
     }
-    let mut out = [0xa5; 40];
-    digest(1, &message(3), &mut out);
-    writeln!(rows, "rest 1 3 40 {}", hex(&out)).unwrap();
-    rows
+    (stdin, rows)
 }

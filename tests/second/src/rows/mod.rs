@@ -4,7 +4,7 @@
 mod call;
 mod chance;
 mod damage;
-pub mod digest;
+mod digest;
 mod frame;
 mod limit;
 pub mod permute;
@@ -44,10 +44,11 @@ impl Rows {
 }
 
 pub fn all() -> Vec<Rows> {
+    let (digests, digest_rows) = digest::stdin_and_rows();
     let (sealings, seal_rows) = call::stdin_and_rows();
     let (readings, stream_rows) = stream::stdin_and_rows();
     vec![
-        Rows::printed("digest_rows", digest::rows()),
+        Rows::of_cases("digest_rows", digests, digest_rows),
         Rows::printed("permute_rows", permute::rows()),
         Rows::of_cases("seal_rows", sealings, seal_rows),
         Rows::of_cases("stream_rows", readings, stream_rows),
