@@ -79,26 +79,47 @@ fn hash(instance: usize) -> bool {
     true
 }
 
-// One entry of an aead file; the seal stands after the ciphertext.
-fn aead_entry(number: usize, key: &[u8], nonce: &[u8], message: &[u8], associated: &[u8]) {
-    let mut out = [0u8; LONGEST_TEXT];
+// What an entry of an aead file seals.
+fn sealed_of(number: usize, key: &[u8], nonce: &[u8], message: &[u8], associated: &[u8]) {
+    count(number);
+    row(b"Key", key);
+    row(b"Nonce", nonce);
+    row(b"PT", message);
+    row(b"AD", associated);
+}
+
+// The seal stands after the ciphertext.
+fn sealed_to(cipher: &[u8], seal: &[u8]) {
+    say(b"CT = ");
+    hex(cipher);
+    hex(seal);
+    say(b"\n\n");
+}
+
+// One entry of an aead file, with a buffer as long as its text.
+fn sealed_entry(
+    number: usize,
+    key: &[u8],
+    nonce: &[u8],
+    message: &[u8],
+    associated: &[u8],
+    out: &mut [u8],
+) {
     let mut seal = [0u8; 16];
-    let p = message.len();
-    match ingage::seal(key, nonce, associated, message, &mut out, &mut seal) {
+    match ingage::seal(key, nonce, associated, message, out, &mut seal) {
         Sealed::Done(_) => {
-            count(number);
-            row(b"Key", key);
-            row(b"Nonce", nonce);
-            row(b"PT", message);
-            row(b"AD", associated);
-            say(b"CT = ");
-            if p <= out.len() {
-                hex(&out[0..p]);
-            }
-            hex(&seal);
-            say(b"\n\n");
+            sealed_of(number, key, nonce, message, associated);
+            sealed_to(out, &seal);
         }
         _ => complain(b"kat: a text of the known answers was refused\n"),
+    }
+}
+
+fn aead_entry(number: usize, key: &[u8], nonce: &[u8], message: &[u8], associated: &[u8]) {
+    let mut out = [0u8; LONGEST_TEXT];
+    let p = message.len();
+    if p <= LONGEST_TEXT {
+        sealed_entry(number, key, nonce, message, associated, &mut out[0..p]);
     }
 }
 
@@ -152,6 +173,22 @@ fn number(word: &[u8]) -> usize {
     n
 }
 
+fn told(known: bool) {
+    if !known {
+        complain(b"kat: no such instance\n");
+    }
+}
+
+fn answered(kind: &[u8], instance: usize) {
+    if lists::compare(kind, b"hash") {
+        told(hash(instance));
+    } else if lists::compare(kind, b"aead") {
+        told(aead(instance));
+    } else {
+        complain(b"usage: kat hash I (1 to 10), kat aead I (1)\n");
+    }
+}
+
 fn main() {
     let mut kind = [0u8; 8];
     let mut which = [0u8; 8];
@@ -163,17 +200,5 @@ fn main() {
     if w > 8 {
         return;
     }
-    let instance = number(&which[0..w]);
-    let mut known = false;
-    if lists::compare(&kind[0..k], b"hash") {
-        known = hash(instance);
-    } else if lists::compare(&kind[0..k], b"aead") {
-        known = aead(instance);
-    } else {
-        complain(b"usage: kat hash I (1 to 10), kat aead I (1)\n");
-        return;
-    }
-    if !known {
-        complain(b"kat: no such instance\n");
-    }
+    answered(&kind[0..k], number(&which[0..w]));
 }
