@@ -1,22 +1,26 @@
 -- What `judge_body` and `put_body` answer, and what the lent buffer then holds, refusals first. Assumes nothing: these are definitions.
 use mathlib.Core.Bool.{Bool, false, cond}
 use mathlib.Core.List.{List}
-use Prim.Native.Nat.{ℕ, _+_}
+use Prim.Native.Nat.{ℕ, _+_, _*_, _≤_, _<_}
+use mathlib.Core.Path.{_≡_}
 use lib.Dec.{ltb}
-use lib.ListN.{length}
+use lib.ListN.{length, drop}
 use Rattle.lists.specs.Buffers.{over}
-use Rattle.body.specs.declared.Found.{Found}
-use Rattle.body.specs.declared.Found.the-variants.{Behind, Missing}
 use Rattle.body.specs.declared.Judged.{Judged}
 use Rattle.body.specs.declared.Judged.the-variants as judged-is
 use Rattle.body.specs.declared.Put.{Put}
 use Rattle.body.specs.declared.Put.the-variants as put-is
-use Rattle.body.specs.Fields.{Front, value, no-field, Fields, fields, no-body, headLength, nonceTag, digestTag, cipherTag, sealTag, takes, body, associated}
+use Rattle.body.specs.Fields.{Front, value, no-field, front, Fields, fields, no-body, headLength, highByte, nonceTag, digestTag, cipherTag, sealTag, takes, body, associated}
 
--- the place behind a field that stands at a place
-abbrev pub behind : ℕ → Front → Found
-behind at (value v s) = Behind (at + headLength + length v)
-behind at no-field = Missing
+-- a place told for the field looked for at a place of n bytes: it is behind the field, or past the end of the bytes for no field
+abbrev pub Ends : ℕ → ℕ → ℕ → Front → Type 0
+Ends n at r (value v s) = r ≡ at + headLength + length v
+Ends n at r no-field = n < r
+
+-- the place r told for the field with this tag at a place of b; it is never farther off than the longest value that can be written
+pub record Found (b : List ℕ) (tag at r : ℕ) : Type 0 where
+  pub ends : Ends (length b) at r (front tag (drop at b))
+  pub near : r ≤ length b + highByte * highByte
 
 -- what bytes are as a body, told: the length of the line ciphertext fixes every place
 abbrev pub judged : Fields → Judged

@@ -2,10 +2,10 @@
 // The promises cite specs/Answers.antt; the paper's words stand in specs/Fields.antt.
 ghost use mathlib.Core.Path.{_≡_};
 ghost use Prim.Native.Nat.{_+_, _*_, _≤_, _<_};
-ghost use lib.ListN.{length, drop};
+ghost use lib.ListN.{length};
 ghost use lib.Seq.{sets};
-ghost use Rattle.body.specs.Fields.{highByte, field, takes, front, fieldsOf};
-ghost use Rattle.body.specs.Answers.{behind, judged, fitting, putAnswer, putOut, associatedAnswer, associatedOut};
+ghost use Rattle.body.specs.Fields.{highByte, field, takes, fieldsOf};
+ghost use Rattle.body.specs.Answers.{Found, judged, fitting, putAnswer, putOut, associatedAnswer, associatedOut};
 use lists::copy;
 
 // The fields' tags (document 01; tags are hexadecimal): nonce, font digest, line ciphertext, seal.
@@ -69,77 +69,45 @@ pub enum Put {
     NoRoom,
 }
 
-// The place behind a field, or no such field.
-enum Found {
-    Behind(usize),
-    Missing,
-}
-
 // The decision over the tag byte, which picks the rule of the field: may its value have n bytes?
 fn rule_takes(tag: u8, n: usize) -> bool
     ensures { λ r. ⌜ r ≡ takes tag n ⌝ }
 {
     match tag {
-        NONCE_TAG => match n {
-            NONCE_LENGTH => true,
-            _ => false,
-        },
-        DIGEST_TAG => match n {
-            DIGEST_LENGTH => true,
-            _ => false,
-        },
+        NONCE_TAG => n == NONCE_LENGTH,
+        DIGEST_TAG => n == DIGEST_LENGTH,
         CIPHER_TAG => match n {
             SHORTEST..=LONGEST => true,
             _ => false,
         },
-        SEAL_TAG => match n {
-            SEAL_LENGTH => true,
-            _ => false,
-        },
+        SEAL_TAG => n == SEAL_LENGTH,
         _ => false,
     }
 }
 
-// The field with this tag at a place of b: the place behind it.
-fn field_at(b: &[u8], at: usize, tag: u8) -> Found
-    ensures { λ r. ⌜ r ≡ behind at (front tag (drop at (now (b .entry)))) ⌝ }
+// The field with this tag at a place of b: the place behind it. Where there is none, a place past the end of b.
+fn field_at(b: &[u8], at: usize, tag: u8) -> usize
+    requires { ⌜ at ≤ length (now b) + highByte * highByte ⌝ }
+    ensures { λ r. ⌜ Found (now (b .entry)) tag at r ⌝ }
 {
-    if b.len() < at {
-        return Found::Missing;
+    if at + HEAD_LENGTH <= b.len() && b[at] == tag {
+        let n = b[at + 1] as usize * HIGH_BYTE + b[at + 2] as usize;
+        if rule_takes(tag, n) {
+            return at + HEAD_LENGTH + n;
+        }
     }
-    if b.len() - at < HEAD_LENGTH {
-        return Found::Missing;
-    }
-    let t = b[at];
-    if t != tag {
-        return Found::Missing;
-    }
-    let n = b[at + 1] as usize * HIGH_BYTE + b[at + 2] as usize;
-    if !rule_takes(t, n) {
-        return Found::Missing;
-    }
-    if b.len() - at - HEAD_LENGTH < n {
-        return Found::Missing;
-    }
-    Found::Behind(at + HEAD_LENGTH + n)
+    b.len() + 1
 }
 
-// Judges bytes as a body: four fields in this order and once each, and nothing behind.
+// Judges bytes as a body: four fields in this order and once each, and nothing behind. Past the end of b no field stands, so where
+// one is missing none is found behind it either.
 pub fn judge_body(b: &[u8]) -> Judged
     ensures { λ r. ⌜ r ≡ judged (fieldsOf (now (b .entry))) ⌝ }
 {
-    let Found::Behind(digest) = field_at(b, 0, NONCE_TAG) else {
-        return Judged::Shape;
-    };
-    let Found::Behind(cipher) = field_at(b, digest, DIGEST_TAG) else {
-        return Judged::Shape;
-    };
-    let Found::Behind(seal) = field_at(b, cipher, CIPHER_TAG) else {
-        return Judged::Shape;
-    };
-    let Found::Behind(end) = field_at(b, seal, SEAL_TAG) else {
-        return Judged::Shape;
-    };
+    let digest = field_at(b, 0, NONCE_TAG);
+    let cipher = field_at(b, digest, DIGEST_TAG);
+    let seal = field_at(b, cipher, CIPHER_TAG);
+    let end = field_at(b, seal, SEAL_TAG);
     if end != b.len() {
         return Judged::Shape;
     }
