@@ -12,8 +12,8 @@ use Rattle.ingage.specs.Answers.{SealCall, sealCall}
 use Rattle.ingage.specs.Exactly.{sealed-within}
 use Rattle.body.specs.Fields.{associated}
 use Rattle.body.specs.Lengths.{associatedLength, longestBody, length-associated}
-use Rattle.body.specs.Answers.{associatedOut, putOut}
-use Rattle.body.specs.Outcomes.{associated-done, put-done}
+use Rattle.putting.specs.Answers.{associatedOut, putOut}
+use Rattle.putting.specs.Outcomes.{associated-done, put-done}
 use Rattle.frame.specs.Told.{Told}
 use Rattle.frame.specs.Frames.{sealedLine, sealedBody}
 use Rattle.frame.specs.Lengths.{Sealable, length-cipher, sealed-sized, sealed-body-lengths}

@@ -68,11 +68,11 @@ fn seal_body(key: &[u8], nonce: &[u8], font: &[u8], line: &[u8], out: &mut [u8])
     ensures { λ _. ⌜ now (out .exit) ≡ over (sealedBody (told (now (key .entry)) (now (font .entry))) (now (nonce .entry)) (now (line .entry))) (now (out .entry)) ⌝ }
 {
     let mut assoc = [0u8; body::ASSOCIATED_LENGTH];
-    body::put_associated(font, &mut assoc);
+    putting::put_associated(font, &mut assoc);
     let mut cipher = [0u8; body::LONGEST];
     let mut seal = [0u8; body::SEAL_LENGTH];
     ingage::seal(key, nonce, &assoc, line, &mut cipher, &mut seal);
-    body::put_body(nonce, font, &cipher[0..line.len()], &seal, out);
+    putting::put_body(nonce, font, &cipher[0..line.len()], &seal, out);
 }
 
 // Writes the body, stuffed and between two marks, to the start of out, which has room for it, and gives the number of bytes.
