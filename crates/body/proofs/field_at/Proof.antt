@@ -22,10 +22,14 @@ shared-slice-read-n : tie.Need-shared-slice-read-n
 shared-slice-read-n c = search needs
 
 cast-n : tie.Need-cast-n
-cast-n c = let s = c .before .before .before .before .before in omega (arith, c .shared-slice-known3 .given (s .args .at + 1))
+cast-n c =
+    let s = c .before .before .before .before .before in
+    omega (arith, c .shared-slice-known3 .given (s .args .at + 1), c .shared-slice-known3 .given (s .args .at + 2))
 
 mul-n : tie.Need-mul-n
-mul-n c = let s = c .before .before .before .before .before in omega (arith, c .shared-slice-known3 .given (s .args .at + 1))
+mul-n c =
+    let s = c .before .before .before .before .before in
+    omega (arith, c .shared-slice-known3 .given (s .args .at + 1), c .shared-slice-known3 .given (s .args .at + 2))
 
 add-n-2 : tie.Need-add-n-2
 add-n-2 c = search needs
@@ -34,7 +38,9 @@ shared-slice-read-n-2 : tie.Need-shared-slice-read-n-2
 shared-slice-read-n-2 c = search needs
 
 cast-n-2 : tie.Need-cast-n-2
-cast-n-2 c = let s = c .before .before .before .before .before .before in omega (arith, c .shared-slice-known4 .given (s .args .at + 2))
+cast-n-2 c =
+    let s = c .before .before .before .before .before .before in
+    omega (arith, c .shared-slice-known4 .given (s .args .at + 1), c .shared-slice-known4 .given (s .args .at + 2))
 
 add-n-3 : tie.Need-add-n-3
 add-n-3 c =
