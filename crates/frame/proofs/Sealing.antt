@@ -1,4 +1,4 @@
--- The steps of `seal_body` on plain lists: the associated data, the sealed line and the body, each in its scratch. Assumes nothing.
+-- The steps of `sealed_body` on plain lists: the associated data, the sealed line and the body, each in its scratch. Assumes nothing.
 use mathlib.Core.Path.{_≡_, ap, _∙_}
 use mathlib.Core.List.{List}
 use Prim.Native.Nat.{ℕ, _-_, _≤_}

@@ -2,7 +2,7 @@
 // The promise cites specs/Answers.antt; the paper's words stand in specs/Frames.antt.
 ghost use mathlib.Core.Path.{_≡_};
 ghost use Prim.Native.Nat.{_+_, _*_, _≤_};
-ghost use lib.ListN.{length};
+ghost use lib.ListN.{length, replicate};
 ghost use Rattle.lists.specs.Buffers.{over};
 ghost use Rattle.body.specs.Lengths.{longestBody};
 ghost use Rattle.frame.specs.Told.{told};
@@ -60,19 +60,20 @@ fn length_right(line: &[u8]) -> bool
     }
 }
 
-// Seals the line and writes its body to the start of out, which has room for the longest.
+// The body of the sealed line, from the start of a scratch that has room for the longest.
 // With these sizes, lengths and room none of the calls refuses, so their answers say nothing that is not known.
-fn seal_body(key: &[u8], nonce: &[u8], font: &[u8], line: &[u8], out: &mut [u8])
+fn sealed_body(key: &[u8], nonce: &[u8], font: &[u8], line: &[u8]) -> [u8; body::LONGEST_BODY]
     requires { ⌜ Sealable (told (now key) (now font)) (now nonce) (now line) ⌝ }
-    requires { ⌜ longestBody ≤ length (now out) ⌝ }
-    ensures { λ _. ⌜ now (out .exit) ≡ over (sealedBody (told (now (key .entry)) (now (font .entry))) (now (nonce .entry)) (now (line .entry))) (now (out .entry)) ⌝ }
+    ensures { λ r. ⌜ r ≡ over (sealedBody (told (now (key .entry)) (now (font .entry))) (now (nonce .entry)) (now (line .entry))) (replicate longestBody 0) ⌝ }
 {
     let mut assoc = [0u8; body::ASSOCIATED_LENGTH];
     putting::put_associated(font, &mut assoc);
     let mut cipher = [0u8; body::LONGEST];
     let mut seal = [0u8; body::SEAL_LENGTH];
     ingage::seal(key, nonce, &assoc, line, &mut cipher, &mut seal);
-    putting::put_body(nonce, font, &cipher[0..line.len()], &seal, out);
+    let mut out = [0u8; body::LONGEST_BODY];
+    putting::put_body(nonce, font, &cipher[0..line.len()], &seal, &mut out);
+    out
 }
 
 // Writes the body, stuffed and between two marks, to the start of out, which has room for it, and gives the number of bytes.
@@ -108,8 +109,7 @@ pub fn write(key: &[u8], nonce: &[u8], font: &[u8], line: &[u8], frame: &mut [u8
     if frame.len() < FRAME_ROOM {
         return Written::NoRoom;
     }
-    let mut scratch = [0u8; body::LONGEST_BODY];
-    seal_body(key, nonce, font, line, &mut scratch);
+    let scratch = sealed_body(key, nonce, font, line);
     Written::Done {
         length: put_frame(&scratch[0..body::BESIDE_CIPHER + line.len()], frame),
         calls: line.len() + BESIDE_LINE,

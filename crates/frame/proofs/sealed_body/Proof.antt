@@ -1,23 +1,25 @@
--- `seal_body` meets its promise: the associated data, the sealed line and the body are what each call leaves in its scratch.
+-- `sealed_body` meets its promise: the associated data, the sealed line and the body are what each call leaves in its scratch.
 -- Assumes nothing.
 use mathlib.Core.Path.{_≡_, refl}
 use mathlib.Core.List.{List}
 use Prim.Native.Nat.{ℕ}
+use native.Mathlib.Omega.{arith}
 use lib.ListN.{replicate}
 use borrow.Author.Needs.{needs}
 use Rattle.lists.specs.Buffers.{over}
 use Rattle.line.specs.Lines.{longest}
 use Rattle.ingage.specs.Cipher.{Work}
 use Rattle.body.specs.Fields.{sealLength, associated}
+use Rattle.body.specs.Lengths.{longestBody}
 use Rattle.frame.specs.Told.{Told, told}
 use Rattle.frame.specs.Frames.{sealedBody, sealedLine}
 use Rattle.frame.proofs.Sealing.{associated-put, sealed-text, sealed-seal, body-put}
-use Rattle.frame.proofs.seal_body.Statement.{statement}
-use Rattle.frame.proofs.seal_body.Tie as tie
+use Rattle.frame.proofs.sealed_body.Statement.{statement}
+use Rattle.frame.proofs.sealed_body.Tie as tie
 
 -- the start, and what is told there
 abbrev start : tie.After-put-associated → tie.Start
-start c = c .before .before .before .before .before .before .before
+start c = c .before .before .before .before .before .before
 
 abbrev asked : tie.Start → Told
 asked s = told (s .args .key .now) (s .args .font .now)
@@ -37,24 +39,23 @@ bodyOf s = sealedBody (asked s) (s .args .nonce .now) (s .args .line .now)
 
 -- what each call leaves
 associated-is : (c : tie.After-put-associated) → c .put-associated .last .1 .0 ≡ associated (start c .args .font .now)
-associated-is c = associated-put (start c .pre .0) _ _ refl (c .put-associated .ensures .1)
+associated-is c = associated-put (start c .pre) _ _ refl (c .put-associated .ensures .1)
 
 cipher-is : (c : tie.After-seal2) → c .seal2 .last .1 .1 .1 .1 .0 ≡ over (lineOf (start (earlier c)) .text) (replicate longest 0)
 cipher-is c =
-    let z = start (earlier c) .pre .0 in
+    let z = start (earlier c) .pre in
     sealed-text z _ (replicate longest 0) (replicate sealLength 0) (associated-is (earlier c)) (z .line-to) refl _ (c .seal2 .ensures .1 .0)
 
 seal-is : (c : tie.After-seal2) → c .seal2 .last .1 .1 .1 .1 .1 .0 ≡ lineOf (start (earlier c)) .seal
 seal-is c =
-    let z = start (earlier c) .pre .0 in
+    let z = start (earlier c) .pre in
     sealed-seal z _ (replicate longest 0) (replicate sealLength 0) (associated-is (earlier c)) (z .line-to) refl _ (c .seal2 .ensures .1 .1)
 
 body-is : (c : tie.After-put-body) →
-    let s = start (earlier (first-part c)) in c .put-body .last .1 .1 .1 .1 .0 ≡ over (bodyOf s) (s .args .out .now)
+    c .put-body .last .1 .1 .1 .1 .0 ≡ over (bodyOf (start (earlier (first-part c)))) (replicate longestBody 0)
 body-is c =
     let f = first-part c in
-    let p = start (earlier f) .pre in
-    body-put (p .0) (replicate longest 0) _ _ _ _ (cipher-is f) (seal-is f) (p .1) (c .put-body .ensures .1)
+    body-put (start (earlier f) .pre) (replicate longest 0) _ _ (replicate longestBody 0) _ (cipher-is f) (seal-is f) (omega arith) (c .put-body .ensures .1)
 
 slice-aggregate-put-associated : tie.Need-slice-aggregate-put-associated
 slice-aggregate-put-associated c = search needs
@@ -86,17 +87,17 @@ part-put-body-end c = search needs
 slice-aggregate-put-body : tie.Need-slice-aggregate-put-body
 slice-aggregate-put-body c = search needs
 
+slice-aggregate-put-body-2 : tie.Need-slice-aggregate-put-body-2
+slice-aggregate-put-body-2 c = search needs
+
 put-body-requires : tie.Need-put-body-requires
 put-body-requires c κs = search needs
 
-same-length : tie.Need-same-length
-same-length c = search needs
-
 returns : tie.Need-returns
-returns c = body-is (c .before .before)
+returns c = body-is (c .before)
 
-pub seal-body-spec : {M : Type 1} → statement M
-seal-body-spec =
+pub sealed-body-spec : {M : Type 1} → statement M
+sealed-body-spec =
     tie.close
     (tie.spec
     slice-aggregate-put-associated
@@ -109,6 +110,6 @@ seal-body-spec =
     part-put-body-start
     part-put-body-end
     slice-aggregate-put-body
+    slice-aggregate-put-body-2
     put-body-requires
-    same-length
     returns)
