@@ -1,16 +1,16 @@
 -- A field looked for at a place of some bytes, test by test as `field_at` goes. Assumes nothing.
-use mathlib.Core.Path.{_≡_, refl, sym, ap, _∙_}
-use mathlib.Core.Bool.{true, false}
+use mathlib.Core.Path.{_≡_, refl, ap, _∙_}
+use mathlib.Core.Bool.{Bool, true, false, cond}
 use mathlib.Core.List.{List, [], _∷_}
 use Prim.Native.Nat.{ℕ, _+_, _*_, _≤_, _<_}
 use native.Mathlib.Numerals.{add-one}
 use native.Mathlib.Omega.{arith}
-use lib.ListN.{length, getD, drop, length-drop}
+use lib.Dec.{leb}
+use lib.ListN.{length, getD, take, drop, length-drop}
 use lib.Seq.{drop-cons, length-take-le}
-use borrow.Author.Tests.{eq-eqb, ne-eqb, le-leb, lt-leb}
-use Rattle.body.specs.declared.Found.the-variants.{Behind, Missing}
-use Rattle.body.specs.Fields.{headLength, highByte, takes, no-field, front}
-use Rattle.body.specs.Answers.{behind}
+use borrow.Author.Tests.{eq-eqb, ne-eqb, leb-true, leb-false}
+use Rattle.body.specs.Fields.{headLength, highByte, takes, value, no-field, front}
+use Rattle.body.specs.Answers.{Ends, Found}
 
 short-front : (tag : ℕ) (s : List ℕ) → length s < headLength → front tag s ≡ no-field
 unfolding front
@@ -23,40 +23,47 @@ short-front tag (t ∷ high ∷ low ∷ s) h = absurd (omega arith)
 on : (b : List ℕ) (i j : ℕ) → j ≡ i + 1 → i < length b → drop i b ≡ getD b i 0 ∷ drop j b
 on b i j e h = rw (e, add-one i) (drop-cons b i 0 h)
 
-module _ (b : List ℕ) (at tag : ℕ) where
+module _ (b : List ℕ) (tag at : ℕ) where
+  -- no field: the place past the end
+  past : front tag (drop at b) ≡ no-field → Found b tag at (length b + 1)
+  past e = record { ends = rw e (omega arith); near = omega arith }
+
   -- fewer bytes than a tag and a length
-  pub too-few : length b < at + headLength → Missing ≡ behind at (front tag (drop at b))
-  too-few h = sym (ap (behind at) (short-front tag (drop at b) (omega (arith, length-drop at b))))
+  pub too-few : length b < at + headLength → Found b tag at (length b + 1)
+  too-few h = past (short-front tag (drop at b) (omega (arith, length-drop at b)))
 
   module _ (enough : at + headLength ≤ length b) where
-    abbrev n : ℕ
+    abbrev pub n : ℕ
     n = getD b (at + 1) 0 * highByte + getD b (at + 2) 0
 
+    abbrev rest : List ℕ
+    rest = drop (at + headLength) b
+
     -- the tag, the length's two bytes and the rest
-    cut : drop at b ≡ getD b at 0 ∷ getD b (at + 1) 0 ∷ getD b (at + 2) 0 ∷ drop (at + headLength) b
+    cut : drop at b ≡ getD b at 0 ∷ getD b (at + 1) 0 ∷ getD b (at + 2) 0 ∷ rest
     cut =
         on b at (at + 1) refl (omega arith)
         ∙ ap (λ (s : List ℕ). getD b at 0 ∷ s)
         (on b (at + 1) (at + 2) (omega arith) (omega arith)
         ∙ ap (λ (s : List ℕ). getD b (at + 1) 0 ∷ s) (on b (at + 2) (at + headLength) (omega arith) (omega arith)))
 
-    pub other-tag : (getD b at 0 ≡ tag → ⊥) → Missing ≡ behind at (front tag (drop at b))
+    pub other-tag : (getD b at 0 ≡ tag → ⊥) → Found b tag at (length b + 1)
     unfolding front
-    other-tag h = rw (cut, ne-eqb (getD b at 0) tag h)
+    other-tag h = past (rw (cut, ne-eqb (getD b at 0) tag h))
 
     module _ (is : getD b at 0 ≡ tag) where
-      pub other-length : takes (getD b at 0) n ≡ false → Missing ≡ behind at (front tag (drop at b))
+      pub other-length : takes tag n ≡ false → Found b tag at (length b + 1)
       unfolding front
-      other-length h = rw (cut, eq-eqb (getD b at 0) tag is, h)
+      other-length h = past (rw (cut, is, eq-eqb tag tag refl, h))
 
-      module _ (good : takes (getD b at 0) n ≡ true) where
-        pub too-long : length b < at + headLength + n → Missing ≡ behind at (front tag (drop at b))
-        unfolding front
-        too-long h =
-            rw (cut, eq-eqb (getD b at 0) tag is, good, lt-leb n (length (drop (at + headLength) b)) (omega (arith, length-drop (at + headLength) b)))
-
-        pub found : at + headLength + n ≤ length b → Behind (at + headLength + n) ≡ behind at (front tag (drop at b))
-        unfolding front
-        found h =
-            let l : n ≤ length (drop (at + headLength) b) = omega (arith, length-drop (at + headLength) b) in
-            rw (cut, eq-eqb (getD b at 0) tag is, good, le-leb n (length (drop (at + headLength) b)) l, length-take-le n (drop (at + headLength) b) l)
+      -- a length that the rule takes: the place behind so many bytes, past the end where there are not as many
+      pub found : takes tag n ≡ true → n < highByte * highByte → Found b tag at (at + headLength + n)
+      unfolding front
+      found good small = record {
+        ends = rw (cut, is, eq-eqb tag tag refl, good) (go (leb n (length rest)) refl);
+        near = omega (arith, small);
+      }
+        where
+          go : (t : Bool) → leb n (length rest) ≡ t → Ends (length b) at (at + headLength + n) (cond t (value (take n rest) (drop n rest)) no-field)
+          go true p = omega (arith, length-take-le n rest (leb-true n (length rest) p))
+          go false p = omega (arith, leb-false n (length rest) p, length-drop (at + headLength) b)

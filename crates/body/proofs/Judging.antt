@@ -1,6 +1,7 @@
 -- A body judged field by field, as `judge_body` goes from place to place. Assumes nothing.
 use mathlib.Core.Path.{_≡_, refl, ap, _∙_}
 use mathlib.Core.Bool.{Bool, true, false, cond}
+use mathlib.Core.Logic.{_⊎_, inl, inr, ⊎-elim}
 use mathlib.Core.List.{List, [], _∷_}
 use Prim.Native.Nat.{ℕ, _+_, _-_, _*_, _≤_}
 use native.Mathlib.Omega.{arith}
@@ -8,10 +9,9 @@ use lib.Dec.{eqb, leb}
 use lib.ListN.{length, take, drop, length-drop, drop-of-length-le}
 use lib.Seq.{drop-cons, drop-drop, length-take-le}
 use borrow.Author.Tests.{leb-true}
-use Rattle.body.specs.declared.Found.the-variants.{Behind, Missing}
 use Rattle.body.specs.declared.Judged.the-variants.{Fields, Shape}
 use Rattle.body.specs.Fields.{nonceTag, digestTag, cipherTag, sealTag, headLength, highByte, takes, Front, value, no-field, front, fields, next, afterNonce, afterDigest, afterCipher, afterSeal, fieldsOf}
-use Rattle.body.specs.Answers.{behind, judged}
+use Rattle.body.specs.Answers.{Ends, Found, judged}
 
 -- what is behind a field of some bytes
 abbrev Rests : List ℕ → Front → Type 0
@@ -41,69 +41,108 @@ pub record Step (tag : ℕ) (b : List ℕ) (at p : ℕ) : Type 0 where
   pub place : p ≡ at + headLength + length v
   pub inside : p ≤ length b
 
-pub step : {tag at p : ℕ} {b : List ℕ} → Behind p ≡ behind at (front tag (drop at b)) → Step tag b at p
-step {tag} {at} {p} {b} e = cases (front tag (drop at b)) refl e
-  where
-    cases : (f : Front) → front tag (drop at b) ≡ f → Behind p ≡ behind at f → Step tag b at p
-    cases no-field q r = absurd (let z : _≡_ {A = ℕ} 0 1 = cc r in omega arith)
-    cases (value v s) q r =
-        let p-is : p ≡ at + headLength + length v = cc r in
-        let k = rw q at (rests tag (drop at b)) in
-        let there : at + (headLength + length v) ≡ p = omega arith in
-        record {
-          v = v;
-          is = q ∙ ap (value v) (k .0 ∙ drop-drop (headLength + length v) at b ∙ ap (λ (m : ℕ). drop m b) there);
-          place = p-is;
-          inside = omega (arith, k .1, length-drop at b);
-        }
+-- a field that is there
+stepped : {tag at p : ℕ} {b v s : List ℕ} → front tag (drop at b) ≡ value v s → p ≡ at + headLength + length v → Step tag b at p
+stepped {tag} {at} {p} {b} {v} {s} q e =
+    let k = rw q at (rests tag (drop at b)) in
+    let there : at + (headLength + length v) ≡ p = omega arith in
+    record {
+      v = v;
+      is = q ∙ ap (value v) (k .0 ∙ drop-drop (headLength + length v) at b ∙ ap (λ (m : ℕ). drop m b) there);
+      place = e;
+      inside = omega (arith, k .1, length-drop at b);
+    }
 
-missed : (at : ℕ) (f : Front) → Missing ≡ behind at f → f ≡ no-field
-missed at no-field r = refl
-missed at (value v s) r = absurd (let z : _≡_ {A = ℕ} 0 1 = cc r in omega arith)
+-- there is no field, or one that ends at the place told
+look : {tag at p : ℕ} {b : List ℕ} → Found b tag at p → (front tag (drop at b) ≡ no-field) ⊎ Step tag b at p
+look {tag} {at} {p} {b} f = cases (front tag (drop at b)) refl (f .ends)
+  where
+    cases : (x : Front) → front tag (drop at b) ≡ x → Ends (length b) at p x → (front tag (drop at b) ≡ no-field) ⊎ Step tag b at p
+    cases no-field q e = inl q
+    cases (value v s) q e = inr (stepped q e)
+
+-- a place within the bytes is behind a field
+within : {tag at p : ℕ} {b : List ℕ} → Found b tag at p → p ≤ length b → Step tag b at p
+within {tag} {at} {p} {b} f h = cases (front tag (drop at b)) refl (f .ends)
+  where
+    cases : (x : Front) → front tag (drop at b) ≡ x → Ends (length b) at p x → Step tag b at p
+    cases no-field q e = absurd (omega (arith, e, h))
+    cases (value v s) q e = stepped q e
 
 -- the fields one behind the other: where one is missing, the bytes are no body
-pub no-nonce : (b : List ℕ) → Missing ≡ behind 0 (front nonceTag b) → Shape ≡ judged (fieldsOf b)
+no-nonce : (b : List ℕ) → front nonceTag b ≡ no-field → Shape ≡ judged (fieldsOf b)
 unfolding fieldsOf
-no-nonce b e = rw (missed 0 (front nonceTag b) e)
+no-nonce b e = rw e
 
 module _ {b : List ℕ} {p₁ : ℕ} (s₁ : Step nonceTag b 0 p₁) where
   past-nonce : fieldsOf b ≡ afterNonce (s₁ .v) (drop p₁ b)
   unfolding fieldsOf
   past-nonce = ap (λ (f : Front). next f afterNonce) (s₁ .is)
 
-  pub no-digest : Missing ≡ behind p₁ (front digestTag (drop p₁ b)) → Shape ≡ judged (fieldsOf b)
+  no-digest : front digestTag (drop p₁ b) ≡ no-field → Shape ≡ judged (fieldsOf b)
   unfolding afterNonce
-  no-digest e = rw (past-nonce, missed p₁ (front digestTag (drop p₁ b)) e)
+  no-digest e = rw (past-nonce, e)
 
   module _ {p₂ : ℕ} (s₂ : Step digestTag b p₁ p₂) where
     past-digest : fieldsOf b ≡ afterDigest (s₁ .v) (s₂ .v) (drop p₂ b)
     unfolding afterNonce
     past-digest = past-nonce ∙ ap (λ (f : Front). next f (afterDigest (s₁ .v))) (s₂ .is)
 
-    pub no-cipher : Missing ≡ behind p₂ (front cipherTag (drop p₂ b)) → Shape ≡ judged (fieldsOf b)
+    no-cipher : front cipherTag (drop p₂ b) ≡ no-field → Shape ≡ judged (fieldsOf b)
     unfolding afterDigest
-    no-cipher e = rw (past-digest, missed p₂ (front cipherTag (drop p₂ b)) e)
+    no-cipher e = rw (past-digest, e)
 
     module _ {p₃ : ℕ} (s₃ : Step cipherTag b p₂ p₃) where
       past-cipher : fieldsOf b ≡ afterCipher (s₁ .v) (s₂ .v) (s₃ .v) (drop p₃ b)
       unfolding afterDigest
       past-cipher = past-digest ∙ ap (λ (f : Front). next f (afterCipher (s₁ .v) (s₂ .v))) (s₃ .is)
 
-      pub no-seal : Missing ≡ behind p₃ (front sealTag (drop p₃ b)) → Shape ≡ judged (fieldsOf b)
+      no-seal : front sealTag (drop p₃ b) ≡ no-field → Shape ≡ judged (fieldsOf b)
       unfolding afterCipher
-      no-seal e = rw (past-cipher, missed p₃ (front sealTag (drop p₃ b)) e)
+      no-seal e = rw (past-cipher, e)
 
       module _ {p₄ : ℕ} (s₄ : Step sealTag b p₃ p₄) where
         past-seal : fieldsOf b ≡ afterSeal (s₁ .v) (s₂ .v) (s₃ .v) (s₄ .v) (drop p₄ b)
         unfolding afterCipher
         past-seal = past-cipher ∙ ap (λ (f : Front). next f (afterSeal (s₁ .v) (s₂ .v) (s₃ .v))) (s₄ .is)
 
-        pub more-behind : (p₄ ≡ length b → ⊥) → Shape ≡ judged (fieldsOf b)
+        more-behind : (p₄ ≡ length b → ⊥) → Shape ≡ judged (fieldsOf b)
         unfolding afterSeal
         more-behind h = rw (past-seal, drop-cons b p₄ 0 (omega (arith, s₄ .inside, h)))
 
-        pub all-fields : p₄ ≡ length b → Fields (p₃ - p₂ - headLength) ≡ judged (fieldsOf b)
+        all-behind : p₄ ≡ length b → Fields (p₃ - p₂ - headLength) ≡ judged (fieldsOf b)
         unfolding afterSeal
-        all-fields h =
+        all-behind h =
             let n : p₃ - p₂ - headLength ≡ length (s₃ .v) = omega (arith, s₃ .place) in
             rw (past-seal, drop-of-length-le b {i = p₄} (omega arith), n)
+
+-- four places told one behind the other: the last is the end of the bytes exactly for a body
+module _ {b : List ℕ} {p₁ p₂ p₃ p₄ : ℕ} (f₁ : Found b nonceTag 0 p₁) (f₂ : Found b digestTag p₁ p₂) (f₃ : Found b cipherTag p₂ p₃)
+    (f₄ : Found b sealTag p₃ p₄) where
+  pub no-fields : (p₄ ≡ length b → ⊥) → Shape ≡ judged (fieldsOf b)
+  no-fields h =
+      ⊎-elim (no-nonce b)
+      (λ s₁. ⊎-elim (no-digest s₁)
+      (λ s₂. ⊎-elim (no-cipher s₁ s₂) (λ s₃. ⊎-elim (no-seal s₁ s₂ s₃) (λ s₄. more-behind s₁ s₂ s₃ s₄ h) (look f₄)) (look f₃))
+      (look f₂))
+      (look f₁)
+
+  module _ (h : p₄ ≡ length b) where
+    s₄ : Step sealTag b p₃ p₄
+    s₄ = within f₄ (omega arith)
+
+    s₃ : Step cipherTag b p₂ p₃
+    s₃ = within f₃ (omega (arith, s₄ .place))
+
+    s₂ : Step digestTag b p₁ p₂
+    s₂ = within f₂ (omega (arith, s₃ .place, s₃ .inside))
+
+    s₁ : Step nonceTag b 0 p₁
+    s₁ = within f₁ (omega (arith, s₂ .place, s₂ .inside))
+
+    -- where the line ciphertext's field ends
+    pub cipher-ends : p₂ + headLength ≤ p₃
+    cipher-ends = omega (arith, s₃ .place)
+
+    pub all-fields : Fields (p₃ - p₂ - headLength) ≡ judged (fieldsOf b)
+    all-fields = all-behind s₁ s₂ s₃ s₄ h

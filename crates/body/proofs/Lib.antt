@@ -1,4 +1,3 @@
 pub mod Finding
 pub mod Judging
-pub mod Putting
 pub mod Single

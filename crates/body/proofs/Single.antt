@@ -1,25 +1,19 @@
--- The promises of `judge_body`, `put_body` and `put_associated`, as the check reads them (`Post`), admit a single answer. Assumes nothing.
+-- The promises of `rule_takes` and `judge_body`, as the check reads them (`Post`), admit a single answer. Assumes nothing.
 use mathlib.Core.Path.{_≡_, sym, _∙_}
+use mathlib.Core.Bool.{Bool}
 use contract.Lifetimes.{Lfts}
 use denote.Triple.Clauses.{AtExit}
 use borrow.Fn.Kinds.{Dens, endedOf}
 use Rattle.body.specs.declared.Judged.{Judged}
-use Rattle.body.specs.declared.Put.{Put}
+use Rattle.body.proofs.rule_takes.Kinds as rule-kinds
+use Rattle.body.proofs.rule_takes.Reads as rule-reads
 use Rattle.body.proofs.judge_body.Kinds as judge-kinds
 use Rattle.body.proofs.judge_body.Reads as judge-reads
-use Rattle.body.proofs.put_body.Kinds as put-kinds
-use Rattle.body.proofs.put_body.Reads as put-reads
-use Rattle.body.proofs.put_associated.Kinds as associated-kinds
-use Rattle.body.proofs.put_associated.Reads as associated-reads
+
+pub rule-takes-single : (κs : Lfts 0) (a : Dens κs rule-kinds.ps) (r r′ : Bool) (x x′ : AtExit (endedOf 0 rule-kinds.ps rule-kinds.r) κs)
+    → rule-reads.Post κs a r x → rule-reads.Post κs a r′ x′ → r ≡ r′
+rule-takes-single κs a r r′ x x′ p q = p ∙ sym q
 
 pub judge-body-single : (κs : Lfts 1) (a : Dens κs judge-kinds.ps) (r r′ : Judged) (x x′ : AtExit (endedOf 1 judge-kinds.ps judge-kinds.r) κs)
     → judge-reads.Post κs a r x → judge-reads.Post κs a r′ x′ → r ≡ r′
 judge-body-single κs a r r′ x x′ p q = p ∙ sym q
-
-pub put-body-single : (κs : Lfts 5) (a : Dens κs put-kinds.ps) (r r′ : Put) (x x′ : AtExit (endedOf 5 put-kinds.ps put-kinds.r) κs)
-    → put-reads.Post κs a r x → put-reads.Post κs a r′ x′ → (r ≡ r′) × (x .1 .1 .1 .1 .0 .now ≡ x′ .1 .1 .1 .1 .0 .now)
-put-body-single κs a r r′ x x′ p q = (p .0 ∙ sym (q .0), p .1 ∙ sym (q .1))
-
-pub put-associated-single : (κs : Lfts 2) (a : Dens κs associated-kinds.ps) (r r′ : Put) (x x′ : AtExit (endedOf 2 associated-kinds.ps associated-kinds.r) κs)
-    → associated-reads.Post κs a r x → associated-reads.Post κs a r′ x′ → (r ≡ r′) × (x .1 .0 .now ≡ x′ .1 .0 .now)
-put-associated-single κs a r r′ x x′ p q = (p .0 ∙ sym (q .0), p .1 ∙ sym (q .1))

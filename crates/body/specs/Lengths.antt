@@ -9,7 +9,6 @@ use lib.ListN.{length, length-append}
 use borrow.Author.Tests.{eq-eqb, le-leb, eqb-true, leb-true}
 use Rattle.line.specs.Lines.{longest}
 use Rattle.body.specs.Fields.{nonceTag, digestTag, cipherTag, sealTag, nonceLength, digestLength, shortest, sealLength, headLength, field, body, associated, takes}
-use Rattle.body.specs.Answers.{fitting}
 
 -- the associated data has 35 bytes (document 01)
 abbrev pub associatedLength : ℕ
@@ -91,33 +90,3 @@ cipher-taken n = go (leb shortest n) refl
 pub seal-taken : (n : ℕ) → takes sealTag n ≡ true → n ≡ sealLength
 unfolding takes
 seal-taken n e = eqb-true n sealLength e
-
--- values of those lengths fit, and no others
-pub sized-fitting : {nonce digest cipher seal : List ℕ} → Sized nonce digest cipher seal → fitting nonce digest cipher seal ≡ true
-unfolding fitting
-sized-fitting {nonce} {digest} {cipher} {seal} z =
-    rw (
-      takes-nonce (length nonce) (z .nonce-is),
-      takes-digest (length digest) (z .digest-is),
-      takes-cipher (length cipher) (z .cipher-from) (z .cipher-to),
-    )
-    (takes-seal (length seal) (z .seal-is))
-
-pub fitting-sized : (nonce digest cipher seal : List ℕ) → fitting nonce digest cipher seal ≡ true → Sized nonce digest cipher seal
-unfolding fitting
-fitting-sized nonce digest cipher seal =
-    go (takes nonceTag (length nonce)) refl (takes digestTag (length digest)) refl (takes cipherTag (length cipher)) refl
-  where
-    go : (t : Bool) → takes nonceTag (length nonce) ≡ t → (u : Bool) → takes digestTag (length digest) ≡ u
-        → (v : Bool) → takes cipherTag (length cipher) ≡ v
-        → cond t (cond u (cond v (takes sealTag (length seal)) false) false) false ≡ true → Sized nonce digest cipher seal
-    go true p true q true r e = record {
-      nonce-is = nonce-taken (length nonce) p;
-      digest-is = digest-taken (length digest) q;
-      cipher-from = cipher-taken (length cipher) r .0;
-      cipher-to = cipher-taken (length cipher) r .1;
-      seal-is = seal-taken (length seal) e;
-    }
-    go true p true q false r e = never e
-    go true p false q v r e = never e
-    go false p u q v r e = never e

@@ -4,4 +4,3 @@ pub mod Lengths
 pub mod OneToOne
 pub mod Places
 pub mod Bytes
-pub mod Outcomes

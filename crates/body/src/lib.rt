@@ -1,21 +1,19 @@
-// The fields of a frame's body (document 01, 'A frame and a stream'): a body written from its values, and bytes judged as a body.
+// The fields of a frame's body (document 01, 'A frame and a stream'): their tags, lengths and places, and bytes judged as a body.
 // The promises cite specs/Answers.antt; the paper's words stand in specs/Fields.antt.
 ghost use mathlib.Core.Path.{_≡_};
-ghost use Prim.Native.Nat.{_+_, _*_, _≤_, _<_};
-ghost use lib.ListN.{length, drop};
-ghost use lib.Seq.{sets};
-ghost use Rattle.body.specs.Fields.{highByte, field, takes, front, fieldsOf};
-ghost use Rattle.body.specs.Answers.{behind, judged, fitting, putAnswer, putOut, associatedAnswer, associatedOut};
-use lists::copy;
+ghost use Prim.Native.Nat.{_+_, _*_, _≤_};
+ghost use lib.ListN.{length};
+ghost use Rattle.body.specs.Fields.{highByte, takes, fieldsOf};
+ghost use Rattle.body.specs.Answers.{Found, judged};
 
 // The fields' tags (document 01; tags are hexadecimal): nonce, font digest, line ciphertext, seal.
-const NONCE_TAG: u8 = 0x01;
+pub const NONCE_TAG: u8 = 0x01;
 
-const DIGEST_TAG: u8 = 0x02;
+pub const DIGEST_TAG: u8 = 0x02;
 
-const CIPHER_TAG: u8 = 0x03;
+pub const CIPHER_TAG: u8 = 0x03;
 
-const SEAL_TAG: u8 = 0x04;
+pub const SEAL_TAG: u8 = 0x04;
 
 // The lengths of their values in bytes (document 01); a line ciphertext has SHORTEST to LONGEST, as a line has.
 pub const NONCE_LENGTH: usize = 12;
@@ -32,7 +30,7 @@ pub const SEAL_LENGTH: usize = 16;
 pub const HEAD_LENGTH: usize = 3;
 
 // What one in the high byte of a length counts.
-const HIGH_BYTE: usize = 256;
+pub const HIGH_BYTE: usize = 256;
 
 // Where in a body the nonce stands, field 02 as a whole, the font digest and the line ciphertext.
 pub const NONCE_AT: usize = HEAD_LENGTH;
@@ -59,152 +57,47 @@ pub enum Judged {
     Shape,
 }
 
-// What writing a body comes to.
-pub enum Put {
-    // The number of bytes written.
-    Done(usize),
-    // A value with a length that its tag's rule doesn't take.
-    Shape,
-    // A buffer shorter than the body.
-    NoRoom,
-}
-
-// The place behind a field, or no such field.
-enum Found {
-    Behind(usize),
-    Missing,
-}
-
 // The decision over the tag byte, which picks the rule of the field: may its value have n bytes?
-fn rule_takes(tag: u8, n: usize) -> bool
+pub fn rule_takes(tag: u8, n: usize) -> bool
     ensures { λ r. ⌜ r ≡ takes tag n ⌝ }
 {
     match tag {
-        NONCE_TAG => match n {
-            NONCE_LENGTH => true,
-            _ => false,
-        },
-        DIGEST_TAG => match n {
-            DIGEST_LENGTH => true,
-            _ => false,
-        },
+        NONCE_TAG => n == NONCE_LENGTH,
+        DIGEST_TAG => n == DIGEST_LENGTH,
         CIPHER_TAG => match n {
             SHORTEST..=LONGEST => true,
             _ => false,
         },
-        SEAL_TAG => match n {
-            SEAL_LENGTH => true,
-            _ => false,
-        },
+        SEAL_TAG => n == SEAL_LENGTH,
         _ => false,
     }
 }
 
-// The field with this tag at a place of b: the place behind it.
-fn field_at(b: &[u8], at: usize, tag: u8) -> Found
-    ensures { λ r. ⌜ r ≡ behind at (front tag (drop at (now (b .entry)))) ⌝ }
+// The field with this tag at a place of b: the place behind it. Where there is none, a place past the end of b.
+fn field_at(b: &[u8], at: usize, tag: u8) -> usize
+    requires { ⌜ at ≤ length (now b) + highByte * highByte ⌝ }
+    ensures { λ r. ⌜ Found (now (b .entry)) tag at r ⌝ }
 {
-    if b.len() < at {
-        return Found::Missing;
+    if at + HEAD_LENGTH <= b.len() && b[at] == tag {
+        let n = b[at + 1] as usize * HIGH_BYTE + b[at + 2] as usize;
+        if rule_takes(tag, n) {
+            return at + HEAD_LENGTH + n;
+        }
     }
-    if b.len() - at < HEAD_LENGTH {
-        return Found::Missing;
-    }
-    let t = b[at];
-    if t != tag {
-        return Found::Missing;
-    }
-    let n = b[at + 1] as usize * HIGH_BYTE + b[at + 2] as usize;
-    if !rule_takes(t, n) {
-        return Found::Missing;
-    }
-    if b.len() - at - HEAD_LENGTH < n {
-        return Found::Missing;
-    }
-    Found::Behind(at + HEAD_LENGTH + n)
+    b.len() + 1
 }
 
-// Judges bytes as a body: four fields in this order and once each, and nothing behind.
+// Judges bytes as a body: four fields in this order and once each, and nothing behind. Past the end of b no field stands, so where
+// one is missing none is found behind it either.
 pub fn judge_body(b: &[u8]) -> Judged
     ensures { λ r. ⌜ r ≡ judged (fieldsOf (now (b .entry))) ⌝ }
 {
-    let Found::Behind(digest) = field_at(b, 0, NONCE_TAG) else {
-        return Judged::Shape;
-    };
-    let Found::Behind(cipher) = field_at(b, digest, DIGEST_TAG) else {
-        return Judged::Shape;
-    };
-    let Found::Behind(seal) = field_at(b, cipher, CIPHER_TAG) else {
-        return Judged::Shape;
-    };
-    let Found::Behind(end) = field_at(b, seal, SEAL_TAG) else {
-        return Judged::Shape;
-    };
+    let digest = field_at(b, 0, NONCE_TAG);
+    let cipher = field_at(b, digest, DIGEST_TAG);
+    let seal = field_at(b, cipher, CIPHER_TAG);
+    let end = field_at(b, seal, SEAL_TAG);
     if end != b.len() {
         return Judged::Shape;
     }
     Judged::Fields(seal - cipher - HEAD_LENGTH)
-}
-
-// Whether each value has a length that its tag's rule takes.
-fn fit(nonce: &[u8], digest: &[u8], cipher: &[u8], seal: &[u8]) -> bool
-    ensures { λ r. ⌜ r ≡ fitting (now (nonce .entry)) (now (digest .entry)) (now (cipher .entry)) (now (seal .entry)) ⌝ }
-{
-    if !rule_takes(NONCE_TAG, nonce.len()) {
-        return false;
-    }
-    if !rule_takes(DIGEST_TAG, digest.len()) {
-        return false;
-    }
-    if !rule_takes(CIPHER_TAG, cipher.len()) {
-        return false;
-    }
-    rule_takes(SEAL_TAG, seal.len())
-}
-
-// Writes the field at a place of out, which has room for it, and gives the place behind it.
-fn put_field(out: &mut [u8], at: usize, tag: u8, value: &[u8]) -> usize
-    requires { ⌜ at + length (field tag (now value)) ≤ length (now out) ⌝ }
-    requires { ⌜ length (now value) < highByte * highByte ⌝ }
-    ensures { λ r. ⌜ r ≡ at + length (field tag (now (value .entry))) ⌝ }
-    ensures { λ _. ⌜ now (out .exit) ≡ sets (now (out .entry)) at (field tag (now (value .entry))) ⌝ }
-{
-    out[at] = tag;
-    out[at + 1] = (value.len() / HIGH_BYTE) as u8;
-    out[at + 2] = (value.len() % HIGH_BYTE) as u8;
-    let start = at + HEAD_LENGTH;
-    copy(value, &mut out[start..]);
-    start + value.len()
-}
-
-// Writes the body with these values to the start of out; the rest of out stays. A refusal leaves out as it was.
-pub fn put_body(nonce: &[u8], digest: &[u8], cipher: &[u8], seal: &[u8], out: &mut [u8]) -> Put
-    ensures { λ r. ⌜ r ≡ putAnswer (now (nonce .entry)) (now (digest .entry)) (now (cipher .entry)) (now (seal .entry)) (now (out .entry)) ⌝ }
-    ensures { λ _. ⌜ now (out .exit) ≡ putOut (now (nonce .entry)) (now (digest .entry)) (now (cipher .entry)) (now (seal .entry)) (now (out .entry)) ⌝ }
-{
-    if !fit(nonce, digest, cipher, seal) {
-        return Put::Shape;
-    }
-    if out.len() < BESIDE_CIPHER + cipher.len() {
-        return Put::NoRoom;
-    }
-    let digest_at = put_field(out, 0, NONCE_TAG, nonce);
-    let cipher_at = put_field(out, digest_at, DIGEST_TAG, digest);
-    let seal_at = put_field(out, cipher_at, CIPHER_TAG, cipher);
-    let end = put_field(out, seal_at, SEAL_TAG, seal);
-    Put::Done(end)
-}
-
-// Writes the associated data, field 02 whole, to the start of out; the rest of out stays. A refusal leaves out as it was.
-pub fn put_associated(digest: &[u8], out: &mut [u8]) -> Put
-    ensures { λ r. ⌜ r ≡ associatedAnswer (now (digest .entry)) (now (out .entry)) ⌝ }
-    ensures { λ _. ⌜ now (out .exit) ≡ associatedOut (now (digest .entry)) (now (out .entry)) ⌝ }
-{
-    if !rule_takes(DIGEST_TAG, digest.len()) {
-        return Put::Shape;
-    }
-    if out.len() < ASSOCIATED_LENGTH {
-        return Put::NoRoom;
-    }
-    Put::Done(put_field(out, 0, DIGEST_TAG, digest))
 }

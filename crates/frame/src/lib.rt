@@ -2,15 +2,13 @@
 // The promise cites specs/Answers.antt; the paper's words stand in specs/Frames.antt.
 ghost use mathlib.Core.Path.{_≡_};
 ghost use Prim.Native.Nat.{_+_, _*_, _≤_};
-ghost use lib.ListN.{length};
+ghost use lib.ListN.{length, replicate};
 ghost use Rattle.lists.specs.Buffers.{over};
 ghost use Rattle.body.specs.Lengths.{longestBody};
 ghost use Rattle.frame.specs.Told.{told};
-ghost use Rattle.frame.specs.Frames.{sealedLine, sealedBody, framed};
+ghost use Rattle.frame.specs.Frames.{sealedBody, framed};
 ghost use Rattle.frame.specs.Lengths.{Sealable};
 ghost use Rattle.frame.specs.Answers.{sizesRight, lengthRight, writeCall};
-use body::Put;
-use ingage::Sealed;
 use line::Judged;
 use stuffing::MARK;
 use stuffing::Stuffed;
@@ -20,6 +18,9 @@ pub const KEY_LENGTH: usize = 16;
 
 // The room that a frame asks for, whatever its own length (document 01, number 4).
 pub const FRAME_ROOM: usize = 276;
+
+// What the writer counts beside one call for each byte of the line (document 01, 'Numbers returned').
+const BESIDE_LINE: usize = 39;
 
 // What writing a frame comes to.
 pub enum Written {
@@ -33,12 +34,6 @@ pub enum Written {
     Unlisted,
     // A buffer of fewer than FRAME_ROOM bytes.
     NoRoom,
-}
-
-// How long a sealed body is, and how many calls of the permutation it took.
-struct Work {
-    length: usize,
-    calls: usize,
 }
 
 // Whether key, nonce and font digest have their sizes.
@@ -65,34 +60,20 @@ fn length_right(line: &[u8]) -> bool
     }
 }
 
-// Seals the line and writes its body to the start of out, which has room for the longest.
-fn seal_body(key: &[u8], nonce: &[u8], font: &[u8], line: &[u8], out: &mut [u8]) -> Work
+// The body of the sealed line, from the start of a scratch that has room for the longest.
+// With these sizes, lengths and room none of the calls refuses, so their answers say nothing that is not known.
+fn sealed_body(key: &[u8], nonce: &[u8], font: &[u8], line: &[u8]) -> [u8; body::LONGEST_BODY]
     requires { ⌜ Sealable (told (now key) (now font)) (now nonce) (now line) ⌝ }
-    requires { ⌜ longestBody ≤ length (now out) ⌝ }
-    ensures { λ r. ⌜ r .length ≡ length (sealedBody (told (now (key .entry)) (now (font .entry))) (now (nonce .entry)) (now (line .entry))) ⌝ }
-    ensures { λ r. ⌜ r .calls ≡ sealedLine (told (now (key .entry)) (now (font .entry))) (now (nonce .entry)) (now (line .entry)) .calls ⌝ }
-    ensures { λ _. ⌜ now (out .exit) ≡ over (sealedBody (told (now (key .entry)) (now (font .entry))) (now (nonce .entry)) (now (line .entry))) (now (out .entry)) ⌝ }
+    ensures { λ r. ⌜ r ≡ over (sealedBody (told (now (key .entry)) (now (font .entry))) (now (nonce .entry)) (now (line .entry))) (replicate longestBody 0) ⌝ }
 {
     let mut assoc = [0u8; body::ASSOCIATED_LENGTH];
-    body::put_associated(font, &mut assoc);
+    putting::put_associated(font, &mut assoc);
     let mut cipher = [0u8; body::LONGEST];
     let mut seal = [0u8; body::SEAL_LENGTH];
-    let Sealed::Done(calls) = ingage::seal(key, nonce, &assoc, line, &mut cipher, &mut seal) else {
-        // Never: sizes, lengths and room are right here.
-        return Work {
-            length: 0,
-            calls: 0,
-        };
-    };
-    let n = line.len();
-    let Put::Done(length) = body::put_body(nonce, font, &cipher[0..n], &seal, out) else {
-        // Never, for the same reason.
-        return Work {
-            length: 0,
-            calls: 0,
-        };
-    };
-    Work { length, calls }
+    ingage::seal(key, nonce, &assoc, line, &mut cipher, &mut seal);
+    let mut out = [0u8; body::LONGEST_BODY];
+    putting::put_body(nonce, font, &cipher[0..line.len()], &seal, &mut out);
+    out
 }
 
 // Writes the body, stuffed and between two marks, to the start of out, which has room for it, and gives the number of bytes.
@@ -128,12 +109,9 @@ pub fn write(key: &[u8], nonce: &[u8], font: &[u8], line: &[u8], frame: &mut [u8
     if frame.len() < FRAME_ROOM {
         return Written::NoRoom;
     }
-    let mut scratch = [0u8; body::LONGEST_BODY];
-    let work = seal_body(key, nonce, font, line, &mut scratch);
-    let n = work.length;
-    let length = put_frame(&scratch[0..n], frame);
+    let scratch = sealed_body(key, nonce, font, line);
     Written::Done {
-        length,
-        calls: work.calls,
+        length: put_frame(&scratch[0..body::BESIDE_CIPHER + line.len()], frame),
+        calls: line.len() + BESIDE_LINE,
     }
 }

@@ -1,36 +1,19 @@
 -- `field_at` meets its promise: each test is one of `front`, over the bytes from the place on. Assumes nothing.
 use mathlib.Core.Path.{sym, _∙_}
+use mathlib.Core.Logic.{⊎-elim}
 use Prim.Native.Nat.{_+_}
 use native.Mathlib.Omega.{arith}
-use borrow.Author.Tests.{not-true, not-false}
+use borrow.Author.Tests.{eqb-true, eqb-false}
 use borrow.Author.Needs.{needs}
-use Rattle.body.proofs.Finding.{too-few, other-tag, other-length, too-long, found}
+use Rattle.body.proofs.Finding.{too-few, other-tag, other-length, found}
 use Rattle.body.proofs.field_at.Statement.{statement}
 use Rattle.body.proofs.field_at.Tie as tie
 
-returns : tie.Need-returns
-returns c =
-    let s = c .before .before in
-    too-few (s .args .b .now) (s .args .at) (s .args .tag)
-    (omega arith)
+add-if1 : tie.Need-add-if1
+add-if1 c = search needs
 
-sub-if2 : tie.Need-sub-if2
-sub-if2 c = search needs
-
-returns-2 : tie.Need-returns-2
-returns-2 c =
-    let s = c .before .before .before in
-    too-few (s .args .b .now) (s .args .at) (s .args .tag)
-    (omega arith)
-
-shared-slice-read-t : tie.Need-shared-slice-read-t
-shared-slice-read-t c = search needs
-
-returns-3 : tie.Need-returns-3
-returns-3 c =
-    let s = c .before .before .before .before .before in
-    other-tag (s .args .b .now) (s .args .at) (s .args .tag)
-    (omega arith) (c .if3 .taken)
+shared-slice-read-if2 : tie.Need-shared-slice-read-if2
+shared-slice-read-if2 c = search needs
 
 add-n : tie.Need-add-n
 add-n c = search needs
@@ -40,12 +23,12 @@ shared-slice-read-n c = search needs
 
 cast-n : tie.Need-cast-n
 cast-n c =
-    let s = c .before .before .before .before .before .before in
+    let s = c .before .before .before .before .before in
     omega (arith, c .shared-slice-known3 .given (s .args .at + 1), c .shared-slice-known3 .given (s .args .at + 2))
 
 mul-n : tie.Need-mul-n
 mul-n c =
-    let s = c .before .before .before .before .before .before in
+    let s = c .before .before .before .before .before in
     omega (arith, c .shared-slice-known3 .given (s .args .at + 1), c .shared-slice-known3 .given (s .args .at + 2))
 
 add-n-2 : tie.Need-add-n-2
@@ -56,56 +39,54 @@ shared-slice-read-n-2 c = search needs
 
 cast-n-2 : tie.Need-cast-n-2
 cast-n-2 c =
-    let s = c .before .before .before .before .before .before .before in
+    let s = c .before .before .before .before .before .before in
     omega (arith, c .shared-slice-known4 .given (s .args .at + 1), c .shared-slice-known4 .given (s .args .at + 2))
 
 add-n-3 : tie.Need-add-n-3
 add-n-3 c =
-    let s = c .before .before .before .before .before .before .before in
-    omega (arith, c .before .shared-slice-known3 .given (s .args .at + 1), c .shared-slice-known4 .given (s .args .at + 2))
+    let s = c .before .before .before .before .before .before in
+    omega (arith, c .shared-slice-known4 .given (s .args .at + 1), c .shared-slice-known4 .given (s .args .at + 2))
 
 rule-takes-requires : tie.Need-rule-takes-requires
 rule-takes-requires c κs = search needs
 
-returns-4 : tie.Need-returns-4
-returns-4 c =
-    let s = c .before .before .before .before .before .before .before .before .before in
-    other-length (s .args .b .now) (s .args .at) (s .args .tag)
-    (omega arith) (c .before .before .before .before .if3 .left) (sym (c .before .rule-takes .ensures) ∙ not-true _ (c .if4 .taken))
+add-result : tie.Need-add-result
+add-result c = search needs
 
-sub-if5 : tie.Need-sub-if5
-sub-if5 c = search needs
+add-result-2 : tie.Need-add-result-2
+add-result-2 c =
+    let k = c .before .before in
+    let s = k .before .before .before .before .before .before in
+    omega (arith, k .shared-slice-known4 .given (s .args .at + 1), k .shared-slice-known4 .given (s .args .at + 2))
 
-sub-if5-2 : tie.Need-sub-if5-2
-sub-if5-2 c = search needs
+returns : tie.Need-returns
+returns c =
+    let k = c .before .before in
+    let s = k .before .before .before .before .before .before in
+    found (s .args .b .now) (s .args .tag) (s .args .at)
+    (k .before .before .before .before .if1 .taken) (eqb-true _ _ (k .before .before .if2 .taken)) (sym (c .before .rule-takes .ensures) ∙ c .if3 .taken)
+    (omega (arith, k .shared-slice-known4 .given (s .args .at + 1), k .shared-slice-known4 .given (s .args .at + 2)))
 
-returns-5 : tie.Need-returns-5
-returns-5 c =
-    let s = c .before .before .before .before .before .before .before .before .before .before in
-    too-long (s .args .b .now) (s .args .at) (s .args .tag)
-    (omega arith) (c .before .before .before .before .before .if3 .left) (sym (c .before .before .rule-takes .ensures) ∙ not-false _ (c .before .if4 .left)) (omega arith)
+add-result-3 : tie.Need-add-result-3
+add-result-3 c = search needs
 
-add-t13 : tie.Need-add-t13
-add-t13 c = search needs
-
-add-t12 : tie.Need-add-t12
-add-t12 c = search needs
-
-returns-6 : tie.Need-returns-6
-returns-6 c =
-    let s = c .before .before .before .before .before .before .before .before .before .before in
-    found (s .args .b .now) (s .args .at) (s .args .tag)
-    (omega arith) (c .before .before .before .before .before .if3 .left) (sym (c .before .before .rule-takes .ensures) ∙ not-false _ (c .before .if4 .left)) (omega arith)
+returns-2 : tie.Need-returns-2
+returns-2 c =
+    let s = c .before .before in
+    ⊎-elim
+    (λ w. other-length (s .args .b .now) (s .args .tag) (s .args .at) (w .0 .taken) (eqb-true _ _ (w .2 .taken)) (sym (w .5 .ensures) ∙ w .6 .left))
+    (λ j. ⊎-elim
+    (λ w. other-tag (s .args .b .now) (s .args .tag) (s .args .at) (w .0 .taken) (eqb-false _ _ (w .2 .left)))
+    (λ w. too-few (s .args .b .now) (s .args .tag) (s .args .at) (omega (arith, w .left)))
+    (j .came))
+    (c .if1 .came)
 
 pub field-at-spec : {M : Type 1} → statement M
 field-at-spec =
     tie.close
     (tie.spec
-    returns
-    sub-if2
-    returns-2
-    shared-slice-read-t
-    returns-3
+    add-if1
+    shared-slice-read-if2
     add-n
     shared-slice-read-n
     cast-n
@@ -115,10 +96,8 @@ field-at-spec =
     cast-n-2
     add-n-3
     rule-takes-requires
-    returns-4
-    sub-if5
-    sub-if5-2
-    returns-5
-    add-t13
-    add-t12
-    returns-6)
+    add-result
+    add-result-2
+    returns
+    add-result-3
+    returns-2)

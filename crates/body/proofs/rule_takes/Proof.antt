@@ -1,28 +1,31 @@
--- `rule_takes` meets its promise: each arm of the decision over the tag is a line of `takes`, and each arm over the length its test.
--- Assumes nothing.
-use mathlib.Core.Path.{sym}
+-- `rule_takes` meets its promise: each arm of the decision over the tag is a line of `takes`. Assumes nothing.
 use native.Mathlib.Omega.{arith}
 use borrow.Author.Tests.{ne-eqb, le-leb, lt-leb}
 use Rattle.line.specs.Lines.{longest}
-use Rattle.body.specs.Fields.{nonceTag, digestTag, cipherTag, sealTag, nonceLength, digestLength, shortest, sealLength, takes}
+use Rattle.body.specs.Fields.{nonceTag, digestTag, cipherTag, sealTag, shortest, takes}
 use Rattle.body.proofs.rule_takes.Statement.{statement}
 use Rattle.body.proofs.rule_takes.Tie as tie
 
 returns : tie.Need-returns
 unfolding takes
-returns c = rw (c .before .match .keys1, c .match2 .keys1)
+returns c = rw (c .match .keys1)
 
 returns-2 : tie.Need-returns-2
 unfolding takes
-returns-2 c = rw (c .before .match .keys1) (sym (ne-eqb (c .before .before .args .n) nonceLength (c .match2 .rest .1)))
+returns-2 c = rw (c .match .keys2)
 
 returns-3 : tie.Need-returns-3
 unfolding takes
-returns-3 c = rw (c .before .match .keys2, c .match3 .keys1)
+returns-3 c =
+    rw (
+      c .before .before .match .keys3,
+      le-leb shortest (c .before .before .before .args .n) (omega arith),
+      le-leb (c .before .before .before .args .n) longest (omega arith),
+    )
 
 returns-4 : tie.Need-returns-4
 unfolding takes
-returns-4 c = rw (c .before .match .keys2) (sym (ne-eqb (c .before .before .args .n) digestLength (c .match3 .rest .1)))
+returns-4 c = rw (c .before .match .keys3, lt-leb shortest (c .before .before .args .n) (omega arith))
 
 returns-5 : tie.Need-returns-5
 unfolding takes
@@ -30,33 +33,16 @@ returns-5 c =
     rw (
       c .before .before .match .keys3,
       le-leb shortest (c .before .before .before .args .n) (omega arith),
-      le-leb (c .before .before .before .args .n) longest (omega arith),
+      lt-leb (c .before .before .before .args .n) longest (omega arith),
     )
 
 returns-6 : tie.Need-returns-6
 unfolding takes
-returns-6 c = rw (c .before .match .keys3, lt-leb shortest (c .before .before .args .n) (omega arith))
+returns-6 c = rw (c .match .keys4)
 
 returns-7 : tie.Need-returns-7
 unfolding takes
 returns-7 c =
-    rw (
-      c .before .before .match .keys3,
-      le-leb shortest (c .before .before .before .args .n) (omega arith),
-      lt-leb (c .before .before .before .args .n) longest (omega arith),
-    )
-
-returns-8 : tie.Need-returns-8
-unfolding takes
-returns-8 c = rw (c .before .match .keys4, c .match4 .keys1)
-
-returns-9 : tie.Need-returns-9
-unfolding takes
-returns-9 c = rw (c .before .match .keys4) (sym (ne-eqb (c .before .before .args .n) sealLength (c .match4 .rest .1)))
-
-returns-10 : tie.Need-returns-10
-unfolding takes
-returns-10 c =
     rw (
       ne-eqb (c .before .args .tag) nonceTag (c .match .rest .0 .0 .0 .1),
       ne-eqb (c .before .args .tag) digestTag (c .match .rest .0 .0 .1),
@@ -66,15 +52,4 @@ returns-10 c =
 
 pub rule-takes-spec : {M : Type 1} → statement M
 rule-takes-spec =
-    tie.close
-    (tie.spec
-    returns
-    returns-2
-    returns-3
-    returns-4
-    returns-5
-    returns-6
-    returns-7
-    returns-8
-    returns-9
-    returns-10)
+    tie.close (tie.spec returns returns-2 returns-3 returns-4 returns-5 returns-6 returns-7)

@@ -1,15 +1,16 @@
 use mathlib.Core.Path.{_≡_, sym, _∙_}
 use mathlib.Core.List.{List}
-use Prim.Native.Nat.{ℕ, _-_}
+use Prim.Native.Nat.{ℕ, _+_, _-_}
 use native.Mathlib.Omega.{arith}
 use lib.ListN.{take, length}
 use borrow.Author.Tests.{not-true, not-false}
 use borrow.Author.Needs.{needs}
 use Rattle.frame.specs.Outcomes.{right-sealable, write-sizes, write-too-long, write-unlisted, write-no-room}
 use Rattle.frame.proofs.Answering.{met, scratch-holds, frame-fits, framed-met}
-use Rattle.frame.specs.Lengths.{sealed-body-lengths, Sealable}
+use Rattle.frame.specs.Lengths.{Sealable}
 use Rattle.frame.specs.Frames.{sealedBody}
 use Rattle.line.specs.declared.Judged.the-variants as line-is
+use Rattle.body.specs.Lengths.{besideCipher}
 use Rattle.line.specs.Lines.{lineRule}
 use Rattle.frame.specs.Told.{Told, told}
 use Rattle.frame.proofs.write.Statement.{statement}
@@ -36,14 +37,15 @@ accepted : (c : tie.After-enum-told) → lineRule (start (c .before .before .bef
 accepted c = sym (c .before .before .judge-line .ensures) ∙ c .enum-told .given .1
 
 -- the place where the line is known to be accepted, from behind the sealing
-abbrev earlier : tie.After-seal-body → tie.After-enum-told
-earlier c = c .before .before .before
+abbrev earlier : tie.After-sealed-body → tie.After-enum-told
+earlier c = c .before .before
 
-abbrev passed : tie.After-seal-body → tie.Else2
+abbrev passed : tie.After-sealed-body → tie.Else2
 passed c = earlier c .before .before .before
 
-body-is : (c : tie.After-seal-body) → take (c .seal-body .result .length - 0) (c .seal-body .last .1 .1 .1 .1 .0) ≡ bodyOf (start (passed c))
-body-is c = scratch-holds (sealable (passed c)) _ _ _ (c .seal-body .ensures .0) (c .seal-body .ensures .1 .1)
+body-is : (c : tie.After-sealed-body) →
+    let s = start (passed c) in take (besideCipher + length (s .args .line .now) - 0) (c .sealed-body .result) ≡ bodyOf s
+body-is c = scratch-holds (sealable (passed c)) _ _ (c .sealed-body .ensures)
 
 sizes-right-requires : tie.Need-sizes-right-requires
 sizes-right-requires c κs = search needs
@@ -75,11 +77,11 @@ returns-3 c = met (write-unlisted _ _ _ _ (sealable (c .before .before .before))
 returns-4 : tie.Need-returns-4
 returns-4 c = met (write-no-room _ _ _ _ (sealable (c .before .before .before .before)) (accepted (c .before)) (omega arith))
 
-slice-aggregate-seal-body : tie.Need-slice-aggregate-seal-body
-slice-aggregate-seal-body c = search needs
+sealed-body-requires : tie.Need-sealed-body-requires
+sealed-body-requires c κs = sealable (c .before .before .before .before)
 
-seal-body-requires : tie.Need-seal-body-requires
-seal-body-requires c κs = (sealable (c .before .before .before .before .before), omega arith)
+add-put-frame : tie.Need-add-put-frame
+add-put-frame c = search needs
 
 sub-put-frame : tie.Need-sub-put-frame
 sub-put-frame c = search needs
@@ -88,19 +90,22 @@ part-put-frame-start : tie.Need-part-put-frame-start
 part-put-frame-start c = search needs
 
 part-put-frame-end : tie.Need-part-put-frame-end
-part-put-frame-end c = let d = c .before .before in omega (arith, d .seal-body .ensures .0, sealed-body-lengths (sealable (passed d)))
+part-put-frame-end c = omega (arith, sealable (passed (c .before)) .line-to)
 
 put-frame-requires : tie.Need-put-frame-requires
-put-frame-requires c κs = let d = c .before .before .before .before in omega (arith, frame-fits (sealable (passed d)) _ (body-is d))
+put-frame-requires c κs = let d = c .before .before .before in omega (arith, frame-fits (sealable (passed d)) _ (body-is d))
+
+add-t22 : tie.Need-add-t22
+add-t22 c = search needs
 
 same-length : tie.Need-same-length
 same-length c = search needs
 
 returns-5 : tie.Need-returns-5
 returns-5 c =
-    let d = c .before .before .before .before .before .before .before in
+    let d = c .before .before .before .before .before .before in
     let p = c .before .before .put-frame in
-    framed-met (sealable (passed d)) (accepted (earlier d)) _ (omega arith) _ _ _ _ (body-is d) (p .ensures .0) (d .seal-body .ensures .1 .0) (p .ensures .1)
+    framed-met (sealable (passed d)) (accepted (earlier d)) _ (omega arith) _ _ _ (body-is d) (p .ensures .0) (p .ensures .1)
 
 pub write-spec : {M : Type 1} → statement M
 write-spec =
@@ -115,11 +120,12 @@ write-spec =
     enum-told-2
     returns-3
     returns-4
-    slice-aggregate-seal-body
-    seal-body-requires
+    sealed-body-requires
+    add-put-frame
     sub-put-frame
     part-put-frame-start
     part-put-frame-end
     put-frame-requires
+    add-t22
     same-length
     returns-5)

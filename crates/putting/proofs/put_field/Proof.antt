@@ -5,11 +5,11 @@ use lib.ListN.{length, length-set}
 use lib.Seq.{sets, length-sets}
 use borrow.Rule.Slice.PartMut.{putMid}
 use borrow.Author.Needs.{needs}
 use Rattle.body.specs.Fields.{field, headLength}
-use Rattle.body.proofs.Putting.{headed, put-one}
+use Rattle.putting.proofs.Laying.{headed, put-one}
 use Rattle.body.specs.Lengths.{length-field}
-use Rattle.body.proofs.put_field.Statement.{statement}
-use Rattle.body.proofs.put_field.Tie as tie
+use Rattle.putting.proofs.put_field.Statement.{statement}
+use Rattle.putting.proofs.put_field.Tie as tie
 
 -- `put_field` meets its promise: three stores and a copy are the field's bytes stored one behind the other. Assumes nothing.
 -- `put_field` meets its promise: three stores and a copy are the field's bytes stored one behind the other. Assumes nothing.

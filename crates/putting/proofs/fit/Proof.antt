@@ -2,9 +2,9 @@
 use mathlib.Core.Path.{sym, _∙_}
 use borrow.Author.Tests.{not-true, not-false}
 use borrow.Author.Needs.{needs}
-use Rattle.body.specs.Answers.{fitting}
-use Rattle.body.proofs.fit.Statement.{statement}
-use Rattle.body.proofs.fit.Tie as tie
+use Rattle.putting.specs.Answers.{fitting}
+use Rattle.putting.proofs.fit.Statement.{statement}
+use Rattle.putting.proofs.fit.Tie as tie
 
 rule-takes-requires : tie.Need-rule-takes-requires
 rule-takes-requires c κs = search needs

@@ -6,10 +6,11 @@ use Prim.Native.Nat.{ℕ, _≤_, _<_}
 use lib.ListN.{length}
 use borrow.Author.Tests.{lt-ltb, le-ltb}
 use Rattle.lists.specs.Buffers.{over}
-use Rattle.body.specs.declared.Put.the-variants.{Done, Shape, NoRoom}
+use Rattle.putting.specs.declared.Put.the-variants.{Done, Shape, NoRoom}
 use Rattle.body.specs.Fields.{digestTag, digestLength, takes, body, associated}
-use Rattle.body.specs.Answers.{fitting, written, writtenOut, putAnswer, putOut, associatedAnswer, associatedOut}
-use Rattle.body.specs.Lengths.{Sized, sized-fitting, takes-digest}
+use Rattle.putting.specs.Answers.{fitting, written, writtenOut, putAnswer, putOut, associatedAnswer, associatedOut}
+use Rattle.body.specs.Lengths.{Sized, takes-digest}
+use Rattle.putting.specs.Fitting.{sized-fitting}
 
 module _ (fit : Bool) (w o : List ℕ) where
   refused : fit ≡ false → (written fit w o ≡ Shape) × (writtenOut fit w o ≡ o)

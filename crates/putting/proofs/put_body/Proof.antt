@@ -4,12 +4,13 @@ use Prim.Native.Nat.{ℕ}
 use native.Mathlib.Omega.{arith}
 use borrow.Author.Tests.{not-true, not-false}
 use borrow.Author.Needs.{needs}
-use Rattle.body.specs.Outcomes.{put-refused, put-small}
-use Rattle.body.proofs.Putting.{Ready, Laid, laid-none, laid-more, laid-room, room-nonce, room-digest, room-cipher, room-seal, put-whole}
-use Rattle.body.specs.Lengths.{Sized, length-body, fitting-sized}
+use Rattle.putting.specs.Outcomes.{put-refused, put-small}
+use Rattle.putting.proofs.Laying.{Ready, Laid, laid-none, laid-more, laid-room, room-nonce, room-digest, room-cipher, room-seal, put-whole}
+use Rattle.body.specs.Lengths.{Sized, length-body}
+use Rattle.putting.specs.Fitting.{fitting-sized}
 use Rattle.body.specs.Fields.{nonceTag, digestTag, cipherTag, sealTag, field}
-use Rattle.body.proofs.put_body.Statement.{statement}
-use Rattle.body.proofs.put_body.Tie as tie
+use Rattle.putting.proofs.put_body.Statement.{statement}
+use Rattle.putting.proofs.put_body.Tie as tie
 
 -- `put_body` meets its promise: the fields are laid one behind the other from the buffer's start (`Laid`). Assumes nothing.
 

@@ -8,11 +8,11 @@ use lib.Seq.{sets}
 use borrow.Rule.Slice.PartMut.{putMid}
 use Rattle.lists.specs.Buffers.{over, copied}
 use Rattle.lists.specs.Over.{copied-all, over-part, over-more, over-length}
 use Rattle.body.specs.Fields.{nonceTag, digestTag, cipherTag, sealTag, nonceLength, digestLength, sealLength, headLength, highByte, field, body, associated}
 use Rattle.body.specs.Lengths.{Sized, associatedLength, besideCipher, length-field}
-use Rattle.body.specs.Answers.{putAnswer, putOut, associatedAnswer, associatedOut}
-use Rattle.body.specs.Outcomes.{put-done, associated-done}
-use Rattle.body.specs.declared.Put.the-variants.{Done}
+use Rattle.putting.specs.Answers.{putAnswer, putOut, associatedAnswer, associatedOut}
+use Rattle.putting.specs.Outcomes.{put-done, associated-done}
+use Rattle.putting.specs.declared.Put.the-variants.{Done}
 
 -- a value copied to the part of a buffer that begins at a place
 behind : (p : List ℕ) (at : ℕ) (v w : List ℕ) → at + length v ≤ length p → w ≡ copied v (take (length p - at) (drop at p))

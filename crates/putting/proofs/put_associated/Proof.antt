@@ -4,12 +4,12 @@ use native.Mathlib.Omega.{arith}
 use lib.ListN.{length}
 use borrow.Author.Tests.{not-true, not-false}
 use borrow.Author.Needs.{needs}
-use Rattle.body.proofs.Putting.{laid-none, laid-more, laid-room, associated-whole, room-associated}
-use Rattle.body.specs.Outcomes.{associated-refused, associated-small}
+use Rattle.putting.proofs.Laying.{laid-none, laid-more, laid-room, associated-whole, room-associated}
+use Rattle.putting.specs.Outcomes.{associated-refused, associated-small}
 use Rattle.body.specs.Lengths.{digest-taken, length-associated}
 use Rattle.body.specs.Fields.{digestLength}
-use Rattle.body.proofs.put_associated.Statement.{statement}
-use Rattle.body.proofs.put_associated.Tie as tie
+use Rattle.putting.proofs.put_associated.Statement.{statement}
+use Rattle.putting.proofs.put_associated.Tie as tie
 
 abbrev start : tie.Else2 → tie.Start
 start c = c .before .before .before .before .before

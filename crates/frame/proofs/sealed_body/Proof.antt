@@ -1,0 +1,115 @@
+-- `sealed_body` meets its promise: the associated data, the sealed line and the body are what each call leaves in its scratch.
+-- Assumes nothing.
+use mathlib.Core.Path.{_≡_, refl}
+use mathlib.Core.List.{List}
+use Prim.Native.Nat.{ℕ}
+use native.Mathlib.Omega.{arith}
+use lib.ListN.{replicate}
+use borrow.Author.Needs.{needs}
+use Rattle.lists.specs.Buffers.{over}
+use Rattle.line.specs.Lines.{longest}
+use Rattle.ingage.specs.Cipher.{Work}
+use Rattle.body.specs.Fields.{sealLength, associated}
+use Rattle.body.specs.Lengths.{longestBody}
+use Rattle.frame.specs.Told.{Told, told}
+use Rattle.frame.specs.Frames.{sealedBody, sealedLine}
+use Rattle.frame.proofs.Sealing.{associated-put, sealed-text, sealed-seal, body-put}
+use Rattle.frame.proofs.sealed_body.Statement.{statement}
+use Rattle.frame.proofs.sealed_body.Tie as tie
+
+-- the start, and what is told there
+abbrev start : tie.After-put-associated → tie.Start
+start c = c .before .before .before .before .before .before
+
+abbrev asked : tie.Start → Told
+asked s = told (s .args .key .now) (s .args .font .now)
+
+abbrev earlier : tie.After-seal2 → tie.After-put-associated
+earlier c = c .before .before .before .before .before
+
+abbrev first-part : tie.After-put-body → tie.After-seal2
+first-part c = c .before .before .before .before .before .before .before
+
+-- the sealed line of what was asked, and its body
+abbrev lineOf : tie.Start → Work
+lineOf s = sealedLine (asked s) (s .args .nonce .now) (s .args .line .now)
+
+abbrev bodyOf : tie.Start → List ℕ
+bodyOf s = sealedBody (asked s) (s .args .nonce .now) (s .args .line .now)
+
+-- what each call leaves
+associated-is : (c : tie.After-put-associated) → c .put-associated .last .1 .0 ≡ associated (start c .args .font .now)
+associated-is c = associated-put (start c .pre) _ _ refl (c .put-associated .ensures .1)
+
+cipher-is : (c : tie.After-seal2) → c .seal2 .last .1 .1 .1 .1 .0 ≡ over (lineOf (start (earlier c)) .text) (replicate longest 0)
+cipher-is c =
+    let z = start (earlier c) .pre in
+    sealed-text z _ (replicate longest 0) (replicate sealLength 0) (associated-is (earlier c)) (z .line-to) refl _ (c .seal2 .ensures .1 .0)
+
+seal-is : (c : tie.After-seal2) → c .seal2 .last .1 .1 .1 .1 .1 .0 ≡ lineOf (start (earlier c)) .seal
+seal-is c =
+    let z = start (earlier c) .pre in
+    sealed-seal z _ (replicate longest 0) (replicate sealLength 0) (associated-is (earlier c)) (z .line-to) refl _ (c .seal2 .ensures .1 .1)
+
+body-is : (c : tie.After-put-body) →
+    c .put-body .last .1 .1 .1 .1 .0 ≡ over (bodyOf (start (earlier (first-part c)))) (replicate longestBody 0)
+body-is c =
+    let f = first-part c in
+    body-put (start (earlier f) .pre) (replicate longest 0) _ _ (replicate longestBody 0) _ (cipher-is f) (seal-is f) (omega arith) (c .put-body .ensures .1)
+
+slice-aggregate-put-associated : tie.Need-slice-aggregate-put-associated
+slice-aggregate-put-associated c = search needs
+
+put-associated-requires : tie.Need-put-associated-requires
+put-associated-requires c κs = search needs
+
+slice-aggregate-seal : tie.Need-slice-aggregate-seal
+slice-aggregate-seal c = search needs
+
+slice-aggregate-seal-2 : tie.Need-slice-aggregate-seal-2
+slice-aggregate-seal-2 c = search needs
+
+slice-aggregate-seal-3 : tie.Need-slice-aggregate-seal-3
+slice-aggregate-seal-3 c = search needs
+
+seal-requires : tie.Need-seal-requires
+seal-requires c κs = search needs
+
+sub-put-body : tie.Need-sub-put-body
+sub-put-body c = search needs
+
+part-put-body-start : tie.Need-part-put-body-start
+part-put-body-start c = search needs
+
+part-put-body-end : tie.Need-part-put-body-end
+part-put-body-end c = search needs
+
+slice-aggregate-put-body : tie.Need-slice-aggregate-put-body
+slice-aggregate-put-body c = search needs
+
+slice-aggregate-put-body-2 : tie.Need-slice-aggregate-put-body-2
+slice-aggregate-put-body-2 c = search needs
+
+put-body-requires : tie.Need-put-body-requires
+put-body-requires c κs = search needs
+
+returns : tie.Need-returns
+returns c = body-is (c .before)
+
+pub sealed-body-spec : {M : Type 1} → statement M
+sealed-body-spec =
+    tie.close
+    (tie.spec
+    slice-aggregate-put-associated
+    put-associated-requires
+    slice-aggregate-seal
+    slice-aggregate-seal-2
+    slice-aggregate-seal-3
+    seal-requires
+    sub-put-body
+    part-put-body-start
+    part-put-body-end
+    slice-aggregate-put-body
+    slice-aggregate-put-body-2
+    put-body-requires
+    returns)
