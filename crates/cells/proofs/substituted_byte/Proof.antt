@@ -1,7 +1,7 @@
 -- `substituted_byte` meets its promise: four products over the old cells, each below 4, make a byte. Assumes nothing.
 use Rattle.cells.specs.Rows.{flat-below, byte-is}
 use Rattle.cells.proofs.Sums.{one, and, last, first-place, second-place, later-place, row, entry}
-use Prim.Native.Nat.{ℕ, _+_, _*_, _/_, _%_, _<_}
+use Prim.Native.Nat.{ℕ, _+_, _*_, _/_, _<_}
 use native.Mathlib.Nat.{lt-of-le-of-lt}
 use lib.Dec.{lit<}
 use lib.ListN.{getD}
