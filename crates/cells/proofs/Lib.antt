@@ -1,3 +1,4 @@
+pub mod Sums
 pub mod Substituting
 pub mod Firsts
 pub mod Single

@@ -22,11 +22,11 @@ fn products() -> [[u8; 4]; 4]
 }
 
 // x * y.
-fn star(t: [[u8; 4]; 4], x: usize, y: usize) -> u8
+fn star(t: [[u8; 4]; 4], x: u8, y: u8) -> u8
     requires { ⌜ (x < 4) × (y < 4) × Closed t ⌝ }
     ensures { λ r. ⌜ (r ≡ star t x y) × (r < 4) ⌝ }
 {
-    t[x][y]
+    t[x as usize][y as usize]
 }
 
 // The rows of a table one behind the other, so that a product of neighbouring cells is one look-up.
@@ -77,16 +77,16 @@ fn restore_by(t: [[u8; 4]; 4], s: [u8; LARGEST], n: usize, leader: u8) -> [u8; L
     ensures { λ r. ⌜ r ≡ restore t leader (take n s) ++ drop n s ⌝ }
 {
     let mut out = s;
-    let mut p = leader as usize;
+    let mut p = leader;
     let mut i = 0;
     while i < n {
-        let b = s[i] as usize;
+        let b = s[i];
         let a = star(t, p, b / 64);
-        let c = star(t, a as usize, b / 16 % 4);
-        let d = star(t, c as usize, b / 4 % 4);
-        let e = star(t, d as usize, b % 4);
+        let c = star(t, a, b / 16 % 4);
+        let d = star(t, c, b / 4 % 4);
+        let e = star(t, d, b % 4);
         out[i] = a * 64 + c * 16 + d * 4 + e;
-        p = e as usize;
+        p = e;
         i += 1;
     }
     out

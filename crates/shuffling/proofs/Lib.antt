@@ -1,3 +1,3 @@
 pub mod Wrapping
-pub mod Weighing
+pub mod Summing
 pub mod Single

@@ -1,14 +1,17 @@
 -- The shuffle and its inverse by a state with seven bytes wrapped around it. Assumes nothing.
 use mathlib.Core.Path.{_≡_, refl, sym, ap, _∙_}
 use mathlib.Core.List.{List, [], _∷_, _++_}
-use Prim.Native.Nat.{ℕ, _+_, _-_, _/_, _≤_, _<_, _%_}
-use native.Mathlib.Nat.{not-suc-le-zero, add-zero, zero-add, mod-lt, mod-eq-of-lt, add-mod-right}
+use Prim.Native.Nat.{ℕ, _+_, _-_, _/_, _^_, _≤_, _<_, _%_}
+use native.Mathlib.Nat.{le-trans, lt-of-lt-of-le, not-suc-le-zero, add-zero, zero-add, mod-lt, mod-eq-of-lt, add-mod-right}
 use native.Mathlib.Decide.{decLt}
 use native.Mathlib.Omega.{arith}
 use lib.ListN.{length, getD, take, drop, set, length-set}
 use lib.Seq.{length-take-le, getD-take, getD-set-same, getD-set-other}
+use lib.Dec.{lit≤}
 use Rattle.lists.specs.Fill.{Filled, filled-more, filled-all}
 use Rattle.lists.specs.Upto.{Upto}
+use Rattle.cells.specs.Sizes.{LARGEST}
+use Rattle.shuffling.specs.Sizes.{SMALLEST, WRAPPED}
 use Rattle.shuffling.specs.Shuffling.{bit, element, source, weights, origins, gathered, returned, Joined, shuffledByte, shuffle, unshuffledByte, unshuffle}
 use Rattle.shuffling.specs.Bits.{eight, weighed-by}
 use Rattle.shuffling.specs.States.{length-shuffle, length-unshuffle, shuffle-at, unshuffle-at}
@@ -63,6 +66,23 @@ wrapped-is zeros s e r n from h a b = record {
         rw behind at (b .put m (omega (arith, p))) ∙ rw (zero-add, around, add-mod-right, mod-eq-of-lt short)
   ];
 }
+
+-- byte i + k of a wrapped state, where i is below the size: it is there, and its number is one of the machine's; byte i can be written
+pub inside : {i n : ℕ} (k : ℕ) → k < SMALLEST → i < n → n ≤ LARGEST → i + k < WRAPPED
+inside k g h l = omega arith
+
+pub counted : {i n : ℕ} (k : ℕ) → k < SMALLEST → i < n → n ≤ LARGEST → i + k < 2 ^ 64
+counted k g h l = lt-of-lt-of-le (inside k g h l) (lit≤ tt)
+
+pub writable : {i n : ℕ} → i < n → n ≤ LARGEST → i < LARGEST
+writable h l = lt-of-lt-of-le h l
+
+pub readable : {i n : ℕ} → i < n → n ≤ LARGEST → i < WRAPPED
+readable h l = lt-of-lt-of-le h (le-trans l (lit≤ tt))
+
+-- what is left becomes less
+pub less : {i n : ℕ} → i < n → n - (i + 1) < n - i
+less h = omega arith
 
 module _ (s : List ℕ) (n : ℕ) (fits : n ≤ length s) (wide : 8 ≤ n) where
   long : length (take n s) ≡ n

@@ -8,12 +8,31 @@ ghost use lib.ListN.{getD, length, take, drop};
 ghost use Rattle.lists.specs.Upto.{Upto};
 ghost use Rattle.cells.specs.Sizes.{LARGEST};
 ghost use Rattle.shuffling.specs.Sizes.{AHEAD, WRAPPED};
-ghost use Rattle.shuffling.specs.Shuffling.{places, weight, weights, gathered, returned, Joined, shuffle, unshuffle};
+ghost use Rattle.shuffling.specs.Shuffling.{gathered, returned, Joined, shuffle, unshuffle};
 ghost use Rattle.cells.specs.Cells.{onFirst};
 ghost use Rattle.shuffling.specs.Widths.{wide, whereWide};
 
 // Where elements 1 to 8 go (document 000, formula 1.4); place 1 is the leftmost bit.
 const PLACES: [u8; 8] = [1, 3, 5, 8, 7, 6, 2, 4];
+
+// What a bit at the leftmost place counts in its byte, and what each element counts at its place.
+const LEFTMOST: u8 = 128;
+
+const WEIGHT_1: u8 = LEFTMOST >> (PLACES[0] - 1);
+
+const WEIGHT_2: u8 = LEFTMOST >> (PLACES[1] - 1);
+
+const WEIGHT_3: u8 = LEFTMOST >> (PLACES[2] - 1);
+
+const WEIGHT_4: u8 = LEFTMOST >> (PLACES[3] - 1);
+
+const WEIGHT_5: u8 = LEFTMOST >> (PLACES[4] - 1);
+
+const WEIGHT_6: u8 = LEFTMOST >> (PLACES[5] - 1);
+
+const WEIGHT_7: u8 = LEFTMOST >> (PLACES[6] - 1);
+
+const WEIGHT_8: u8 = LEFTMOST >> (PLACES[7] - 1);
 
 // A byte's elements come from it and from seven more; the room for a state with those wrapped around.
 const AHEAD: usize = 7;
@@ -23,59 +42,32 @@ const WRAPPED: usize = LARGEST + AHEAD + 1;
 // The smallest state whose elements all come from different bytes.
 const SMALLEST: usize = AHEAD + 1;
 
-// What a bit at a place counts in its byte.
-fn weight(place: u8) -> u8
-    requires { ⌜ (1 ≤ place) × (place ≤ 8) ⌝ }
-    ensures { λ r. ⌜ r ≡ weight place ⌝ }
-{
-    128 >> (place - 1)
-}
-
-// What each element counts at its place.
-fn weights() -> [u8; 8]
-    ensures { λ r. ⌜ r ≡ weights ⌝ }
-{
-    let p = PLACES;
-    [
-        weight(p[0]),
-        weight(p[1]),
-        weight(p[2]),
-        weight(p[3]),
-        weight(p[4]),
-        weight(p[5]),
-        weight(p[6]),
-        weight(p[7]),
-    ]
-}
-
 // The byte of eight elements, one from each of eight bytes, at their places.
-fn gather(w: [u8; 8], a: u8, b: u8, c: u8, d: u8, e: u8, f: u8, g: u8, h: u8) -> u8
-    requires { ⌜ w ≡ weights ⌝ }
+fn gather(a: u8, b: u8, c: u8, d: u8, e: u8, f: u8, g: u8, h: u8) -> u8
     ensures { λ r. ⌜ r ≡ gathered (a ∷ b ∷ c ∷ d ∷ e ∷ f ∷ g ∷ h ∷ []) ⌝ }
 {
-    a % 2 * w[0]
-        + b / 2 % 2 * w[1]
-        + c / 4 % 2 * w[2]
-        + d / 8 % 2 * w[3]
-        + e / 16 % 2 * w[4]
-        + f / 32 % 2 * w[5]
-        + g / 64 % 2 * w[6]
-        + h / 128 * w[7]
+    a % 2 * WEIGHT_1
+        + b / 2 % 2 * WEIGHT_2
+        + c / 4 % 2 * WEIGHT_3
+        + d / 8 % 2 * WEIGHT_4
+        + e / 16 % 2 * WEIGHT_5
+        + f / 32 % 2 * WEIGHT_6
+        + g / 64 % 2 * WEIGHT_7
+        + h / 128 % 2 * WEIGHT_8
 }
 
 // The byte whose eight bits stand at their places in eight bytes.
-fn give_back(w: [u8; 8], a: u8, b: u8, c: u8, d: u8, e: u8, f: u8, g: u8, h: u8) -> u8
-    requires { ⌜ w ≡ weights ⌝ }
+fn give_back(a: u8, b: u8, c: u8, d: u8, e: u8, f: u8, g: u8, h: u8) -> u8
     ensures { λ r. ⌜ r ≡ returned (a ∷ b ∷ c ∷ d ∷ e ∷ f ∷ g ∷ h ∷ []) ⌝ }
 {
-    a / w[0] % 2
-        + b / w[1] % 2 * 2
-        + c / w[2] % 2 * 4
-        + d / w[3] % 2 * 8
-        + e / w[4] % 2 * 16
-        + f / w[5] % 2 * 32
-        + g / w[6] % 2 * 64
-        + h / w[7] % 2 * 128
+    a / WEIGHT_1 % 2
+        + b / WEIGHT_2 % 2 * 2
+        + c / WEIGHT_3 % 2 * 4
+        + d / WEIGHT_4 % 2 * 8
+        + e / WEIGHT_5 % 2 * 16
+        + f / WEIGHT_6 % 2 * 32
+        + g / WEIGHT_7 % 2 * 64
+        + h / WEIGHT_8 % 2 * 128
 }
 
 // e with count bytes of s, from a place of s on, put at a place of e.
@@ -106,13 +98,11 @@ fn shuffle_wrapped(s: [u8; LARGEST], n: usize) -> [u8; LARGEST]
     requires { ⌜ (8 ≤ n) × (n ≤ LARGEST) ⌝ }
     ensures { λ r. ⌜ r ≡ shuffle (take n s) ++ drop n s ⌝ }
 {
-    let w = weights();
     let e = wrapped(s, n, 0);
     let mut out = s;
     let mut i = 0;
     while i < n {
         out[i] = gather(
-            w,
             e[i],
             e[i + 1],
             e[i + 2],
@@ -132,13 +122,11 @@ fn unshuffle_wrapped(s: [u8; LARGEST], n: usize) -> [u8; LARGEST]
     requires { ⌜ (8 ≤ n) × (n ≤ LARGEST) ⌝ }
     ensures { λ r. ⌜ r ≡ unshuffle (take n s) ++ drop n s ⌝ }
 {
-    let w = weights();
     let e = wrapped(s, n, n - AHEAD);
     let mut out = s;
     let mut i = 0;
     while i < n {
         out[i] = give_back(
-            w,
             e[i + 7],
             e[i + 6],
             e[i + 5],

@@ -1,3 +1,4 @@
+pub mod Places
 pub mod Steps
 pub mod Unstuffing
 pub mod Written

@@ -3,6 +3,7 @@ use mathlib.Core.Path.{_≡_, refl}
 use mathlib.Core.List.{List, [], _∷_}
 use mathlib.Core.Bool.{Bool, true, false, cond}
 use Prim.Native.Nat.{ℕ, suc, _-_, _≤_, _<_}
+use native.Mathlib.Nat.{lt-suc-self, le-of-lt, lt-of-lt-of-le}
 use native.Mathlib.Omega.{arith}
 use lib.Dec.{eqb}
 use lib.ListN.{length, getD, take, drop}
@@ -10,8 +11,8 @@ use lib.Seq.{take-all}
 use borrow.Author.Tests.{eq-eqb, ne-eqb}
 use Rattle.stuffing.specs.declared.Count.{Count}
 use Rattle.stuffing.specs.declared.Count.the-variants.{Of, Bad}
-use Rattle.stuffing.specs.Stuffing.{mark, escape, escapedMark, escapedEscape}
-use Rattle.stuffing.specs.Rules.{oneMore, AtMost, lengthOutside, lengthInside}
+use Rattle.stuffing.specs.Stuffing.{longestStretch, mark, escape, escapedMark, escapedEscape}
+use Rattle.stuffing.specs.Rules.{oneMore, AtMost, stands, lengthOutside, lengthInside}
 
 -- what `&s[1..]` holds
 abbrev rest : List ℕ → List ℕ
@@ -47,22 +48,40 @@ unfolding lengthOutside
 inside-none [] h = refl
 inside-none (b ∷ s) h = absurd (omega arith)
 
-pub inside-mark : (s : List ℕ) → 0 < length s → getD s 0 0 ≡ escapedMark → oneMore (lengthOutside (rest s)) ≡ lengthInside s
-unfolding lengthOutside
-inside-mark [] h e = absurd (omega arith)
-inside-mark (b ∷ s) h e = rw (rest-cons b s, eq-eqb b escapedMark e)
+-- one test of two bytes is two tests
+either-way : (c d : Count) (x y : Bool) → cond x true y ≡ true → c ≡ cond x c (cond y c d)
+either-way c d true y e = refl
+either-way c d false true e = refl
+either-way c d false false e = absurd (let z : _≡_ {A = ℕ} 0 1 = cc e in omega arith)
 
-pub inside-escape : (s : List ℕ) → 0 < length s → (getD s 0 0 ≡ escapedMark → ⊥) → getD s 0 0 ≡ escapedEscape
-    → oneMore (lengthOutside (rest s)) ≡ lengthInside s
-unfolding lengthOutside
-inside-escape [] h n e = absurd (omega arith)
-inside-escape (b ∷ s) h n e = rw (rest-cons b s, ne-eqb b escapedMark n, eq-eqb b escapedEscape e)
+neither-way : (c d : Count) (x y : Bool) → cond x true y ≡ false → d ≡ cond x c (cond y c d)
+neither-way c d true y e = absurd (let z : _≡_ {A = ℕ} 0 1 = cc e in omega arith)
+neither-way c d false true e = absurd (let z : _≡_ {A = ℕ} 0 1 = cc e in omega arith)
+neither-way c d false false e = refl
 
-pub inside-bad : (s : List ℕ) → 0 < length s → (getD s 0 0 ≡ escapedMark → ⊥) → (getD s 0 0 ≡ escapedEscape → ⊥)
-    → Bad ≡ lengthInside s
+pub inside-stands : (s : List ℕ) → 0 < length s → stands (getD s 0 0) ≡ true → oneMore (lengthOutside (rest s)) ≡ lengthInside s
 unfolding lengthOutside
-inside-bad [] h n e = absurd (omega arith)
-inside-bad (b ∷ s) h n e = rw (ne-eqb b escapedMark n, ne-eqb b escapedEscape e)
+inside-stands [] h e = absurd (omega arith)
+inside-stands (b ∷ s) h e = rw (rest-cons b s) (either-way (oneMore (lengthOutside s)) Bad (eqb b escapedMark) (eqb b escapedEscape) e)
+
+pub inside-bad : (s : List ℕ) → 0 < length s → stands (getD s 0 0) ≡ false → Bad ≡ lengthInside s
+unfolding lengthOutside
+inside-bad [] h e = absurd (omega arith)
+inside-bad (b ∷ s) h e = neither-way (oneMore (lengthOutside s)) Bad (eqb b escapedMark) (eqb b escapedEscape) e
+
+-- a stretch that is not empty, and what is left behind its first byte
+pub some : {n : ℕ} → (n ≡ 0 → ⊥) → 0 < n
+some h = omega (arith, h)
+
+rest-length : (s : List ℕ) → (length s ≡ 0 → ⊥) → length (rest s) < length s
+rest-length [] h = absurd (h refl)
+rest-length (b ∷ s) h = rw (rest-cons b s) (lt-suc-self (length s))
+
+pub rest-less : (s : List ℕ) (t : ℕ) → (length s ≡ 0 → ⊥) → length s ≡ t → length (rest s) < t
+rest-less s t h e = rw (← e) (rest-length s h)
+
+pub rest-within : (s : List ℕ) → (length s ≡ 0 → ⊥) → length s ≤ longestStretch → length (rest s) ≤ longestStretch
+rest-within s h l = le-of-lt (lt-of-lt-of-le (rest-length s h) l)
 
 more-at-most : (c : Count) (k : ℕ) → AtMost k c → AtMost (suc k) (oneMore c)
 more-at-most (Of n) k h = omega arith

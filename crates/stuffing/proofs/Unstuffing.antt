@@ -2,7 +2,7 @@
 use mathlib.Core.Path.{_≡_, refl, sym, ap, _∙_}
 use mathlib.Core.List.{List, [], _∷_}
 use mathlib.Core.Bool.{Bool, true, false, cond}
-use Prim.Native.Nat.{ℕ, suc, _+_, _≤_, _<_}
+use Prim.Native.Nat.{ℕ, suc, _+_, _^_, _≤_, _<_}
 use native.Mathlib.Omega.{arith}
 use native.Mathlib.Numerals.{add-one}
 use lib.ListN.{length, getD, take, drop, set, length-drop, length-take, drop-of-length-le}
@@ -10,6 +10,7 @@ use lib.Seq.{take-suc, take-all, drop-cons, length-take-le}
 use borrow.Author.Tests.{eq-eqb, ne-eqb}
 use Rattle.lists.specs.Buffers.{over}
 use Rattle.lists.specs.Over.{over-more, over-length}
+use Rattle.stuffing.proofs.Places.{next}
 use Rattle.stuffing.specs.Stuffing.{escape, meant, unstuffed, unescaped}
 
 -- what is left of the body, outside an escape or inside one
@@ -66,6 +67,10 @@ module _ (s o : List ℕ) (room : length (unstuffed s) ≤ length o) where
   pub fits : (out : List ℕ) (i k x : ℕ) (e : Bool) → Unwound s o out i k e
       → left e (drop i s) ≡ x ∷ unstuffed (drop (i + 1) s) → k < length out
   fits out i k x e h f = omega (arith, heads (unstuffed s) k x (unstuffed (drop (i + 1) s)) (h .rest ∙ f) .below, unwound-length h)
+
+  pub fits-counted : (out : List ℕ) (i k x : ℕ) (e : Bool) → Unwound s o out i k e
+      → left e (drop i s) ≡ x ∷ unstuffed (drop (i + 1) s) → length o < 2 ^ 64 → k + 1 < 2 ^ 64
+  fits-counted out i k x e h f g = next (fits out i k x e h f) (rw (unwound-length h) g)
 
   -- an escape opens
   pub unwound-open : (out : List ℕ) (i k : ℕ) (e : Bool) → Unwound s o out i k e → i < length s

@@ -1,6 +1,6 @@
 -- The unstuffed length of a stretch by two rules that hand over to each other, one outside an escape and one inside it,
 -- on ever shorter remainders (document 01, 'A frame and a stream'). Assumes nothing: these are definitions.
-use mathlib.Core.Bool.{cond}
+use mathlib.Core.Bool.{Bool, true, cond}
 use mathlib.Core.List.{List, [], _∷_}
 use Prim.Native.Nat.{ℕ, _+_, _≤_}
 use lib.Dec.{eqb}
@@ -12,6 +12,10 @@ use Rattle.stuffing.specs.Stuffing.{mark, escape, escapedMark, escapedEs
 abbrev pub oneMore : Count → Count
 oneMore (Of n) = Of (n + 1)
 oneMore Bad = Bad
+
+-- whether a byte stands for one inside an escape
+abbrev pub stands : ℕ → Bool
+stands b = cond (eqb b escapedMark) true (eqb b escapedEscape)
 
 unfoldable mutual
   -- outside an escape: a mark is bad stuffing

@@ -6,7 +6,7 @@ ghost use lib.ListN.{length};
 ghost use lib.Seq.{sets};
 ghost use Rattle.lists.specs.Buffers.{over};
 ghost use Rattle.stuffing.specs.Stuffing.{longestStretch, stuffByte, meant, unstuffed};
-ghost use Rattle.stuffing.specs.Rules.{lengthOutside, lengthInside, oneMore, AtMost};
+ghost use Rattle.stuffing.specs.Rules.{lengthOutside, lengthInside, oneMore, AtMost, stands};
 ghost use Rattle.stuffing.specs.Answers.{lengthAnswer, unstuffAnswer, unstuffOut, stuffAnswer, stuffOut};
 
 // The mark that opens and closes a frame (document 01).
@@ -79,6 +79,19 @@ fn length_outside(s: &[u8]) -> Count
     one_more(length_outside(&s[1..]))
 }
 
+// Whether a byte stands for one inside an escape.
+fn stands(b: u8) -> bool
+    ensures { λ r. ⌜ r ≡ stands b ⌝ }
+{
+    if b == ESCAPED_MARK {
+        return true;
+    }
+    if b == ESCAPED_ESCAPE {
+        return true;
+    }
+    false
+}
+
 // The rule inside an escape: the byte before was the escape byte.
 fn length_inside(s: &[u8]) -> Count
     requires { ⌜ length (now s) ≤ longestStretch ⌝ }
@@ -87,11 +100,7 @@ fn length_inside(s: &[u8]) -> Count
     if s.len() == 0 {
         return Count::Bad;
     }
-    let b = s[0];
-    if b == ESCAPED_MARK {
-        return one_more(length_outside(&s[1..]));
-    }
-    if b == ESCAPED_ESCAPE {
+    if stands(s[0]) {
         return one_more(length_outside(&s[1..]));
     }
     Count::Bad

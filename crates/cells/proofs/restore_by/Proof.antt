@@ -4,7 +4,10 @@ use lib.ListN.{getD}
 use mir.Syntax.{w8}
 use mir.Val.{Fits}
 use Rattle.cells.proofs.Substituting.{Restored, back-none, back-more, back-all}
+use Rattle.cells.proofs.Sums.{one, and, last, cell, there, next, less}
 use Prim.Native.Nat.{_-_}
+use native.Mathlib.Nat.{lt-of-le-of-lt}
+use lib.Dec.{lit<}
 use native.Mathlib.Omega.{arith}
 use borrow.Author.Needs.{needs}
 use Rattle.cells.proofs.restore_by.Statement.{statement}
@@ -20,63 +23,48 @@ loop-holds : tie.Need-loop-holds Inv-loop μ-loop
 loop-holds c = back-none _ _ _ _ (search needs) (c .pre .1)
 
 array-read-b : tie.Need-array-read-b Inv-loop μ-loop
-array-read-b c = search needs
-
-cast-b : tie.Need-cast-b Inv-loop μ-loop
-cast-b c = search needs
+array-read-b c = there (c .loop-test .taken) (c .before .before .pre .0)
 
 star-requires : tie.Need-star-requires Inv-loop μ-loop
 star-requires c κs =
     let f : Fits w8 (getD (c .before .before .args .t2) (c .before .loop .i) 0) = search needs in
     (c .before .loop .inv .cell, omega (arith, f .fits), c .before .before .pre .2)
 
-cast-star : tie.Need-cast-star Inv-loop μ-loop
-cast-star c = search needs
-
 star-requires-2 : tie.Need-star-requires-2 Inv-loop μ-loop
-star-requires-2 c κs = search needs
-
-cast-star-2 : tie.Need-cast-star-2 Inv-loop μ-loop
-cast-star-2 c = search needs
+star-requires-2 c κs = (c .star .ensures .1, cell _, c .before .before .before .pre .2)
 
 star-requires-3 : tie.Need-star-requires-3 Inv-loop μ-loop
-star-requires-3 c κs = search needs
-
-cast-star-3 : tie.Need-cast-star-3 Inv-loop μ-loop
-cast-star-3 c = search needs
+star-requires-3 c κs = (c .star2 .ensures .1, cell _, c .before .before .before .before .pre .2)
 
 star-requires-4 : tie.Need-star-requires-4 Inv-loop μ-loop
-star-requires-4 c κs = search needs
+star-requires-4 c κs = (c .star3 .ensures .1, cell _, c .before .before .before .before .before .pre .2)
 
 mul-out : tie.Need-mul-out Inv-loop μ-loop
-mul-out c = search needs
+mul-out c = record { fits = lt-of-le-of-lt (one 64 (c .before .before .before .star .ensures .1)) (lit< tt) }
 
 mul-out-2 : tie.Need-mul-out-2 Inv-loop μ-loop
-mul-out-2 c = search needs
+mul-out-2 c = record { fits = lt-of-le-of-lt (one 16 (c .before .before .star2 .ensures .1)) (lit< tt) }
 
 add-out : tie.Need-add-out Inv-loop μ-loop
-add-out c = search needs
+add-out c = record { fits = lt-of-le-of-lt (and 16 (one 64 (c .before .before .before .star .ensures .1)) (c .before .before .star2 .ensures .1)) (lit< tt) }
 
 mul-out-3 : tie.Need-mul-out-3 Inv-loop μ-loop
-mul-out-3 c = search needs
+mul-out-3 c = record { fits = lt-of-le-of-lt (one 4 (c .before .star3 .ensures .1)) (lit< tt) }
 
 add-out-2 : tie.Need-add-out-2 Inv-loop μ-loop
-add-out-2 c = search needs
+add-out-2 c = record { fits = lt-of-le-of-lt (and 4 (and 16 (one 64 (c .before .before .before .star .ensures .1)) (c .before .before .star2 .ensures .1)) (c .before .star3 .ensures .1)) (lit< tt) }
 
 add-out-3 : tie.Need-add-out-3 Inv-loop μ-loop
-add-out-3 c = search needs
+add-out-3 c = record { fits = lt-of-le-of-lt (last (and 4 (and 16 (one 64 (c .before .before .before .star .ensures .1)) (c .before .before .star2 .ensures .1)) (c .before .star3 .ensures .1)) (c .star4 .ensures .1)) (lit< tt) }
 
 array-write-out : tie.Need-array-write-out Inv-loop μ-loop
-array-write-out c = search needs
-
-cast-p : tie.Need-cast-p Inv-loop μ-loop
-cast-p c = search needs
+array-write-out c = there (c .before .before .before .before .loop-test .taken) (c .before .before .before .before .before .before .pre .0)
 
 add-i : tie.Need-add-i Inv-loop μ-loop
-add-i c = search needs
+add-i c = record { fits = next (c .before .before .before .before .loop-test .taken) (c .before .before .before .before .before .before .pre .0) }
 
 loop-less : tie.Need-loop-less Inv-loop μ-loop
-loop-less c = search needs
+loop-less c = less (c .before .before .before .before .loop-test .taken)
 
 loop-again : tie.Need-loop-again Inv-loop μ-loop
 loop-again c =
@@ -95,13 +83,9 @@ restore-by-spec =
     μ-loop
     loop-holds
     array-read-b
-    cast-b
     star-requires
-    cast-star
     star-requires-2
-    cast-star-2
     star-requires-3
-    cast-star-3
     star-requires-4
     mul-out
     mul-out-2
@@ -110,7 +94,6 @@ restore-by-spec =
     add-out-2
     add-out-3
     array-write-out
-    cast-p
     add-i
     loop-less
     loop-again

@@ -1,136 +1,74 @@
--- `give_back` meets its promise: with the definition's weights every sum is one of linear arithmetic. Assumes nothing.
+-- `give_back` meets its promise: no sum of bits with their weights is over a byte (`first`, `one`, `and`), and the sum from the left
+-- is the definition's from the right (`returned-sum`). Assumes nothing.
+use Rattle.shuffling.proofs.Summing.{first, one, and, returned-sum}
 use Rattle.shuffling.specs.Shuffling.{returned, weighed}
-use native.Mathlib.Omega.{arith}
-use borrow.Author.Needs.{needs}
+use native.Mathlib.Nat.{lt-of-le-of-lt}
+use lib.Dec.{lit<}
 use Rattle.shuffling.proofs.give_back.Statement.{statement}
 use Rattle.shuffling.proofs.give_back.Tie as tie
 
-array-read-result : tie.Need-array-read-result
-array-read-result c = search needs
-
-div-result : tie.Need-div-result
-div-result c = rw (c .pre) (search needs)
-
-array-read-result-2 : tie.Need-array-read-result-2
-array-read-result-2 c = search needs
-
-div-result-2 : tie.Need-div-result-2
-div-result-2 c = rw (c .pre) (search needs)
-
 mul-result : tie.Need-mul-result
-mul-result c = rw (c .pre) (search needs)
+mul-result c = record { fits = lt-of-le-of-lt (one _ _) (lit< tt) }
 
 add-result : tie.Need-add-result
-add-result c = rw (c .pre) (search needs)
-
-array-read-result-3 : tie.Need-array-read-result-3
-array-read-result-3 c = search needs
-
-div-result-3 : tie.Need-div-result-3
-div-result-3 c = rw (c .pre) (search needs)
+add-result c = record { fits = lt-of-le-of-lt (and _ _ (first _)) (lit< tt) }
 
 mul-result-2 : tie.Need-mul-result-2
-mul-result-2 c = rw (c .pre) (search needs)
+mul-result-2 c = record { fits = lt-of-le-of-lt (one _ _) (lit< tt) }
 
 add-result-2 : tie.Need-add-result-2
-add-result-2 c = rw (c .pre) (search needs)
-
-array-read-result-4 : tie.Need-array-read-result-4
-array-read-result-4 c = search needs
-
-div-result-4 : tie.Need-div-result-4
-div-result-4 c = rw (c .pre) (search needs)
+add-result-2 c = record { fits = lt-of-le-of-lt (and _ _ (and _ _ (first _))) (lit< tt) }
 
 mul-result-3 : tie.Need-mul-result-3
-mul-result-3 c = rw (c .pre) (search needs)
+mul-result-3 c = record { fits = lt-of-le-of-lt (one _ _) (lit< tt) }
 
 add-result-3 : tie.Need-add-result-3
-add-result-3 c = rw (c .pre) (search needs)
-
-array-read-result-5 : tie.Need-array-read-result-5
-array-read-result-5 c = search needs
-
-div-result-5 : tie.Need-div-result-5
-div-result-5 c = rw (c .pre) (search needs)
+add-result-3 c = record { fits = lt-of-le-of-lt (and _ _ (and _ _ (and _ _ (first _)))) (lit< tt) }
 
 mul-result-4 : tie.Need-mul-result-4
-mul-result-4 c = rw (c .pre) (search needs)
+mul-result-4 c = record { fits = lt-of-le-of-lt (one _ _) (lit< tt) }
 
 add-result-4 : tie.Need-add-result-4
-add-result-4 c = rw (c .pre) (search needs)
-
-array-read-result-6 : tie.Need-array-read-result-6
-array-read-result-6 c = search needs
-
-div-result-6 : tie.Need-div-result-6
-div-result-6 c = rw (c .pre) (search needs)
+add-result-4 c = record { fits = lt-of-le-of-lt (and _ _ (and _ _ (and _ _ (and _ _ (first _))))) (lit< tt) }
 
 mul-result-5 : tie.Need-mul-result-5
-mul-result-5 c = rw (c .pre) (search needs)
+mul-result-5 c = record { fits = lt-of-le-of-lt (one _ _) (lit< tt) }
 
 add-result-5 : tie.Need-add-result-5
-add-result-5 c = rw (c .pre) (search needs)
-
-array-read-result-7 : tie.Need-array-read-result-7
-array-read-result-7 c = search needs
-
-div-result-7 : tie.Need-div-result-7
-div-result-7 c = rw (c .pre) (search needs)
+add-result-5 c = record { fits = lt-of-le-of-lt (and _ _ (and _ _ (and _ _ (and _ _ (and _ _ (first _)))))) (lit< tt) }
 
 mul-result-6 : tie.Need-mul-result-6
-mul-result-6 c = rw (c .pre) (search needs)
+mul-result-6 c = record { fits = lt-of-le-of-lt (one _ _) (lit< tt) }
 
 add-result-6 : tie.Need-add-result-6
-add-result-6 c = rw (c .pre) (search needs)
-
-array-read-result-8 : tie.Need-array-read-result-8
-array-read-result-8 c = search needs
-
-div-result-8 : tie.Need-div-result-8
-div-result-8 c = rw (c .pre) (search needs)
+add-result-6 c = record { fits = lt-of-le-of-lt (and _ _ (and _ _ (and _ _ (and _ _ (and _ _ (and _ _ (first _))))))) (lit< tt) }
 
 mul-result-7 : tie.Need-mul-result-7
-mul-result-7 c = rw (c .pre) (search needs)
+mul-result-7 c = record { fits = lt-of-le-of-lt (one _ _) (lit< tt) }
 
 add-result-7 : tie.Need-add-result-7
-add-result-7 c = rw (c .pre) (search needs)
+add-result-7 c = record { fits = lt-of-le-of-lt (and _ _ (and _ _ (and _ _ (and _ _ (and _ _ (and _ _ (and _ _ (first _)))))))) (lit< tt) }
 
 returns : tie.Need-returns
 unfolding returned weighed
-returns c = rw (c .pre) (search needs)
+returns c = returned-sum _ _ _ _ _ _ _ _
 
 pub give-back-spec : {M : Type 1} → statement M
 give-back-spec =
     tie.close
     (tie.spec
-    array-read-result
-    div-result
-    array-read-result-2
-    div-result-2
     mul-result
     add-result
-    array-read-result-3
-    div-result-3
     mul-result-2
     add-result-2
-    array-read-result-4
-    div-result-4
     mul-result-3
     add-result-3
-    array-read-result-5
-    div-result-5
     mul-result-4
     add-result-4
-    array-read-result-6
-    div-result-6
     mul-result-5
     add-result-5
-    array-read-result-7
-    div-result-7
     mul-result-6
     add-result-6
-    array-read-result-8
-    div-result-8
     mul-result-7
     add-result-7
     returns)

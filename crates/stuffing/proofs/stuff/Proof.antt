@@ -2,11 +2,10 @@
 -- the measure is what is left of the body. Assumes nothing.
 use mathlib.Core.Path.{sym, _∙_, ap}
 use Prim.Native.Nat.{_-_}
-use native.Mathlib.Omega.{arith}
 use lib.ListN.{length}
-use borrow.Author.Needs.{needs}
 use Rattle.stuffing.specs.Outcomes.{stuff-no-room, stuff-done}
 use Rattle.stuffing.specs.declared.Stuffed.the-variants.{Done}
+use Rattle.stuffing.proofs.Places.{next, less, doubled, halved}
 use Rattle.stuffing.proofs.Written.{Written, written-length, has-room, written-none, written-more, written-all}
 use Rattle.stuffing.proofs.stuff.Statement.{statement}
 use Rattle.stuffing.proofs.stuff.Tie as tie
@@ -19,35 +18,35 @@ abbrev μ-loop : tie.MeasureT-loop
 
 returns : tie.Need-returns Inv-loop μ-loop
 returns c =
-    let told = stuff-no-room (c .before .before .before .args .body .now) (c .before .before .before .args .out .now) (omega arith) in (sym (told .0), sym (told .1))
+    let told = stuff-no-room (c .before .before .before .args .body .now) (c .before .before .before .args .out .now) (halved (c .if1 .taken)) in (sym (told .0), sym (told .1))
 
 loop-holds : tie.Need-loop-holds Inv-loop μ-loop
-loop-holds c = written-none _ _ (omega arith)
+loop-holds c = written-none _ _ (doubled (c .if1 .left))
 
 shared-slice-read-write-byte : tie.Need-shared-slice-read-write-byte Inv-loop μ-loop
-shared-slice-read-write-byte c = search needs
+shared-slice-read-write-byte c = c .before .before .loop-test .taken
 
 write-byte-requires : tie.Need-write-byte-requires Inv-loop μ-loop
-write-byte-requires c κs = has-room _ _ (omega arith) _ _ _ (c .before .before .before .loop .inv) (omega arith)
+write-byte-requires c κs = has-room _ _ (doubled (c .before .before .before .before .if1 .left)) _ _ _ (c .before .before .before .loop .inv) (c .before .before .loop-test .taken)
 
 add-i : tie.Need-add-i Inv-loop μ-loop
-add-i c = search needs
+add-i c = record { fits = next (c .before .before .before .before .before .loop-test .taken) (c .before .before .before .before .before .before .before .before .before .before .good .0 .0) }
 
 loop-less : tie.Need-loop-less Inv-loop μ-loop
-loop-less c = search needs
+loop-less c = less (c .before .before .before .before .before .loop-test .taken)
 
 loop-again : tie.Need-loop-again Inv-loop μ-loop
 loop-again c =
-    written-more _ _ (omega arith) _ _ _ _ _ (c .before .before .before .before .before .before .loop .inv) (omega arith)
+    written-more _ _ (doubled (c .before .before .before .before .before .before .before .if1 .left)) _ _ _ _ _ (c .before .before .before .before .before .before .loop .inv) (c .before .before .before .before .before .loop-test .taken)
     (c .before .before .write-byte .ensures .0) (c .before .before .write-byte .ensures .1)
 
 same-length : tie.Need-same-length Inv-loop μ-loop
-same-length c = written-length _ _ (omega arith) _ _ _ (c .before .loop .inv)
+same-length c = written-length _ _ (doubled (c .before .before .if1 .left)) _ _ _ (c .before .loop .inv)
 
 returns-2 : tie.Need-returns-2 Inv-loop μ-loop
 returns-2 c =
-    let done = written-all _ _ (omega arith) _ _ _ (c .before .loop .inv) (omega arith) in
-    let told = stuff-done (c .before .before .before .before .before .args .body .now) (c .before .before .before .before .before .args .out .now) (omega arith) in
+    let done = written-all _ _ (doubled (c .before .before .if1 .left)) _ _ _ (c .before .loop .inv) (c .loop-test .left) in
+    let told = stuff-done (c .before .before .before .before .before .args .body .now) (c .before .before .before .before .before .args .out .now) (doubled (c .before .before .if1 .left)) in
     (ap Done (done .0) ∙ sym (told .0), done .1 ∙ sym (told .1))
 
 pub stuff-spec : {M : Type 1} → statement M

@@ -1,10 +1,10 @@
 -- `write_body` meets its promise. The invariant: after i bytes of the stretch the first k bytes of the body are written and the
 -- rest of the body is what is left (`Unwound`); the measure is what is left of the stretch. Assumes nothing.
 use Prim.Native.Nat.{_-_}
-use native.Mathlib.Omega.{arith}
 use lib.ListN.{length}
 use borrow.Author.Needs.{needs}
-use Rattle.stuffing.proofs.Unstuffing.{Unwound, unwound-length, unwound-none, unwound-more, fits, unwound-open, unwound-all, inside, opening, plainly}
+use Rattle.stuffing.proofs.Places.{next, less}
+use Rattle.stuffing.proofs.Unstuffing.{Unwound, unwound-length, unwound-none, unwound-more, fits, fits-counted, unwound-open, unwound-all, inside, opening, plainly}
 use Rattle.stuffing.proofs.write_body.Statement.{statement}
 use Rattle.stuffing.proofs.write_body.Tie as tie
 
@@ -18,7 +18,7 @@ loop-holds : tie.Need-loop-holds Inv-loop μ-loop
 loop-holds c = unwound-none _ _ (c .before .before .pre)
 
 shared-slice-read-b : tie.Need-shared-slice-read-b Inv-loop μ-loop
-shared-slice-read-b c = search needs
+shared-slice-read-b c = c .before .loop-test .taken
 
 meaning-requires : tie.Need-meaning-requires Inv-loop μ-loop
 meaning-requires c κs = search needs
@@ -29,20 +29,15 @@ slice-write-out c =
     (inside _ _ (c .before .before .before .loop-test .taken) _ (c .before .if1 .taken))
 
 add-k : tie.Need-add-k Inv-loop μ-loop
-add-k c =
-    omega (
-      arith,
-      fits _ _ (c .before .before .before .before .before .before .before .pre) _ _ _ _ _ (c .before .before .before .before .loop .inv)
-          (inside _ _ (c .before .before .before .loop-test .taken) _ (c .before .if1 .taken)),
-      unwound-length _ _ (c .before .before .before .before .before .before .before .pre) (c .before .before .before .before .loop .inv),
-      c .before .before .before .before .before .before .before .good .1 .0,
-    )
+add-k c = record {
+  fits = fits-counted _ _ (c .before .before .before .before .before .before .before .pre) _ _ _ _ _ (c .before .before .before .before .loop .inv) (inside _ _ (c .before .before .before .loop-test .taken) _ (c .before .if1 .taken)) (c .before .before .before .before .before .before .before .good .1 .0 .0);
+}
 
 add-i : tie.Need-add-i Inv-loop μ-loop
-add-i c = search needs
+add-i c = record { fits = next (c .before .before .before .loop-test .taken) (c .before .before .before .before .before .before .before .good .0 .0) }
 
 loop-less : tie.Need-loop-less Inv-loop μ-loop
-loop-less c = search needs
+loop-less c = less (c .before .before .before .loop-test .taken)
 
 loop-again : tie.Need-loop-again Inv-loop μ-loop
 loop-again c =
@@ -51,10 +46,10 @@ loop-again c =
     (c .before .before .before .loop-test .taken) (inside _ _ (c .before .before .before .loop-test .taken) _ (c .before .if1 .taken)))
 
 add-i-2 : tie.Need-add-i-2 Inv-loop μ-loop
-add-i-2 c = search needs
+add-i-2 c = record { fits = next (c .before .before .before .loop-test .taken) (c .before .before .before .before .before .before .before .good .0 .0) }
 
 loop-less-2 : tie.Need-loop-less-2 Inv-loop μ-loop
-loop-less-2 c = search needs
+loop-less-2 c = less (c .before .before .before .loop-test .taken)
 
 loop-again-2 : tie.Need-loop-again-2 Inv-loop μ-loop
 loop-again-2 c =
@@ -68,20 +63,15 @@ slice-write-out-2 c =
     (plainly _ _ (c .before .before .before .loop-test .taken) _ (c .before .if1 .left) (c .if2 .left))
 
 add-k-2 : tie.Need-add-k-2 Inv-loop μ-loop
-add-k-2 c =
-    omega (
-      arith,
-      fits _ _ (c .before .before .before .before .before .before .before .pre) _ _ _ _ _ (c .before .before .before .before .loop .inv)
-          (plainly _ _ (c .before .before .before .loop-test .taken) _ (c .before .if1 .left) (c .if2 .left)),
-      unwound-length _ _ (c .before .before .before .before .before .before .before .pre) (c .before .before .before .before .loop .inv),
-      c .before .before .before .before .before .before .before .good .1 .0,
-    )
+add-k-2 c = record {
+  fits = fits-counted _ _ (c .before .before .before .before .before .before .before .pre) _ _ _ _ _ (c .before .before .before .before .loop .inv) (plainly _ _ (c .before .before .before .loop-test .taken) _ (c .before .if1 .left) (c .if2 .left)) (c .before .before .before .before .before .before .before .good .1 .0 .0);
+}
 
 add-i-3 : tie.Need-add-i-3 Inv-loop μ-loop
-add-i-3 c = search needs
+add-i-3 c = record { fits = next (c .before .before .before .loop-test .taken) (c .before .before .before .before .before .before .before .good .0 .0) }
 
 loop-less-3 : tie.Need-loop-less-3 Inv-loop μ-loop
-loop-less-3 c = search needs
+loop-less-3 c = less (c .before .before .before .loop-test .taken)
 
 loop-again-3 : tie.Need-loop-again-3 Inv-loop μ-loop
 loop-again-3 c =
@@ -94,7 +84,7 @@ same-length : tie.Need-same-length Inv-loop μ-loop
 same-length c = unwound-length _ _ (c .before .before .before .before .pre) (c .before .loop .inv)
 
 returns : tie.Need-returns Inv-loop μ-loop
-returns c = unwound-all _ _ (c .before .before .before .before .pre) _ _ _ _ (c .before .loop .inv) (omega arith)
+returns c = unwound-all _ _ (c .before .before .before .before .pre) _ _ _ _ (c .before .loop .inv) (c .loop-test .left)
 
 pub write-body-spec : {M : Type 1} → statement M
 write-body-spec =

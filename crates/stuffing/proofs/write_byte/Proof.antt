@@ -1,23 +1,24 @@
 -- `write_byte` meets its promise: the two tests of `stuffByte`, and one store or two. Assumes nothing.
 use native.Mathlib.Numerals.{add-one}
-use native.Mathlib.Omega.{arith}
+use native.Mathlib.Nat.{lt-of-le-of-lt}
 use lib.ListN.{length-set}
 use borrow.Author.Tests.{eq-eqb, ne-eqb}
 use borrow.Author.Needs.{needs}
+use Rattle.stuffing.proofs.Places.{next, first, second}
 use Rattle.stuffing.proofs.write_byte.Statement.{statement}
 use Rattle.stuffing.proofs.write_byte.Tie as tie
 
 slice-write-out : tie.Need-slice-write-out
-slice-write-out c = search needs
+slice-write-out c = first (c .before .pre)
 
 add-out : tie.Need-add-out
-add-out c = search needs
+add-out c = record { fits = next (first (c .before .pre)) (c .before .good .0 .0) }
 
 slice-write-out-2 : tie.Need-slice-write-out-2
-slice-write-out-2 c = simp length-set (omega arith)
+slice-write-out-2 c = simp length-set (second _ (c .before .pre))
 
 add-result : tie.Need-add-result
-add-result c = search needs
+add-result c = record { fits = lt-of-le-of-lt (c .before .pre) (c .before .good .0 .0) }
 
 same-length : tie.Need-same-length
 same-length c = search needs
@@ -26,16 +27,16 @@ returns : tie.Need-returns
 returns c = (rw (eq-eqb _ _ (c .if1 .taken)), rw (eq-eqb _ _ (c .if1 .taken), add-one))
 
 slice-write-out-3 : tie.Need-slice-write-out-3
-slice-write-out-3 c = search needs
+slice-write-out-3 c = first (c .before .before .pre)
 
 add-out-2 : tie.Need-add-out-2
-add-out-2 c = search needs
+add-out-2 c = record { fits = next (first (c .before .before .pre)) (c .before .before .good .0 .0) }
 
 slice-write-out-4 : tie.Need-slice-write-out-4
-slice-write-out-4 c = simp length-set (omega arith)
+slice-write-out-4 c = simp length-set (second _ (c .before .before .pre))
 
 add-result-2 : tie.Need-add-result-2
-add-result-2 c = search needs
+add-result-2 c = record { fits = lt-of-le-of-lt (c .before .before .pre) (c .before .before .good .0 .0) }
 
 same-length-2 : tie.Need-same-length-2
 same-length-2 c = search needs
@@ -45,10 +46,10 @@ returns-2 c =
     (rw (ne-eqb _ _ (c .before .if1 .left), eq-eqb _ _ (c .if2 .taken)), rw (ne-eqb _ _ (c .before .if1 .left), eq-eqb _ _ (c .if2 .taken), add-one))
 
 slice-write-out-5 : tie.Need-slice-write-out-5
-slice-write-out-5 c = search needs
+slice-write-out-5 c = first (c .before .before .pre)
 
 add-result-3 : tie.Need-add-result-3
-add-result-3 c = search needs
+add-result-3 c = record { fits = next (first (c .before .before .pre)) (c .before .before .good .0 .0) }
 
 same-length-3 : tie.Need-same-length-3
 same-length-3 c = search needs
