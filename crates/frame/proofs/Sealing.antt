@@ -7,13 +7,8 @@ use lib.ListN.{length, take, drop}
 use Rattle.lists.specs.Buffers.{over}
 use Rattle.lists.specs.Over.{over-whole, take-over}
 use Rattle.ingage.specs.declared.Sealed.the-variants as sealed-is
-<<<<<<< HEAD
 use Rattle.cipher.specs.Instances.{first}
-use Rattle.ingage.specs.Answers.{sealCall}
-=======
-use Rattle.ingage.specs.Instances.{first}
 use Rattle.ingage.specs.Answers.{SealCall, sealCall}
->>>>>>> body
 use Rattle.ingage.specs.Exactly.{sealed-within}
 use Rattle.body.specs.Fields.{associated}
 use Rattle.body.specs.Lengths.{associatedLength, longestBody, length-associated}

@@ -8,7 +8,7 @@ use lib.ListN.{replicate}
 use borrow.Author.Needs.{needs}
 use Rattle.lists.specs.Buffers.{over}
 use Rattle.line.specs.Lines.{longest}
-use Rattle.ingage.specs.Cipher.{Work}
+use Rattle.cipher.specs.Cipher.{Work}
 use Rattle.body.specs.Fields.{sealLength, associated}
 use Rattle.body.specs.Lengths.{longestBody}
 use Rattle.frame.specs.Told.{Told, told}
