@@ -10,7 +10,7 @@ use borrow.Author.Tests.{eq-eqb}
 use Rattle.line.specs.Lines.{longest}
 use Rattle.stream.specs.Stretches.{span, nextSpan}
 use Rattle.stream.specs.Places.{Next, nothing, something, next-cases}
-use Rattle.frame.specs.Told.{told}
+use Rattle.framing.specs.Told.{told}
 use Rattle.reader.specs.declared.Answer.{Answer}
 use Rattle.reader.specs.declared.Answer.the-variants as answer-is
 use Rattle.judging.specs.Sizes.{Sizes}

@@ -16,8 +16,8 @@ use Rattle.stream.specs.Stretches.{span, bytesAt}
 use Rattle.stream.specs.Meaning.{Stretch}
 use Rattle.frame.specs.declared.Written.{Written}
 use Rattle.frame.specs.declared.Written.the-variants as written-is
-use Rattle.frame.specs.Told.{told}
-use Rattle.frame.specs.Frames.{sealedBody, framed, frameOf}
+use Rattle.framing.specs.Told.{told}
+use Rattle.framing.specs.Frames.{sealedBody, framed, frameOf}
 use Rattle.reader.specs.declared.Answer.{Answer}
 use Rattle.reader.specs.declared.Answer.the-variants as answer-is
 use Rattle.judging.specs.Sizes.{Sizes}

@@ -7,7 +7,7 @@ use Prim.Native.Nat.{ℕ, zero, suc, _-_, _≤_}
 use native.Mathlib.Numerals.{unary-clauses}
 use native.Mathlib.Omega.{arith}
 use lib.ListN.{length, take, drop, length-take}
-use Rattle.frame.specs.Told.{told}
+use Rattle.framing.specs.Told.{told}
 use Rattle.reader.specs.declared.Answer.{Answer}
 use Rattle.judging.specs.Sizes.{Sizes}
 use Rattle.judging.specs.Resync.{Mark}

@@ -23,10 +23,10 @@ use Rattle.stream.specs.Shift.{next-frame, next-frame-bytes}
 use Rattle.body.specs.Fields.{nonceLength, digestLength}
 use Rattle.frame.specs.declared.Written.the-variants as written-is
 use Rattle.frame.specs.declared.Written as written
-use Rattle.frame.specs.Told.{Told, told}
-use Rattle.frame.specs.Frames.{sealedLine, sealedBody, framed, frameOf}
-use Rattle.frame.specs.Answers.{keyLength, frameRoom, WriteCall, framedCall, writeCall}
-use Rattle.frame.specs.Lengths.{besideLine, length-framed, stretch-some, write-calls}
+use Rattle.framing.specs.Told.{Told, told, keyLength}
+use Rattle.framing.specs.Frames.{sealedLine, sealedBody, framed, frameOf}
+use Rattle.framing.specs.Lengths.{frameRoom, besideLine, length-framed, stretch-some, write-calls}
+use Rattle.frame.specs.Answers.{WriteCall, framedCall, writeCall}
 use Rattle.frame.specs.Outcomes.{Accepts, done-accepts, write-done}
 use Rattle.reader.specs.declared.Answer.{Answer}
 use Rattle.reader.specs.declared.Answer.the-variants as answer-is

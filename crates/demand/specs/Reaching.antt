@@ -10,7 +10,7 @@ use Rattle.line.specs.Lines.{longest}
 use Rattle.stream.specs.declared.Span.{Span}
 use Rattle.stream.specs.Stretches.{bytesAt, nextSpan, nextStretch}
 use Rattle.stream.specs.Places as places
-use Rattle.frame.specs.Told.{told}
+use Rattle.framing.specs.Told.{told}
 use Rattle.reader.specs.declared.Answer.{Answer}
 use Rattle.reader.specs.declared.Answer.the-variants as answer-is
 use Rattle.judging.specs.Sizes.{Sizes}

@@ -14,7 +14,7 @@ use Rattle.stream.specs.declared.Span.{Span}
 use Rattle.stream.specs.Stretches.{nextSpan, nextStretch}
 use Rattle.stream.specs.Places.{next-within, next-after}
 use Rattle.stream.specs.Shift.{Alike, moved, next-moved, next-shift}
-use Rattle.frame.specs.Told.{Told, told}
+use Rattle.framing.specs.Told.{Told, told}
 use Rattle.reader.specs.declared.Answer.the-variants as answer-is
 use Rattle.judging.specs.Judged.{Judged, shape, stuffing, font, seal, unlisted, line, numberIn, lineIn, callsIn}
 use Rattle.judging.specs.Judging.{judge}

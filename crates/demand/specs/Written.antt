@@ -20,9 +20,9 @@ use Rattle.body.specs.Fields.{nonceLength, shortest, fields, fieldsOf, body, as
 use Rattle.body.specs.Lengths.{Sized}
 use Rattle.body.specs.Places.{nonce-at, nonceAt}
 use Rattle.body.specs.OneToOne.{fields-body, body-fields}
-use Rattle.frame.specs.Told.{Told}
-use Rattle.frame.specs.Frames.{sealedLine, sealedBody, framed, frameOf}
-use Rattle.frame.specs.Lengths.{besideLine, sealed-sized, stretch-within, write-calls}
+use Rattle.framing.specs.Told.{Told}
+use Rattle.framing.specs.Frames.{sealedLine, sealedBody, framed, frameOf}
+use Rattle.framing.specs.Lengths.{besideLine, sealed-sized, stretch-within, write-calls}
 use Rattle.frame.specs.Outcomes.{Accepts}
 use Rattle.judging.specs.Sizes.{Sizes}
 use Rattle.judging.specs.Judged.{line}

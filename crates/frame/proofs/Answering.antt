@@ -12,10 +12,10 @@ use Rattle.line.specs.declared.Judged.the-variants.{Accepted}
 use Rattle.frame.specs.Outcomes.{write-done}
 use Rattle.frame.specs.declared.Written.{Written}
 use Rattle.frame.specs.declared.Written.the-variants.{Done}
-use Rattle.frame.specs.Told.{Told}
-use Rattle.frame.specs.Frames.{sealedBody, framed, frameOf}
-use Rattle.frame.specs.Lengths.{Sealable, besideLine, length-sealed-body, sealed-body-lengths, write-calls}
-use Rattle.frame.specs.Answers.{WriteCall, frameRoom, framedCall, writeCall}
+use Rattle.framing.specs.Told.{Told}
+use Rattle.framing.specs.Frames.{sealedBody, framed, frameOf}
+use Rattle.framing.specs.Lengths.{Sealable, besideLine, length-sealed-body, sealed-body-lengths, write-calls, frameRoom}
+use Rattle.frame.specs.Answers.{WriteCall, framedCall, writeCall}
 
 pub met : {x : WriteCall} {r : Written} {o : List ℕ} → x ≡ record { answer = r; frame = o } → (r ≡ x .answer) × (o ≡ x .frame)
 met e = (sym (ap (λ (x : WriteCall). x .answer) e), sym (ap (λ (x : WriteCall). x .frame) e))

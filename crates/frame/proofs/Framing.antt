@@ -14,7 +14,7 @@ use Rattle.stuffing.specs.Stuffing.{mark, stuffed}
 use Rattle.stuffing.specs.Lengths.{stuffed-at-most}
 use Rattle.stuffing.specs.Answers.{stuffAnswer, stuffOut}
 use Rattle.stuffing.specs.Outcomes.{stuff-done}
-use Rattle.frame.specs.Frames.{framed}
+use Rattle.framing.specs.Frames.{framed}
 
 module _ (b o : List ℕ) (room : 2 * length b + 2 ≤ length o) where
   -- the buffer with its first mark, and the part behind that

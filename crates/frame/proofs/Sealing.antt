@@ -14,9 +14,9 @@ use Rattle.body.specs.Fields.{associated}
 use Rattle.body.specs.Lengths.{associatedLength, longestBody, length-associated}
 use Rattle.putting.specs.Answers.{associatedOut, putOut}
 use Rattle.putting.specs.Outcomes.{associated-done, put-done}
-use Rattle.frame.specs.Told.{Told}
-use Rattle.frame.specs.Frames.{sealedLine, sealedBody}
-use Rattle.frame.specs.Lengths.{Sealable, length-cipher, sealed-sized, sealed-body-lengths}
+use Rattle.framing.specs.Told.{Told}
+use Rattle.framing.specs.Frames.{sealedLine, sealedBody}
+use Rattle.framing.specs.Lengths.{Sealable, length-cipher, sealed-sized, sealed-body-lengths}
 
 module _ {t : Told} {nonce line : List ℕ} (z : Sealable t nonce line) where
   -- a scratch of its own length holds the associated data whole

@@ -12,16 +12,9 @@ use Rattle.line.specs.declared.Judged.the-variants as line-is
 use Rattle.body.specs.Fields.{nonceLength, digestLength, shortest}
 use Rattle.frame.specs.declared.Written.{Written}
 use Rattle.frame.specs.declared.Written.the-variants as written-is
-use Rattle.frame.specs.Told.{Told}
-use Rattle.frame.specs.Frames.{sealedLine, frameOf}
-
--- the length of a key in bytes (document 01, number 2)
-abbrev pub keyLength : ℕ
-keyLength = 16
-
--- the room that a frame asks for, whatever its own length (document 01, number 4)
-abbrev pub frameRoom : ℕ
-frameRoom = 276
+use Rattle.framing.specs.Told.{Told, keyLength}
+use Rattle.framing.specs.Frames.{sealedLine, frameOf}
+use Rattle.framing.specs.Lengths.{frameRoom}
 
 -- number 2: key, nonce and font digest of 16, 12 and 32 bytes
 unfoldable pub sizesRight : Told → List ℕ → Bool

@@ -14,10 +14,10 @@ use Rattle.line.specs.declared.Judged.{Judged}
 use Rattle.line.specs.declared.Judged.the-variants as line-is
 use Rattle.body.specs.Fields.{nonceLength, digestLength, shortest}
 use Rattle.frame.specs.declared.Written.the-variants.{Done, Sizes, TooLong, Unlisted, NoRoom}
-use Rattle.frame.specs.Told.{Told}
-use Rattle.frame.specs.Frames.{frameOf}
-use Rattle.frame.specs.Answers.{keyLength, frameRoom, sizesRight, lengthRight, WriteCall, refused, byRule, framedCall, writeCall, lengthOf, countOf}
-use Rattle.frame.specs.Lengths.{Sealable, besideLine, write-calls}
+use Rattle.framing.specs.Told.{Told, keyLength}
+use Rattle.framing.specs.Frames.{frameOf}
+use Rattle.framing.specs.Lengths.{frameRoom, Sealable, besideLine, write-calls}
+use Rattle.frame.specs.Answers.{sizesRight, lengthRight, WriteCall, refused, byRule, framedCall, writeCall, lengthOf, countOf}
 
 never : {X : Type 0} → false ≡ true → X
 never e = absurd (let z : _≡_ {A = ℕ} 0 1 = cc e in omega arith)

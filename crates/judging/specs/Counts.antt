@@ -9,8 +9,8 @@ use lib.ListN.{length}
 use Rattle.cipher.specs.Results.{open-calls-first}
 use Rattle.body.specs.Fields.{associated}
 use Rattle.body.specs.Lengths.{length-associated}
-use Rattle.frame.specs.Told.{Told}
-use Rattle.frame.specs.Lengths.{besideLine}
+use Rattle.framing.specs.Told.{Told}
+use Rattle.framing.specs.Lengths.{besideLine}
 use Rattle.judging.specs.Sizes.{Sizes}
 use Rattle.judging.specs.Judged.{Judged, callsIn}
 use Rattle.judging.specs.Judging.{judge}

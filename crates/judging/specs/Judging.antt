@@ -14,7 +14,7 @@ use Rattle.line.specs.Lines.{lineRule}
 use Rattle.cipher.specs.Instances.{first}
 use Rattle.cipher.specs.Cipher.{Work, decrypted}
 use Rattle.body.specs.Fields.{Fields, fields, no-body, fieldsOf, associated}
-use Rattle.frame.specs.Told.{Told}
+use Rattle.framing.specs.Told.{Told}
 use Rattle.judging.specs.Judged.{Judged, shape, stuffing, font, seal, unlisted, line}
 
 -- by the rule of a line: 9

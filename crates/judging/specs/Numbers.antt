@@ -14,7 +14,7 @@ use Rattle.line.specs.Lines.{lineRule}
 use Rattle.cipher.specs.Cipher.{Work}
 use Rattle.body.specs.Fields.{Fields, fields, no-body, fieldsOf}
 use Rattle.body.specs.Answers.{judged, judgeNumber}
-use Rattle.frame.specs.Told.{Told}
+use Rattle.framing.specs.Told.{Told}
 use Rattle.judging.specs.Judged.{Judged, numberIn}
 use Rattle.judging.specs.Judging.{byRule, judgeSealed, judgeFields, judge}
 use Rattle.judging.specs.Cases.{Stuffed, Holds, Case, opening, judge-case, judge-fields, judge-holds, too-long, bad-stuffing, no-fields, other-font, other-seal, not-listed, given}

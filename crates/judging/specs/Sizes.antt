@@ -1,9 +1,8 @@
 -- What the reader is told, with its sizes (document 01, number 2). Assumes nothing: these are definitions.
 use mathlib.Core.Path.{_≡_}
 use lib.ListN.{length}
-use Rattle.frame.specs.Answers.{keyLength}
+use Rattle.framing.specs.Told.{keyLength, Told}
 use Rattle.body.specs.Fields.{digestLength}
-use Rattle.frame.specs.Told.{Told}
 
 -- key and font digest have their sizes
 pub record Sizes (t : Told) : Type 0 where

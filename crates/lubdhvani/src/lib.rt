@@ -12,7 +12,7 @@ ghost use Rattle.cipher.specs.Instances.{first};
 ghost use Rattle.ingage.specs.Answers.{sealCall, openCall, sealNumber, sealCount, openNumber, openCount};
 ghost use Rattle.frame.specs.Answers.{writeCall};
 ghost use Rattle.frame.specs.Answers as writing;
-ghost use Rattle.frame.specs.Told.{told};
+ghost use Rattle.framing.specs.Told.{told};
 ghost use Rattle.reader.specs.Answers.{readAnswer, readOut};
 ghost use Rattle.reader.specs.Answers as reading;
 ghost use Rattle.stream.specs.Stretches.{nextSpan};

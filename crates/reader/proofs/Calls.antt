@@ -9,12 +9,10 @@ use Rattle.stream.specs.declared.Span.{Span}
 use Rattle.stream.specs.Stretches.{bytesAt, nextSpan, nextStretch}
 use Rattle.stream.specs.Places.{Within, next-within, next-equal}
 use Rattle.line.specs.Lines.{longest}
-use Rattle.frame.specs.Answers.{keyLength}
+use Rattle.framing.specs.Told.{keyLength, Told, told}
 use Rattle.body.specs.Fields.{digestLength}
 use Rattle.reader.specs.declared.Answer.{Answer}
 use Rattle.reader.specs.declared.Answer.the-variants as answer-is
-use Rattle.frame.specs.Told.{Told}
-use Rattle.frame.specs.Told.{told}
 use Rattle.judging.specs.Sizes.{Sizes}
 use Rattle.judging.specs.Judging.{judge}
 use Rattle.reader.specs.Answers.{longestStream, sizedTold, Found, call, stretch, found, answer, buffer, answerAt, lineOver, readAnswer, readOut}

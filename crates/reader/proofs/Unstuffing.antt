@@ -13,7 +13,7 @@ use Rattle.stuffing.specs.RoundTrip.{stuff-unstuff}
 use Rattle.stuffing.specs.Answers.{unstuffAnswer, unstuffOut}
 use Rattle.stuffing.specs.Outcomes.{Outcome, too-long, bad, no-room, done, unstuff-outcome}
 use Rattle.body.specs.Fields.{fieldsOf}
-use Rattle.frame.specs.Told.{Told}
+use Rattle.framing.specs.Told.{Told}
 use Rattle.judging.specs.Judged.{shape, stuffing}
 use Rattle.judging.specs.Judging.{judgeFields, judge}
 use Rattle.judging.specs.Cases.{judge-too-long, judge-bad, judge-fields}

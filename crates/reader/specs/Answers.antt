@@ -9,11 +9,10 @@ use Rattle.lists.specs.Buffers.{over}
 use Rattle.stream.specs.declared.Span.{Span}
 use Rattle.stream.specs.Stretches.{nextSpan, nextStretch}
 use Rattle.line.specs.Lines.{longest}
-use Rattle.frame.specs.Answers.{keyLength}
+use Rattle.framing.specs.Told.{keyLength, Told}
 use Rattle.body.specs.Fields.{digestLength}
 use Rattle.reader.specs.declared.Answer.{Answer}
 use Rattle.reader.specs.declared.Answer.the-variants as answer-is
-use Rattle.frame.specs.Told.{Told}
 use Rattle.judging.specs.Judged.{Judged, shape, stuffing, font, seal, unlisted, line}
 use Rattle.judging.specs.Readings.{ends}
 use Rattle.judging.specs.Judging.{judge}

@@ -10,7 +10,7 @@ ghost use Rattle.ingage.specs.Exactly.{Within};
 ghost use Rattle.body.specs.Fields.{fieldsOf};
 ghost use Rattle.judging.specs.Judging.{judgeSealed, judgeFields, judge};
 ghost use Rattle.reader.specs.Answers.{answerAt, lineOver, readAnswer, readOut};
-ghost use Rattle.frame.specs.Told.{told};
+ghost use Rattle.framing.specs.Told.{told};
 ghost use Rattle.judging.specs.Sizes.{Sizes};
 use body::ASSOCIATED_AT;
 use body::CIPHER_AT;

@@ -15,7 +15,7 @@ use denote.Ref.{now}
 use denote.Triple.Entry.{Args}
 use denote.Triple.Clauses.{AtExit}
 use Rattle.reader.specs.Answers.{readAnswer, readOut, closingOf}
-use Rattle.frame.specs.Told.{told}
+use Rattle.framing.specs.Told.{told}
 use Rattle.reader.specs.declared.Answer.{Answer}
 use Rattle.walker.specs.declared.Walker.{Walker}
 use Rattle.walker.proofs.new as new

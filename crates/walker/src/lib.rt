@@ -2,7 +2,7 @@
 // Its answers are those of `read` from that place; `after` says where it stands next.
 ghost use mathlib.Core.Path.{_≡_};
 ghost use Rattle.reader.specs.Answers.{readAnswer, readOut, closingOf};
-ghost use Rattle.frame.specs.Told.{told};
+ghost use Rattle.framing.specs.Told.{told};
 use reader::Answer;
 use reader::read;
 use values::closing_of;

@@ -4,7 +4,7 @@ use native.Mathlib.Omega.{arith}
 use lib.ListN.{length, length-set}
 use borrow.Author.Needs.{needs}
 use Rattle.frame.proofs.Framing.{stuffs, filled, length-filled, length-closed, closed, never-refused}
-use Rattle.frame.specs.Lengths.{length-framed}
+use Rattle.framing.specs.Lengths.{length-framed}
 use Rattle.stuffing.specs.Lengths.{stuffed-at-most}
 use Rattle.stuffing.specs.Stuffing.{stuffed}
 use Rattle.stuffing.specs.declared.Stuffed.the-variants as stuffed-is

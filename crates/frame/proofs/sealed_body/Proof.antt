@@ -11,8 +11,8 @@ use Rattle.line.specs.Lines.{longest}
 use Rattle.cipher.specs.Cipher.{Work}
 use Rattle.body.specs.Fields.{sealLength, associated}
 use Rattle.body.specs.Lengths.{longestBody}
-use Rattle.frame.specs.Told.{Told, told}
-use Rattle.frame.specs.Frames.{sealedBody, sealedLine}
+use Rattle.framing.specs.Told.{Told, told}
+use Rattle.framing.specs.Frames.{sealedBody, sealedLine}
 use Rattle.frame.proofs.Sealing.{associated-put, sealed-text, sealed-seal, body-put}
 use Rattle.frame.proofs.sealed_body.Statement.{statement}
 use Rattle.frame.proofs.sealed_body.Tie as tie

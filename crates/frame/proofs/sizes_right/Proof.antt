@@ -1,7 +1,8 @@
 -- `sizes_right` meets its promise: the three tests of `sizesRight` one after the other. Assumes nothing.
 use lib.ListN.{length}
 use borrow.Author.Tests.{eq-eqb, ne-eqb}
-use Rattle.frame.specs.Answers.{keyLength, sizesRight}
+use Rattle.framing.specs.Told.{keyLength}
+use Rattle.frame.specs.Answers.{sizesRight}
 use Rattle.body.specs.Fields.{nonceLength}
 use Rattle.frame.proofs.sizes_right.Statement.{statement}
 use Rattle.frame.proofs.sizes_right.Tie as tie

@@ -7,12 +7,12 @@ use borrow.Author.Tests.{not-true, not-false}
 use borrow.Author.Needs.{needs}
 use Rattle.frame.specs.Outcomes.{right-sealable, write-sizes, write-too-long, write-unlisted, write-no-room}
 use Rattle.frame.proofs.Answering.{met, scratch-holds, frame-fits, framed-met}
-use Rattle.frame.specs.Lengths.{Sealable}
-use Rattle.frame.specs.Frames.{sealedBody}
+use Rattle.framing.specs.Lengths.{Sealable}
+use Rattle.framing.specs.Frames.{sealedBody}
 use Rattle.line.specs.declared.Judged.the-variants as line-is
 use Rattle.body.specs.Lengths.{besideCipher}
 use Rattle.line.specs.Lines.{lineRule}
-use Rattle.frame.specs.Told.{Told, told}
+use Rattle.framing.specs.Told.{Told, told}
 use Rattle.frame.proofs.write.Statement.{statement}
 use Rattle.frame.proofs.write.Tie as tie
 

@@ -4,7 +4,7 @@ use Rattle.reader.proofs.Parts.{Parts, parts, no-fields, other-font, it
 use Rattle.reader.proofs.Shown.{shown, passed}
 use Rattle.judging.specs.Judging.{judgeFields}
 use Rattle.judging.specs.Judged.{shape, font}
-use Rattle.frame.specs.Told.{told}
+use Rattle.framing.specs.Told.{told}
 use Rattle.body.specs.Fields.{fieldsOf}
 use Rattle.lists.specs.Below.{below-all}
 use borrow.Author.Tests.{not-true, not-false}

@@ -4,7 +4,7 @@ use Rattle.reader.proofs.Unstuffing.{told-long, told-bad, told-small, t
 use Rattle.reader.proofs.Shown.{shown, passed}
 use Rattle.judging.specs.Judging.{judge}
 use Rattle.judging.specs.Judged.{shape, stuffing}
-use Rattle.frame.specs.Told.{told}
+use Rattle.framing.specs.Told.{told}
 use Rattle.stream.specs.Stretches.{span}
 use mathlib.Core.Path.{sym, _∙_}
 use native.Mathlib.Omega.{arith}

@@ -44,7 +44,7 @@ use denote.Triple.Walked.{says, Stays, stay-dropped, gave-slice, walkOf, goes-dr
 use denote.Exit.{yes}
 use denote.Triple.Clauses.{ensured, lasts}
 use Rattle.reader.specs.Answers.{readAnswer, readOut}
-use Rattle.frame.specs.Told.{told}
+use Rattle.framing.specs.Told.{told}
 use Rattle.reader.specs.declared.Answer.{Answer}
 use Rattle.reader.proofs.Answer as S
 use Rattle.reader.proofs.Answer.Laws as S′

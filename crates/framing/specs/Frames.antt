@@ -6,7 +6,7 @@ use Rattle.cipher.specs.Instances.{first}
 use Rattle.cipher.specs.Cipher.{Work, encrypted}
 use Rattle.body.specs.Fields.{body, associated}
 use Rattle.stuffing.specs.Stuffing.{mark, stuffed}
-use Rattle.frame.specs.Told.{Told}
+use Rattle.framing.specs.Told.{Told}
 
 -- the line sealed: its ciphertext, the seal, and the calls of the permutation
 unfoldable pub sealedLine : Told → List ℕ → List ℕ → Work

@@ -9,3 +9,7 @@ pub record Told : Type 0 where
 
 abbrev pub told : List ℕ → List ℕ → Told
 told key font = record { key = key; font = font }
+
+-- the length of a key in bytes (document 01, number 2)
+abbrev pub keyLength : ℕ
+keyLength = 16

@@ -12,13 +12,16 @@ use Rattle.body.specs.Fields.{nonceLength, digestLength, shortest, associated}
 use Rattle.body.specs.Lengths.{Sized, length-associated, length-body, besideCipher, shortestBody, longestBody}
 use Rattle.stuffing.specs.Stuffing.{longestStretch, stuffed}
 use Rattle.stuffing.specs.Lengths.{stuffed-at-most, stuffed-at-least}
-use Rattle.frame.specs.Told.{Told}
-use Rattle.frame.specs.Frames.{sealedLine, sealedBody, framed, frameOf}
-use Rattle.frame.specs.Answers.{keyLength, frameRoom}
+use Rattle.framing.specs.Told.{Told, keyLength}
+use Rattle.framing.specs.Frames.{sealedLine, sealedBody, framed, frameOf}
 
 -- what the writer counts for a line of n bytes is n + 39 (document 01, 'Numbers returned')
 abbrev pub besideLine : ℕ
 besideLine = 39
+
+-- the room that a frame asks for, whatever its own length (document 01, number 4)
+abbrev pub frameRoom : ℕ
+frameRoom = 276
 
 -- the shortest frame: two marks and the shortest body with no byte escaped
 abbrev pub shortestFrame : ℕ

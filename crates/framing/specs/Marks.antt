@@ -10,9 +10,9 @@ use lib.Seq.{getD-at}
 use Rattle.lists.specs.Free.{free-at}
 use Rattle.stuffing.specs.Stuffing.{mark, stuffed}
 use Rattle.stuffing.specs.Marks.{stuffed-free}
-use Rattle.frame.specs.Told.{Told}
-use Rattle.frame.specs.Frames.{sealedBody, framed, frameOf}
-use Rattle.frame.specs.Lengths.{length-framed}
+use Rattle.framing.specs.Told.{Told}
+use Rattle.framing.specs.Frames.{sealedBody, framed, frameOf}
+use Rattle.framing.specs.Lengths.{length-framed}
 
 pub framed-opens : (b : List ℕ) → getD (framed b) 0 0 ≡ mark
 unfolding framed

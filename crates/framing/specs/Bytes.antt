@@ -9,9 +9,9 @@ use Rattle.body.specs.Fields.{associated}
 use Rattle.body.specs.Bytes.{associated-below, body-below}
 use Rattle.stuffing.specs.Stuffing.{mark, stuffed}
 use Rattle.stuffing.specs.Bytes.{stuffed-below}
-use Rattle.frame.specs.Told.{Told}
-use Rattle.frame.specs.Frames.{sealedLine, sealedBody, framed, frameOf}
-use Rattle.frame.specs.Lengths.{Sealable, sealed-sized}
+use Rattle.framing.specs.Told.{Told}
+use Rattle.framing.specs.Frames.{sealedLine, sealedBody, framed, frameOf}
+use Rattle.framing.specs.Lengths.{Sealable, sealed-sized}
 
 pub framed-below : (b : List ℕ) → Below 256 b → Below 256 (framed b)
 unfolding framed

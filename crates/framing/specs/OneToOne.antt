@@ -9,9 +9,9 @@ use Rattle.body.specs.Fields.{body, fields}
 use Rattle.body.specs.OneToOne.{body-one-to-one}
 use Rattle.stuffing.specs.Stuffing.{mark, stuffed}
 use Rattle.stuffing.specs.RoundTrip.{stuffed-one-to-one}
-use Rattle.frame.specs.Told.{Told}
-use Rattle.frame.specs.Frames.{sealedLine, sealedBody, framed, frameOf}
-use Rattle.frame.specs.Lengths.{Sealable, length-framed, sealed-sized}
+use Rattle.framing.specs.Told.{Told}
+use Rattle.framing.specs.Frames.{sealedLine, sealedBody, framed, frameOf}
+use Rattle.framing.specs.Lengths.{Sealable, length-framed, sealed-sized}
 
 -- what stands between a frame's first byte and its last
 unfoldable pub between : List ℕ → List ℕ

@@ -1,0 +1,6 @@
+pub mod Told
+pub mod Frames
+pub mod Lengths
+pub mod Marks
+pub mod Bytes
+pub mod OneToOne
