@@ -1,5 +1,5 @@
 // The writer (document 01, 'A frame and a stream'): a line sealed, put in a body, stuffed and set between two marks.
-// The promise cites specs/Answers.antt; the paper's words stand in specs/Frames.antt.
+// The promise cites specs/Answers.antt; the paper's words stand in framing/specs/Frames.antt.
 ghost use mathlib.Core.Path.{_≡_};
 ghost use Prim.Native.Nat.{_+_, _*_, _≤_};
 ghost use lib.ListN.{length, replicate};

@@ -81,6 +81,12 @@ fn goes_on(answer: Answer) -> bool {
     }
 }
 
+// The next stretch itself: where its first byte stands, and its length.
+fn part(stream: &[u8], from: usize) {
+    cell(stream::next_span(stream, from).first);
+    cell(stream::next_stretch(stream, from).len());
+}
+
 // One reading and its row.
 fn row(
     name: &[u8],
@@ -94,6 +100,7 @@ fn row(
     say(name);
     say(b" ");
     cell(from);
+    part(stream, from);
     cell(values::first_of(answer));
     cell(values::closing_of(answer));
     number(answer);

@@ -11,7 +11,7 @@ pub mod permute;
 mod seal;
 mod sound;
 pub mod stream;
-pub mod stretch;
+mod stretch;
 mod told;
 
 use std::fs;
@@ -52,7 +52,6 @@ pub fn all() -> Vec<Rows> {
         Rows::printed("permute_rows", permute::rows()),
         Rows::of_cases("seal_rows", sealings, seal_rows),
         Rows::of_cases("stream_rows", readings, stream_rows),
-        Rows::printed("stretch_rows", stretch::rows()),
     ]
 }
 

@@ -4,8 +4,9 @@
 use std::fmt::Write;
 use std::ops::Range;
 
-use super::{damage, in_bytes, limit, sound, told};
+use super::{damage, in_bytes, limit, sound, stretch, told};
 use crate::numbers::{DIGEST, KEY, LINE_MOST};
+use crate::stream::next_stretch;
 
 /// A stream, the place to start from, and the lengths of line buffer, key and
 /// font digest. A case has a name of its own, or its number.
@@ -87,11 +88,14 @@ impl Case {
         loop {
             let (reading, line) =
                 told::reading(self.key, self.digest, &self.stream, start, self.room);
+            let part = next_stretch(&self.stream, start);
             writeln!(
                 rows,
-                "{} {} {} {} {} {} {} {}",
+                "{} {} {} {} {} {} {} {} {} {}",
                 name,
                 start,
+                part.first,
+                part.length,
                 reading.first,
                 reading.closing,
                 told::number(&reading),
@@ -124,10 +128,12 @@ fn longest_run(bytes: &[u8]) -> Range<usize> {
     longest
 }
 
-/// Document 01's own cases first, then the damaged streams and the limits.
+/// Document 01's own cases first, then the damaged streams, small streams from
+/// every place, and the limits.
 fn cases() -> Vec<Case> {
     let mut cases = sound::cases();
     cases.extend(damage::cases());
+    cases.extend(stretch::cases());
     cases.extend(limit::cases());
     cases
 }
@@ -154,7 +160,7 @@ mod tests {
         assert!(stdin.len() < 250_000);
         let numbers: Vec<&str> = rows
             .lines()
-            .map(|row| row.split(' ').nth(4).unwrap())
+            .map(|row| row.split(' ').nth(6).unwrap())
             .collect();
         for number in ["0", "2", "3", "4", "5", "6", "7", "8", "9", "10", "end"] {
             let times = numbers.iter().filter(|&&one| one == number).count();
