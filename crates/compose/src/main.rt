@@ -8,7 +8,6 @@ use digest::DIGEST;
 use digest::Digested;
 use files::Loaded;
 use frame::KEY_LENGTH;
-use frame::Written;
 use libc::STDERR_FILENO;
 use libc::STDIN_FILENO;
 use libc::STDOUT_FILENO;
@@ -94,13 +93,14 @@ fn send(frame: &[u8], which: u64) {
 fn seal_line(line: &[u8], nonce: &[u8], which: u64, key: &[u8], font: &[u8]) {
     let mut frame = [0u8; frame::FRAME_ROOM];
     let written = frame::write(key, nonce, font, line, &mut frame);
-    match written {
-        Written::Done { length, calls: _ } => {
-            if length <= frame.len() {
-                send(&frame[0..length], which);
-            }
-        }
-        _ => report(which, values::written_number(written) as u64),
+    let number = values::written_number(written);
+    if number != 0 {
+        report(which, number as u64);
+        return;
+    }
+    let length = values::written_length(written);
+    if length <= frame.len() {
+        send(&frame[0..length], which);
     }
 }
 
