@@ -1,7 +1,6 @@
 -- `gather` meets its promise: no sum of bits with their weights is over a byte (`one`, `and`), and the sum from the left is the
--- definition's from the right (`gathered-sum`). Assumes nothing.
-use Rattle.shuffling.proofs.Summing.{one, and, gathered-sum}
-use Rattle.shuffling.specs.Shuffling.{gathered, weighed}
+-- definition's from the right (`gathered-left`). Assumes nothing.
+use Rattle.shuffling.proofs.Summing.{one, and, gathered-left}
 use native.Mathlib.Nat.{lt-of-le-of-lt}
 use lib.Dec.{lit<}
 use Rattle.shuffling.proofs.gather.Statement.{statement}
@@ -53,8 +52,7 @@ add-result-7 : tie.Need-add-result-7
 add-result-7 c = record { fits = lt-of-le-of-lt (and _ _ (and _ _ (and _ _ (and _ _ (and _ _ (and _ _ (and _ _ (one _ _)))))))) (lit< tt) }
 
 returns : tie.Need-returns
-unfolding gathered weighed
-returns c = gathered-sum _ _ _ _ _ _ _ _ _
+returns c = gathered-left (c .args .a) (c .args .b) (c .args .c) (c .args .d) (c .args .e) (c .args .f) (c .args .g) (c .args .h)
 
 pub gather-spec : {M : Type 1} → statement M
 gather-spec =

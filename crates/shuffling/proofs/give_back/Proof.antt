@@ -1,7 +1,6 @@
 -- `give_back` meets its promise: no sum of bits with their weights is over a byte (`first`, `one`, `and`), and the sum from the left
--- is the definition's from the right (`returned-sum`). Assumes nothing.
-use Rattle.shuffling.proofs.Summing.{first, one, and, returned-sum}
-use Rattle.shuffling.specs.Shuffling.{returned, weighed}
+-- is the definition's from the right (`returned-left`). Assumes nothing.
+use Rattle.shuffling.proofs.Summing.{first, one, and, returned-left}
 use native.Mathlib.Nat.{lt-of-le-of-lt}
 use lib.Dec.{lit<}
 use Rattle.shuffling.proofs.give_back.Statement.{statement}
@@ -50,8 +49,7 @@ add-result-7 : tie.Need-add-result-7
 add-result-7 c = record { fits = lt-of-le-of-lt (and _ _ (and _ _ (and _ _ (and _ _ (and _ _ (and _ _ (and _ _ (first _)))))))) (lit< tt) }
 
 returns : tie.Need-returns
-unfolding returned weighed
-returns c = returned-sum _ _ _ _ _ _ _ _
+returns c = returned-left (c .args .a) (c .args .b) (c .args .c) (c .args .d) (c .args .e) (c .args .f) (c .args .g) (c .args .h)
 
 pub give-back-spec : {M : Type 1} → statement M
 give-back-spec =
