@@ -26,13 +26,13 @@ fn print(n: u64) {
 }
 
 // A row of a refused stretch.
-fn refused(t: Tally, first: usize, closing: usize, number: u64) -> Tally {
-    print(first as u64);
+fn refused(t: Tally, answer: Answer) -> Tally {
+    print(values::first_of(answer) as u64);
     say(b" ");
-    print(number);
+    print(values::number_of(answer) as u64);
     say(b"\n");
     Tally {
-        next: closing,
+        next: values::closing_of(answer),
         lines: t.lines,
         refused: std::num::wrapping_add_u64(t.refused, 1),
         ended: false,
@@ -40,15 +40,16 @@ fn refused(t: Tally, first: usize, closing: usize, number: u64) -> Tally {
 }
 
 // A row of a line.
-fn line_row(t: Tally, first: usize, closing: usize, line: &[u8], length: usize) -> Tally {
-    print(first as u64);
+fn line_row(t: Tally, answer: Answer, line: &[u8]) -> Tally {
+    let length = values::length_of(answer);
+    print(values::first_of(answer) as u64);
     say(b" 0 ");
     if length <= line.len() {
         say(&line[0..length]);
     }
     say(b"\n");
     Tally {
-        next: closing,
+        next: values::closing_of(answer),
         lines: std::num::wrapping_add_u64(t.lines, 1),
         refused: t.refused,
         ended: false,
@@ -64,33 +65,28 @@ fn ended(t: Tally) -> Tally {
     }
 }
 
+// Whether an answer is of a stretch: no refusal of the call, and not the end.
+fn is_stretch(answer: Answer) -> bool {
+    match answer {
+        Answer::Sizes(_) => false,
+        Answer::TooLong(_) => false,
+        Answer::NoRoom(_) => false,
+        Answer::Beyond(_) => false,
+        Answer::End(_) => false,
+        _ => true,
+    }
+}
+
 // One reading and its row.
 fn one(stream: &[u8], key: &[u8], font: &[u8], line: &mut [u8], t: Tally) -> Tally {
-    let from = t.next;
-    let answer = reader::read(stream, from, key, font, line);
-    let number = values::number_of(answer) as u64;
-    match answer {
-        Answer::Line {
-            first,
-            closing,
-            length,
-            calls: _,
-        } => line_row(t, first, closing, line, length),
-        Answer::Shape { first, closing } => refused(t, first, closing, number),
-        Answer::Stuffing { first, closing } => refused(t, first, closing, number),
-        Answer::Font { first, closing } => refused(t, first, closing, number),
-        Answer::Seal {
-            first,
-            closing,
-            calls: _,
-        } => refused(t, first, closing, number),
-        Answer::Unlisted {
-            first,
-            closing,
-            calls: _,
-        } => refused(t, first, closing, number),
-        _ => ended(t),
+    let answer = reader::read(stream, t.next, key, font, line);
+    if !is_stretch(answer) {
+        return ended(t);
     }
+    if values::number_of(answer) == 0 {
+        return line_row(t, answer, line);
+    }
+    refused(t, answer)
 }
 
 // Every stretch of the stream, and the last row. Each reading ends further on, so as many turns as the stream has bytes are enough.
