@@ -1,27 +1,37 @@
 -- A known answer, so that the definitions are held to a value that was not worked out from them: the second program's, which is written
 -- from the papers alone (tests/second; the row `seal 1 1` of crates/seal_rows/stdout). Assumes nothing.
 use mathlib.Core.Path.{_≡_, refl}
-use mathlib.Core.List.{List, [], _∷_}
+use mathlib.Core.Bool.{true}
+use mathlib.Core.List.{List, [], _∷_, _++_}
 use Prim.Native.Nat.{ℕ}
+use Rattle.lists.specs.Buffers.{same}
+use Rattle.lists.specs.Sameness.{same-eq}
 use Rattle.cells.specs.Cells.{cells, bytes, follow, substitute}
 use Rattle.shuffling.specs.Shuffling.{listed, weighed, shuffledByte, shuffle}
 use Rattle.gage.specs.Permutation.{leaders, turns, permuteBy, permute}
 use Rattle.sponge.specs.Padding.{padded, block}
 use Rattle.sponge.specs.Absorbing.{xored}
 use Rattle.cipher.specs.Instances.{first}
-use Rattle.cipher.specs.Cipher.{marked, keyed, started, associatedBlock, absorbing, absorbed, begun, encrypting, finished, sealOf, encrypted}
+use Rattle.cipher.specs.Cipher.{Work, marked, keyed, started, associatedBlock, absorbing, absorbed, begun, encrypting, finished, sealOf, encrypted}
 
-abbrev key : List ℕ
+abbrev pub key : List ℕ
 key = 0x00 ∷ 0x01 ∷ 0x02 ∷ 0x03 ∷ 0x04 ∷ 0x05 ∷ 0x06 ∷ 0x07 ∷ 0x08 ∷ 0x09 ∷ 0x0A ∷ 0x0B ∷ 0x0C ∷ 0x0D ∷ 0x0E ∷ 0x0F ∷ []
 
-abbrev nonce : List ℕ
+abbrev pub nonce : List ℕ
 nonce = 0xA0 ∷ 0xA1 ∷ 0xA2 ∷ 0xA3 ∷ 0xA4 ∷ 0xA5 ∷ 0xA6 ∷ 0xA7 ∷ 0xA8 ∷ 0xA9 ∷ 0xAA ∷ 0xAB ∷ []
 
 -- one byte of associated data and one of message: each is a whole block and is followed by one more
-pub known-answer : encrypted first key nonce (0x01 ∷ []) (0x02 ∷ []) ≡ record {
-  text = 0xF3 ∷ [];
-  seal = 0x12 ∷ 0x44 ∷ 0x7D ∷ 0xDD ∷ 0xCF ∷ 0x17 ∷ 0x5A ∷ 0x29 ∷ 0xF1 ∷ 0x34 ∷ 0xF8 ∷ 0xDF ∷ 0xBB ∷ 0x92 ∷ 0xB2 ∷ 0x5E ∷ [];
-  calls = 6;
-}
-unfolding encrypted sealOf finished encrypting begun absorbed absorbing associatedBlock started keyed marked block padded xored permute permuteBy turns leaders substitute cells bytes follow shuffle shuffledByte weighed listed
-known-answer = refl
+abbrev pub answer : Work
+answer = encrypted first key nonce (0x01 ∷ []) (0x02 ∷ [])
+
+abbrev pub known : List ℕ
+known = 0xF3 ∷ 0x12 ∷ 0x44 ∷ 0x7D ∷ 0xDD ∷ 0xCF ∷ 0x17 ∷ 0x5A ∷ 0x29 ∷ 0xF1 ∷ 0x34 ∷ 0xF8 ∷ 0xDF ∷ 0xBB ∷ 0x92 ∷ 0xB2 ∷ 0x5E ∷ []
+
+-- compared byte by byte, so that a wrong definition is found out at its first wrong byte
+tested : same (answer .text ++ answer .seal) known ≡ true
+unfolding same encrypted sealOf finished encrypting begun absorbed absorbing associatedBlock started keyed marked block padded xored permute permuteBy turns leaders substitute cells bytes follow shuffle shuffledByte weighed listed
+tested = refl
+
+-- the ciphertext and the seal behind it
+pub known-answer : answer .text ++ answer .seal ≡ known
+known-answer = same-eq (answer .text ++ answer .seal) known tested
