@@ -65,22 +65,10 @@ fn ended(t: Tally) -> Tally {
     }
 }
 
-// Whether an answer is of a stretch: no refusal of the call, and not the end.
-fn is_stretch(answer: Answer) -> bool {
-    match answer {
-        Answer::Sizes(_) => false,
-        Answer::TooLong(_) => false,
-        Answer::NoRoom(_) => false,
-        Answer::Beyond(_) => false,
-        Answer::End(_) => false,
-        _ => true,
-    }
-}
-
-// One reading and its row.
+// One reading and its row. The two places of a stretch differ; those of the end, and of a call that is refused, do not.
 fn one(stream: &[u8], key: &[u8], font: &[u8], line: &mut [u8], t: Tally) -> Tally {
     let answer = reader::read(stream, t.next, key, font, line);
-    if !is_stretch(answer) {
+    if values::first_of(answer) == values::closing_of(answer) {
         return ended(t);
     }
     if values::number_of(answer) == 0 {

@@ -17,11 +17,14 @@ ghost use Rattle.reader.specs.Answers.{readAnswer, readOut};
 ghost use Rattle.reader.specs.Answers as reading;
 ghost use Rattle.stream.specs.Stretches.{nextSpan};
 ghost use Rattle.lubdhvani.specs.Calls.{LARGEST-NUMBER, permuteNumber, permuteState};
-use digest::Digested;
 use gage::Answer;
 use gage::LARGEST;
-use ingage::Opened;
-use ingage::Sealed;
+use numbers::digest_count;
+use numbers::digest_number;
+use numbers::open_count;
+use numbers::open_number;
+use numbers::seal_count;
+use numbers::seal_number;
 
 // A state of at most LARGEST bytes at the start of a whole one.
 fn widened(state: &[u8]) -> [u8; LARGEST]
@@ -66,29 +69,6 @@ pub extern "C" fn lubdhvani_unpermute(state: &mut [u8]) -> u32
     gage::number(answer)
 }
 
-// Document 01's number and the count of a digest's answer.
-fn digest_number(answer: Digested) -> u32
-    ensures { λ r. ⌜ r ≡ hashing.numberOf answer ⌝ }
-{
-    match answer {
-        Digested::Done(_) => 0,
-        Digested::Instance => 1,
-        Digested::TooLong => 3,
-        Digested::NoRoom => 4,
-    }
-}
-
-fn digest_count(answer: Digested) -> usize
-    ensures { λ r. ⌜ r ≡ hashing.countOf answer ⌝ }
-{
-    match answer {
-        Digested::Done(calls) => calls,
-        Digested::Instance => 0,
-        Digested::TooLong => 0,
-        Digested::NoRoom => 0,
-    }
-}
-
 // The digest of a message.
 #[no_mangle]
 pub extern "C" fn lubdhvani_digest(
@@ -122,29 +102,6 @@ pub extern "C" fn lubdhvani_next_stretch(
     *closing = span.closing;
 }
 
-// Document 01's number and the count of a sealing's answer.
-fn seal_number(answer: Sealed) -> u32
-    ensures { λ r. ⌜ r ≡ sealNumber answer ⌝ }
-{
-    match answer {
-        Sealed::Done(_) => 0,
-        Sealed::Sizes => 2,
-        Sealed::TooLong => 3,
-        Sealed::NoRoom => 4,
-    }
-}
-
-fn seal_count(answer: Sealed) -> usize
-    ensures { λ r. ⌜ r ≡ sealCount answer ⌝ }
-{
-    match answer {
-        Sealed::Done(calls) => calls,
-        Sealed::Sizes => 0,
-        Sealed::TooLong => 0,
-        Sealed::NoRoom => 0,
-    }
-}
-
 // Seals a message.
 #[no_mangle]
 pub extern "C" fn lubdhvani_seal(
@@ -164,31 +121,6 @@ pub extern "C" fn lubdhvani_seal(
     let answer = ingage::seal(key, nonce, associated, message, out, seal);
     *calls = seal_count(answer);
     seal_number(answer)
-}
-
-// Document 01's number and the count of an opening's answer.
-fn open_number(answer: Opened) -> u32
-    ensures { λ r. ⌜ r ≡ openNumber answer ⌝ }
-{
-    match answer {
-        Opened::Done(_) => 0,
-        Opened::Sizes => 2,
-        Opened::TooLong => 3,
-        Opened::NoRoom => 4,
-        Opened::Seal(_) => 5,
-    }
-}
-
-fn open_count(answer: Opened) -> usize
-    ensures { λ r. ⌜ r ≡ openCount answer ⌝ }
-{
-    match answer {
-        Opened::Done(calls) => calls,
-        Opened::Sizes => 0,
-        Opened::TooLong => 0,
-        Opened::NoRoom => 0,
-        Opened::Seal(calls) => calls,
-    }
 }
 
 // Opens a ciphertext.

@@ -92,22 +92,17 @@ fn answered(number: usize, count: usize) -> Outcome {
 }
 
 fn of_seal(answer: Sealed) -> Outcome {
-    match answer {
-        Sealed::Done(count) => answered(0, count),
-        Sealed::Sizes => answered(2, 0),
-        Sealed::TooLong => answered(3, 0),
-        Sealed::NoRoom => answered(4, 0),
-    }
+    answered(
+        numbers::seal_number(answer) as usize,
+        numbers::seal_count(answer),
+    )
 }
 
 fn of_open(answer: Opened) -> Outcome {
-    match answer {
-        Opened::Done(count) => answered(0, count),
-        Opened::Sizes => answered(2, 0),
-        Opened::TooLong => answered(3, 0),
-        Opened::NoRoom => answered(4, 0),
-        Opened::Seal(count) => answered(5, count),
-    }
+    answered(
+        numbers::open_number(answer) as usize,
+        numbers::open_count(answer),
+    )
 }
 
 fn of_write(answer: Written) -> Outcome {

@@ -69,18 +69,6 @@ fn number(answer: Answer) {
     }
 }
 
-// Whether reading goes on after an answer: after a stretch, and not after the end or a refusal of the call.
-fn goes_on(answer: Answer) -> bool {
-    match answer {
-        Answer::Sizes(_) => false,
-        Answer::TooLong(_) => false,
-        Answer::NoRoom(_) => false,
-        Answer::Beyond(_) => false,
-        Answer::End(_) => false,
-        _ => true,
-    }
-}
-
 // The next stretch itself: where its first byte stands, and its length.
 fn part(stream: &[u8], from: usize) {
     cell(stream::next_span(stream, from).first);
@@ -110,14 +98,15 @@ fn row(
     answer
 }
 
-// All readings of a case. Each ends further on, so one more than the stream has bytes is enough.
+// All readings of a case. Each ends further on, so one more than the stream has bytes is enough. The two places of a stretch differ; those
+// of the end, and of a call that is refused, do not: nothing is read after these.
 fn case_rows(name: &[u8], stream: &[u8], place: usize, key: &[u8], font: &[u8], line: &mut [u8]) {
     let mut from = place;
     let mut turns: u64 = 70000;
     while turns > 0 {
         let answer = row(name, stream, from, key, font, line);
         from = values::closing_of(answer);
-        if goes_on(answer) {
+        if values::first_of(answer) < from {
             turns -= 1;
         } else {
             turns = 0;

@@ -20,8 +20,8 @@ row-requires c κs = search needs
 closing-of-requires : tie.Need-closing-of-requires Inv-loop μ-loop
 closing-of-requires c κs = search needs
 
-goes-on-requires : tie.Need-goes-on-requires Inv-loop μ-loop
-goes-on-requires c κs = search needs
+first-of-requires : tie.Need-first-of-requires Inv-loop μ-loop
+first-of-requires c κs = search needs
 
 sub-turns : tie.Need-sub-turns Inv-loop μ-loop
 sub-turns c = search needs
@@ -53,7 +53,7 @@ case-rows-spec =
     loop-holds
     row-requires
     closing-of-requires
-    goes-on-requires
+    first-of-requires
     sub-turns
     loop-less
     loop-again
