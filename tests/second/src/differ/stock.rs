@@ -1,5 +1,5 @@
-//! Sealed texts and frames to choose from. Sealing is slow here, so a stock is
-//! made once for every `SERVES` calls, from the seed and its own number alone.
+//! Sealed texts and frames to choose from. Sealing takes longer than most calls, so
+//! a stock is made once for every `SERVES` calls, from the seed and its own number alone.
 
 use crate::chance::Chance;
 use second::cipher::{encrypt, INSTANCE_1};
