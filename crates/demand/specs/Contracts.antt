@@ -6,13 +6,13 @@ use borrow.Fn.Kinds.{Dens, endedOf}
 use Rattle.frame.specs.declared.Written.{Written}
 use Rattle.frame.proofs.write.Kinds as write-kinds
 use Rattle.frame.proofs.write.Reads as write-reads
-use Rattle.reader.specs.declared.Answer.{Answer}
+use Rattle.reader.specs.declared.Reading.{Reading}
 use Rattle.reader.proofs.read.Kinds as read-kinds
 use Rattle.reader.proofs.read.Reads as read-reads
 use Rattle.demand.specs.Promises.{Reads, Writes}
 
 -- the arguments are stream, place, key, font digest and line buffer
-pub read-promises : (κs : Lfts 4) (a : Dens κs read-kinds.ps) (r : Answer) (x : AtExit (endedOf 4 read-kinds.ps read-kinds.r) κs)
+pub read-promises : (κs : Lfts 4) (a : Dens κs read-kinds.ps) (r : Reading) (x : AtExit (endedOf 4 read-kinds.ps read-kinds.r) κs)
     → read-reads.Post κs a r x
     → Reads (a .1 .1 .0 .now) (a .1 .1 .1 .0 .now) (a .0 .now) (a .1 .0) (a .1 .1 .1 .1 .0 .now) r (x .1 .1 .1 .1 .0 .now)
 read-promises κs a r x p = p

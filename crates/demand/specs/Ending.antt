@@ -11,10 +11,10 @@ use Rattle.line.specs.Lines.{longest}
 use Rattle.stream.specs.Stretches.{span, nextSpan}
 use Rattle.stream.specs.Places.{Next, nothing, something, next-cases}
 use Rattle.framing.specs.Told.{told}
-use Rattle.reader.specs.declared.Answer.{Answer}
+use Rattle.reader.specs.declared.Reading.{Reading}
 use Rattle.reader.specs.declared.Answer.the-variants as answer-is
 use Rattle.judging.specs.Sizes.{Sizes}
-use Rattle.reader.specs.Answers.{longestStream, call, found, answer, closingOf}
+use Rattle.reader.specs.Answers.{longestStream, call, found, readingOf}
 use Rattle.demand.specs.Promises.{Reads, isEnd, Seen, seenFrom, Run, none, next}
 use Rattle.demand.specs.Resync.{sized}
 use Rattle.demand.specs.GivenWritten.{told-sized}
@@ -30,15 +30,15 @@ pub record Ends (key font s : List ℕ) (from : ℕ) (seen : List Seen) : Type 0
 
 module _ (key font s : List ℕ) (z : Sizes (told key font)) (h : length s ≤ longestStream) where
   end-seen : (from : ℕ) → from ≤ length s → nextSpan s from ≡ span (length s) (length s)
-      → (l : List ℕ) (r : Answer) (l′ : List ℕ) → longest ≤ length l → Reads key font s from l r l′ → isEnd r ≡ true
+      → (l : List ℕ) (r : Reading) (l′ : List ℕ) → longest ≤ length l → Reads key font s from l r l′ → isEnd (r .answer) ≡ true
   end-seen from f e l r l′ g p =
       let t = told key font in
-      let q : found t s from (length l) ≡ call (answer-is.End (length s)) =
+      let q : found t s from (length l) ≡ call (length s) answer-is.End =
       sized t s from (length l) h g f (told-sized t (z .key-is) (z .font-is)) ∙ rw (e, eq-eqb (length s) (length s) refl) in
-      ap isEnd (p .0 ∙ ap answer q)
+      ap (λ (x : Reading). isEnd (x .answer)) (p .0 ∙ ap readingOf q)
 
-  end-on : (from : ℕ) → from ≤ length s → (r : Answer) (l l′ : List ℕ) (rest : List Seen) → longest ≤ length l → Reads key font s from l r l′
-      → (from < closingOf r → closingOf r < length s → Ends key font s (closingOf r) rest)
+  end-on : (from : ℕ) → from ≤ length s → (r : Reading) (l l′ : List ℕ) (rest : List Seen) → longest ≤ length l → Reads key font s from l r l′
+      → (from < r .closing → r .closing < length s → Ends key font s (r .closing) rest)
       → Next s from (nextSpan s from) → Ends key font s from (seenFrom 0 r l′ ∷ rest)
   end-on from f r l l′ rest g p on (nothing e no-one) = record {
     to-end = seenFrom 0 r l′ ∷ [];
@@ -51,7 +51,7 @@ module _ (key font s : List ℕ) (z : Sizes (told key font)) (h : length s ≤ l
       let y = stretch-seen key font s z h from f x l r l′ g p in
       one-more (y .1) (on (rw (y .0) (omega (arith, x .later, x .stretch .some))) (rw (y .0) (x .stretch .ends)))
     where
-      one-more : isEnd r ≡ false → Ends key font s (closingOf r) rest → Ends key font s from (seenFrom 0 r l′ ∷ rest)
+      one-more : isEnd (r .answer) ≡ false → Ends key font s (r .closing) rest → Ends key font s from (seenFrom 0 r l′ ∷ rest)
       one-more e u = record {
         to-end = seenFrom 0 r l′ ∷ u .to-end;
         more = u .more;
@@ -64,4 +64,4 @@ module _ (key font s : List ℕ) (z : Sizes (told key font)) (h : length s ≤ l
       → Run key font s 0 from seen → Ends key font s from seen
   run-ends from f k none = absurd (omega (arith, f, k))
   run-ends from f k (next r l l′ {rest} g p q) =
-      end-on from f r l l′ rest g p (λ a b. run-ends (closingOf r) (omega (arith, b)) (omega (arith, k, a)) q) (next-cases s from)
+      end-on from f r l l′ rest g p (λ a b. run-ends (r .closing) (omega (arith, b)) (omega (arith, k, a)) q) (next-cases s from)

@@ -18,13 +18,12 @@ use Rattle.frame.specs.declared.Written.{Written}
 use Rattle.frame.specs.declared.Written.the-variants as written-is
 use Rattle.framing.specs.Told.{told}
 use Rattle.framing.specs.Frames.{sealedBody, framed, frameOf}
-use Rattle.reader.specs.declared.Answer.{Answer}
-use Rattle.reader.specs.declared.Answer.the-variants as answer-is
+use Rattle.reader.specs.declared.Reading.{Reading}
 use Rattle.judging.specs.Sizes.{Sizes}
 use Rattle.judging.specs.Resync.{Mark}
 use Rattle.reader.specs.Answers.{longestStream}
 use Rattle.demand.specs.Promises.{Reads, Writes, Seen, seenFrom, Run, next}
-use Rattle.demand.specs.GivenWritten.{Made, wrote, frame-read, written-made, written-is-given}
+use Rattle.demand.specs.GivenWritten.{gives, Made, wrote, frame-read, written-made, written-is-given}
 use Rattle.demand.specs.Reaching.{Ended, run-reaches}
 
 -- what is seen of a line given from place p up to place q
@@ -39,10 +38,10 @@ module _ (key font s : List ℕ) (p q : ℕ) (L : List ℕ) (k : ℕ) where
   -- every call from place i gives the line
   abbrev Gives : ℕ → Type 0
   Gives i =
-      (l : List ℕ) (r : Answer) (l′ : List ℕ) → longest ≤ length l → Reads key font s i l r l′
-      → (r ≡ answer-is.Line p q (length L) k) × (l′ ≡ over L l)
+      (l : List ℕ) (r : Reading) (l′ : List ℕ) → longest ≤ length l → Reads key font s i l r l′
+      → (r ≡ gives p q (length L) k) × (l′ ≡ over L l)
 
-  seen-given : (l : List ℕ) → seenFrom 0 (answer-is.Line p q (length L) k) (over L l) ≡ given p q L k
+  seen-given : (l : List ℕ) → seenFrom 0 (gives p q (length L) k) (over L l) ≡ given p q L k
   seen-given l = rw (take-over L l (length L) refl) (simp unary-clauses refl)
 
   at-mark : {i : ℕ} {after : List Seen} → Gives i → Run key font s 0 i after → Ended after

@@ -8,7 +8,7 @@ use native.Mathlib.Numerals.{unary-clauses}
 use native.Mathlib.Omega.{arith}
 use lib.ListN.{length, take, drop, length-take}
 use Rattle.framing.specs.Told.{told}
-use Rattle.reader.specs.declared.Answer.{Answer}
+use Rattle.reader.specs.declared.Reading.{Reading}
 use Rattle.judging.specs.Sizes.{Sizes}
 use Rattle.judging.specs.Resync.{Mark}
 use Rattle.reader.specs.Answers.{longestStream}
@@ -27,7 +27,7 @@ countedFrom i v = record {
   line = v .line;
 }
 
-counted-seen : (i : ℕ) (r : Answer) (l′ : List ℕ) → countedFrom i (seenFrom 0 r l′) ≡ seenFrom i r l′
+counted-seen : (i : ℕ) (r : Reading) (l′ : List ℕ) → countedFrom i (seenFrom 0 r l′) ≡ seenFrom i r l′
 counted-seen i r l′ = simp unary-clauses refl
 
 run-counted : {key font s : List ℕ} {i from : ℕ} {seen : List Seen} → Run key font s 0 from seen → Run key font s i from (map (countedFrom i) seen)

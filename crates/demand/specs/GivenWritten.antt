@@ -29,16 +29,21 @@ use Rattle.framing.specs.Lengths.{frameRoom, besideLine, length-framed, stretch
 use Rattle.frame.specs.Answers.{WriteCall, framedCall, writeCall}
 use Rattle.frame.specs.Outcomes.{Accepts, done-accepts, write-done}
 use Rattle.reader.specs.declared.Answer.{Answer}
+use Rattle.reader.specs.declared.Reading.{Reading}
 use Rattle.reader.specs.declared.Answer.the-variants as answer-is
 use Rattle.judging.specs.Sizes.{Sizes}
 use Rattle.judging.specs.Judged.{Judged, shape, stuffing, seal, unlisted, line}
 use Rattle.judging.specs.Judged as judged-is
 use Rattle.judging.specs.Judging.{judge}
 use Rattle.judging.specs.Readings.{ends}
-use Rattle.reader.specs.Answers.{longestStream, sizedTold, Found, call, stretch, found, answer, buffer, answerAt}
+use Rattle.reader.specs.Answers.{longestStream, sizedTold, Found, call, stretch, found, readingAt, readingOf, buffer, answerOf}
 use Rattle.demand.specs.Promises.{Reads, Writes}
 use Rattle.demand.specs.Resync.{sized}
 use Rattle.demand.specs.Written.{marked, Written, written-given, given-made, made-given}
+
+-- a line of n bytes is given for the stretch at these places, after k calls of the permutation
+abbrev pub gives : ℕ → ℕ → ℕ → ℕ → Reading
+gives first closing n k = readingAt (span first closing) (answer-is.Line n k)
 
 pub told-sized : (t : Told) → length (t .key) ≡ keyLength → length (t .font) ≡ digestLength → sizedTold t ≡ true
 unfolding sizedTold
@@ -96,9 +101,9 @@ module _ (key nonce font L f : List ℕ) (w : written.Written) (f′ : List ℕ)
   unfolding b frameOf
   frame-length = is .long ∙ length-framed b
 
-  pub frame-read : (a c l : List ℕ) (r : Answer) (l′ : List ℕ) → length (a ++ (take n f′ ++ c)) ≤ longestStream → longest ≤ length l
+  pub frame-read : (a c l : List ℕ) (r : Reading) (l′ : List ℕ) → length (a ++ (take n f′ ++ c)) ≤ longestStream → longest ≤ length l
       → Reads key font (a ++ (take n f′ ++ c)) (length a) l r l′
-      → (r ≡ answer-is.Line (length a + 1) (length a + n - 1) (length L) k) × (l′ ≡ over L l)
+      → (r ≡ gives (length a + 1) (length a + n - 1) (length L) k) × (l′ ≡ over L l)
   unfolding b
   frame-read a c l r l′ h g q =
       let t = told key font in
@@ -117,7 +122,7 @@ module _ (key nonce font L f : List ℕ) (w : written.Written) (f′ : List ℕ)
       found-next t (record { key-is = y .key-is; font-is = y .font-is }) s (length a) (length l) h g at there sp (λ u. omega (arith, u))
       ∙ ap (stretch there) j in
       let last : length a + 1 + length (stuffed b) ≡ length a + n - 1 = omega (arith, frame-length) in (
-        q .0 ∙ ap answer found-is ∙ ap (λ (m : ℕ). answer-is.Line (length a + 1) m (length L) k) last,
+        q .0 ∙ ap readingOf found-is ∙ ap (λ (m : ℕ). gives (length a + 1) m (length L) k) last,
         q .1 ∙ ap (λ (x : Found). buffer x l) found-is,
       )
 
@@ -179,53 +184,55 @@ sized-told t = go (eqb (length (t .key)) keyLength) refl
     go false p e = absurd (let z : _≡_ {A = ℕ} 0 1 = cc e in omega arith)
 
 -- a line is given only for a stretch judged so
-answer-line : (u : Span) (j : Judged) (p q n k : ℕ) → answerAt u j ≡ answer-is.Line p q n k
-    → (u ≡ span p q) × (L : List ℕ) × (j ≡ line L k) × (length L ≡ n)
-answer-line u (line L m) p q n k e =
-    let a : u .first ≡ p = cc e in
-    let b : u .closing ≡ q = cc e in
+answer-line : (j : Judged) (n k : ℕ) → answerOf j ≡ answer-is.Line n k → (L : List ℕ) × (j ≡ line L k) × (length L ≡ n)
+answer-line (line L m) n k e =
     let c : m ≡ k = cc e in
     let d : length L ≡ n = cc e in
-    (ap₂ span a b, L, ap (line L) c, d)
-answer-line u shape p q n k e = absurd (let z : _≡_ {A = ℕ} 0 1 = cc e in omega arith)
-answer-line u stuffing p q n k e = absurd (let z : _≡_ {A = ℕ} 0 1 = cc e in omega arith)
-answer-line u judged-is.font p q n k e = absurd (let z : _≡_ {A = ℕ} 0 1 = cc e in omega arith)
-answer-line u (seal m) p q n k e = absurd (let z : _≡_ {A = ℕ} 0 1 = cc e in omega arith)
-answer-line u (unlisted m) p q n k e = absurd (let z : _≡_ {A = ℕ} 0 1 = cc e in omega arith)
+    (L, ap (line L) c, d)
+answer-line shape n k e = absurd (let z : _≡_ {A = ℕ} 0 1 = cc e in omega arith)
+answer-line stuffing n k e = absurd (let z : _≡_ {A = ℕ} 0 1 = cc e in omega arith)
+answer-line judged-is.font n k e = absurd (let z : _≡_ {A = ℕ} 0 1 = cc e in omega arith)
+answer-line (seal m) n k e = absurd (let z : _≡_ {A = ℕ} 0 1 = cc e in omega arith)
+answer-line (unlisted m) n k e = absurd (let z : _≡_ {A = ℕ} 0 1 = cc e in omega arith)
 
-gave : (t : Told) (s : List ℕ) (from room p q n k : ℕ) → answer (found t s from room) ≡ answer-is.Line p q n k → Gave t s from room p q n k
+gave : (t : Told) (s : List ℕ) (from room p q n k : ℕ) → readingOf (found t s from room) ≡ gives p q n k → Gave t s from room p q n k
 unfolding found nextStretch
 gave t s from room p q n k =
     go (sizedTold t) refl (ltb longestStream (length s)) refl (ltb room longest) refl (ltb (length s) from) refl (ends (nextSpan s from)) refl
   where
+    -- no refusal of a call is a line, nor is the end
+    said : {at : ℕ} {a : Answer} → readingAt (span at at) a ≡ gives p q n k → a ≡ answer-is.Line n k
+    said r = ap (λ (g : Reading). g .answer) r
+
     go : (a : Bool) → sizedTold t ≡ a → (b : Bool) → ltb longestStream (length s) ≡ b → (c : Bool) → ltb room longest ≡ c
         → (d : Bool) → ltb (length s) from ≡ d → (e : Bool) → ends (nextSpan s from) ≡ e
-        → answer (cond (not a) (call (answer-is.Sizes from))
-        (cond b (call (answer-is.TooLong from))
-        (cond c (call (answer-is.NoRoom from))
-        (cond d (call (answer-is.Beyond from))
-        (cond e (call (answer-is.End (length s))) (stretch (nextSpan s from) (judge t (nextStretch s from)))))))) ≡ answer-is.Line p q n k
+        → readingOf (cond (not a) (call from answer-is.Sizes)
+        (cond b (call from answer-is.TooLong)
+        (cond c (call from answer-is.NoRoom)
+        (cond d (call from answer-is.Beyond)
+        (cond e (call (length s) answer-is.End) (stretch (nextSpan s from) (judge t (nextStretch s from)))))))) ≡ gives p q n k
         → Gave t s from room p q n k
     go true u false v false w false x false y r =
-        let z = answer-line (nextSpan s from) (judge t (nextStretch s from)) p q n k r in
-        let j : judge t (bytesAt s (span p q)) ≡ line (z .1) k = ap (λ (o : Span). judge t (bytesAt s o)) (sym (z .0)) ∙ z .2 in
+        let o : nextSpan s from ≡ span p q = ap (λ (g : Reading). span (g .first) (g .closing)) r in
+        let z = answer-line (judge t (nextStretch s from)) n k (ap (λ (g : Reading). g .answer) r) in
+        let j : judge t (bytesAt s (span p q)) ≡ line (z .0) k = ap (λ (g : Span). judge t (bytesAt s g)) (sym o) ∙ z .1 in
         record {
           sizes = sized-told t u;
-          the-line = z .1;
-          long = z .3;
-          found-is = rw (u, v, w, x, y) (ap₂ stretch (z .0) (z .2));
+          the-line = z .0;
+          long = z .2;
+          found-is = rw (u, v, w, x, y) (ap₂ stretch o (z .1));
           judged = j;
         }
-    go true u false v false w false x true y r = absurd (let z : _≡_ {A = ℕ} 0 1 = cc r in omega arith)
-    go true u false v false w true x e y r = absurd (let z : _≡_ {A = ℕ} 0 1 = cc r in omega arith)
-    go true u false v true w d x e y r = absurd (let z : _≡_ {A = ℕ} 0 1 = cc r in omega arith)
-    go true u true v c w d x e y r = absurd (let z : _≡_ {A = ℕ} 0 1 = cc r in omega arith)
-    go false u b v c w d x e y r = absurd (let z : _≡_ {A = ℕ} 0 1 = cc r in omega arith)
+    go true u false v false w false x true y r = absurd (let z : _≡_ {A = ℕ} 0 1 = cc (said r) in omega arith)
+    go true u false v false w true x e y r = absurd (let z : _≡_ {A = ℕ} 0 1 = cc (said r) in omega arith)
+    go true u false v true w d x e y r = absurd (let z : _≡_ {A = ℕ} 0 1 = cc (said r) in omega arith)
+    go true u true v c w d x e y r = absurd (let z : _≡_ {A = ℕ} 0 1 = cc (said r) in omega arith)
+    go false u b v c w d x e y r = absurd (let z : _≡_ {A = ℕ} 0 1 = cc (said r) in omega arith)
 
 -- a call: its arguments, and an answer and a buffer that its promise admits
-module _ (key font s : List ℕ) (bytes : Below 256 s) (from : ℕ) (l : List ℕ) (r : Answer) (l′ : List ℕ) (c : Reads key font s from l r l′) where
+module _ (key font s : List ℕ) (bytes : Below 256 s) (from : ℕ) (l : List ℕ) (r : Reading) (l′ : List ℕ) (c : Reads key font s from l r l′) where
   -- a line that is given is what a write call makes of it, with the same count
-  pub given-is-written : (p q n k : ℕ) → r ≡ answer-is.Line p q n k → Made key font (take n l′) k (bytesAt s (span p q))
+  pub given-is-written : (p q n k : ℕ) → r ≡ gives p q n k → Made key font (take n l′) k (bytesAt s (span p q))
   given-is-written p q n k e =
       let t = told key font in
       let g = gave t s from (length l) p q n k (sym (c .0) ∙ e) in
@@ -245,8 +252,8 @@ module _ (key font s : List ℕ) (bytes : Below 256 s) (from : ℕ) (l : List �
 
 -- and every stretch that a write call makes gives its line, read from its opening mark
 pub written-is-given : (key font L : List ℕ) (k : ℕ) (s : List ℕ) (p q : ℕ) → length s ≤ longestStream → Stretch s p q
-    → Made key font L k (bytesAt s (span p q)) → (l : List ℕ) (r : Answer) (l′ : List ℕ) → longest ≤ length l → Reads key font s (p - 1) l r l′
-    → (r ≡ answer-is.Line p q (length L) k) × (l′ ≡ over L l)
+    → Made key font L k (bytesAt s (span p q)) → (l : List ℕ) (r : Reading) (l′ : List ℕ) → longest ≤ length l → Reads key font s (p - 1) l r l′
+    → (r ≡ gives p q (length L) k) × (l′ ≡ over L l)
 unfolding nextStretch
 written-is-given key font L k s p q h x m l r l′ g c =
     let t = told key font in
@@ -259,4 +266,4 @@ written-is-given key font L k s p q h x m l r l′ g c =
     let found-is : found t s (p - 1) (length l) ≡ stretch (span p q) (line L k) =
     found-next t (record { key-is = y .key-is; font-is = y .font-is }) s (p - 1) (length l) h g at (span p q) sp (λ u. omega (arith, u, x .some))
     ∙ ap (stretch (span p q)) j in
-    (c .0 ∙ ap answer found-is, c .1 ∙ ap (λ (o : Found). buffer o l) found-is)
+    (c .0 ∙ ap readingOf found-is, c .1 ∙ ap (λ (o : Found). buffer o l) found-is)

@@ -11,10 +11,11 @@ use Rattle.framing.specs.Told.{told}
 use Rattle.frame.specs.Answers.{writeCall}
 use Rattle.reader.specs.declared.Answer.{Answer}
 use Rattle.reader.specs.declared.Answer.the-variants as answer-is
-use Rattle.reader.specs.Answers.{readAnswer, readOut, numberOf, firstOf, closingOf, lengthOf, callsOf}
+use Rattle.reader.specs.declared.Reading.{Reading}
+use Rattle.reader.specs.Answers.{readAnswer, readOut, numberOf, lengthOf, callsOf}
 
 -- a read call with this key and font, of the stream s from a place, with the line buffer l before it, may answer r and leave l′ in it
-abbrev pub Reads : List ℕ → List ℕ → List ℕ → ℕ → List ℕ → Answer → List ℕ → Type 0
+abbrev pub Reads : List ℕ → List ℕ → List ℕ → ℕ → List ℕ → Reading → List ℕ → Type 0
 Reads key font s from l r l′ = (r ≡ readAnswer (told key font) s from l) × (l′ ≡ readOut (told key font) s from l)
 
 -- a write call of the line L under this key, nonce and font, with the buffer f before it, may answer w and leave f′ in it
@@ -24,17 +25,17 @@ Writes key nonce font L f w f′ =
 
 -- the end of the stream is its own answer
 abbrev pub isEnd : Answer → Bool
-isEnd (answer-is.Sizes at) = false
-isEnd (answer-is.TooLong at) = false
-isEnd (answer-is.NoRoom at) = false
-isEnd (answer-is.Beyond at) = false
-isEnd (answer-is.End at) = true
-isEnd (answer-is.Shape a e) = false
-isEnd (answer-is.Stuffing a e) = false
-isEnd (answer-is.Font a e) = false
-isEnd (answer-is.Seal a e n) = false
-isEnd (answer-is.Unlisted a e n) = false
-isEnd (answer-is.Line a e k n) = false
+isEnd answer-is.Sizes = false
+isEnd answer-is.TooLong = false
+isEnd answer-is.NoRoom = false
+isEnd answer-is.Beyond = false
+isEnd answer-is.End = true
+isEnd answer-is.Shape = false
+isEnd answer-is.Stuffing = false
+isEnd answer-is.Font = false
+isEnd (answer-is.Seal n) = false
+isEnd (answer-is.Unlisted n) = false
+isEnd (answer-is.Line k n) = false
 
 -- all that a caller sees of a reading: document 01's number and values, and the line's bytes in the buffer
 pub record Seen : Type 0 where
@@ -46,19 +47,19 @@ pub record Seen : Type 0 where
   pub line : List ℕ
 
 -- with places counted from place i
-abbrev pub seenFrom : ℕ → Answer → List ℕ → Seen
+abbrev pub seenFrom : ℕ → Reading → List ℕ → Seen
 seenFrom i r l′ = record {
-  number = numberOf r;
-  ended = isEnd r;
-  first = firstOf r - i;
-  closing = closingOf r - i;
-  calls = callsOf r;
-  line = take (lengthOf r) l′;
+  number = numberOf (r .answer);
+  ended = isEnd (r .answer);
+  first = r .first - i;
+  closing = r .closing - i;
+  calls = callsOf (r .answer);
+  line = take (lengthOf (r .answer)) l′;
 }
 
 -- some read calls one after the other with room enough for a line, the first from a place, each next one from where the one before
 -- closed; and what is seen of them with places counted from place i. Each call may have a line buffer of its own
 pub data Run (key font s : List ℕ) (i : ℕ) : ℕ → List Seen → Type 0 where
   none : {from : ℕ} → Run key font s i from []
-  next : {from : ℕ} (r : Answer) (l l′ : List ℕ) {rest : List Seen} → longest ≤ length l → Reads key font s from l r l′
-      → Run key font s i (closingOf r) rest → Run key font s i from (seenFrom i r l′ ∷ rest)
+  next : {from : ℕ} (r : Reading) (l l′ : List ℕ) {rest : List Seen} → longest ≤ length l → Reads key font s from l r l′
+      → Run key font s i (r .closing) rest → Run key font s i from (seenFrom i r l′ ∷ rest)

@@ -11,16 +11,16 @@ use Rattle.stream.specs.declared.Span.{Span}
 use Rattle.stream.specs.Stretches.{bytesAt, nextSpan, nextStretch}
 use Rattle.stream.specs.Places as places
 use Rattle.framing.specs.Told.{told}
-use Rattle.reader.specs.declared.Answer.{Answer}
+use Rattle.reader.specs.declared.Reading.{Reading}
 use Rattle.reader.specs.declared.Answer.the-variants as answer-is
 use Rattle.judging.specs.Sizes.{Sizes}
 use Rattle.judging.specs.Judging.{judge}
 use Rattle.judging.specs.Readings.{ends}
 use Rattle.judging.specs.Resync.{Mark}
 use Rattle.judging.specs.Reaching.{UpTo, closes, behind, up-to}
-use Rattle.reader.specs.Answers.{longestStream, Found, call, stretch, found, answer, buffer, closingOf}
+use Rattle.reader.specs.Answers.{longestStream, Found, call, stretch, found, readingOf, buffer}
 use Rattle.demand.specs.Promises.{Reads, isEnd, Seen, seenFrom, Run, none, next}
-use Rattle.demand.specs.Resync.{seen-at, closing-at, sized}
+use Rattle.demand.specs.Resync.{seen-at, sized}
 use Rattle.demand.specs.GivenWritten.{told-sized, found-next}
 
 -- calls made until the end of the stream is answered: by the last call, and by none before it
@@ -50,28 +50,28 @@ pub record Reaches (key font s : List ℕ) (i : ℕ) (seen : List Seen) : Type 0
 module _ (key font s : List ℕ) (z : Sizes (told key font)) (h : length s ≤ longestStream) where
   -- where the next stretch is the same, a call may answer the same
   same-reads : (from i : ℕ) → from ≤ length s → i ≤ length s → nextSpan s from ≡ nextSpan s i
-      → (l : List ℕ) (r : Answer) (l′ : List ℕ) → longest ≤ length l → Reads key font s from l r l′ → Reads key font s i l r l′
+      → (l : List ℕ) (r : Reading) (l′ : List ℕ) → longest ≤ length l → Reads key font s from l r l′ → Reads key font s i l r l′
   unfolding nextStretch
   same-reads from i f k e l r l′ g p =
       let t = told key font in
       let y = told-sized t (z .key-is) (z .font-is) in
       let q : found t s from (length l) ≡ found t s i (length l) =
       sized t s from (length l) h g f y
-      ∙ ap (λ (o : Span). cond (ends o) (call (answer-is.End (length s))) (stretch o (judge t (bytesAt s o)))) e
+      ∙ ap (λ (o : Span). cond (ends o) (call (length s) answer-is.End) (stretch o (judge t (bytesAt s o)))) e
       ∙ sym (sized t s i (length l) h g k y) in
-      (p .0 ∙ ap answer q, p .1 ∙ ap (λ (o : Found). buffer o l) q)
+      (p .0 ∙ ap readingOf q, p .1 ∙ ap (λ (o : Found). buffer o l) q)
 
   -- a call that finds a stretch closes where it does, and is not the end
   pub stretch-seen : (from : ℕ) → from ≤ length s → places.Found s from (nextSpan s from)
-      → (l : List ℕ) (r : Answer) (l′ : List ℕ) → longest ≤ length l → Reads key font s from l r l′
-      → (closingOf r ≡ nextSpan s from .closing) × (isEnd r ≡ false)
+      → (l : List ℕ) (r : Reading) (l′ : List ℕ) → longest ≤ length l → Reads key font s from l r l′
+      → (r .closing ≡ nextSpan s from .closing) × (isEnd (r .answer) ≡ false)
   stretch-seen from f x l r l′ g p =
       let t = told key font in
       let o = nextSpan s from in
       let j = judge t (nextStretch s from) in
       let q : found t s from (length l) ≡ stretch o j = found-next t z s from (length l) h g f o refl (λ u. omega (arith, u, x .stretch .some)) in
-      let a : r ≡ answer (stretch o j) = p .0 ∙ ap answer q in
-      (ap closingOf a ∙ closing-at o j, ap isEnd a ∙ ap (λ (v : Seen). v .ended) (seen-at 0 o j l))
+      let a : r ≡ readingOf (stretch o j) = p .0 ∙ ap readingOf q in
+      (ap (λ (x : Reading). x .closing) a, ap (λ (x : Reading). isEnd (x .answer)) a ∙ ap (λ (v : Seen). v .ended) (seen-at 0 o j l))
 
   -- a call that closes at place i or before it, and then others that reach it
   one-more : (i : ℕ) (v : Seen) (rest : List Seen) → v .closing ≤ i → Reaches key font s i rest → Reaches key font s i (v ∷ rest)
@@ -85,9 +85,9 @@ module _ (key font s : List ℕ) (z : Sizes (told key font)) (h : length s ≤ l
   }
 
   module _ (i : ℕ) (m : Mark s i) where
-    reach-on : (from : ℕ) → from ≤ i → (r : Answer) (l l′ : List ℕ) (rest : List Seen) → longest ≤ length l → Reads key font s from l r l′
-        → Run key font s 0 (closingOf r) rest → Ended (seenFrom 0 r l′ ∷ rest)
-        → (closingOf r ≤ i → Ended rest → Reaches key font s i rest) → UpTo s from i → Reaches key font s i (seenFrom 0 r l′ ∷ rest)
+    reach-on : (from : ℕ) → from ≤ i → (r : Reading) (l l′ : List ℕ) (rest : List Seen) → longest ≤ length l → Reads key font s from l r l′
+        → Run key font s 0 (r .closing) rest → Ended (seenFrom 0 r l′ ∷ rest)
+        → (r .closing ≤ i → Ended rest → Reaches key font s i rest) → UpTo s from i → Reaches key font s i (seenFrom 0 r l′ ∷ rest)
     reach-on from f r l l′ rest g p q e on (behind b) = record {
       before = [];
       after = seenFrom 0 r l′ ∷ rest;
@@ -98,10 +98,10 @@ module _ (key font s : List ℕ) (z : Sizes (told key font)) (h : length s ≤ l
     }
     reach-on from f r l l′ rest g p q e on (closes x c) =
         let y = stretch-seen from (omega (arith, f, m .inside)) x l r l′ g p in
-        let k : closingOf r ≤ i = rw (y .0) c in
+        let k : r .closing ≤ i = rw (y .0) c in
         one-more i (seenFrom 0 r l′) rest (omega (arith, k)) (on k (not-last e (y .1)))
 
     -- calls from any place up to the mark, made until the end
     pub run-reaches : (from : ℕ) {seen : List Seen} → from ≤ i → Run key font s 0 from seen → Ended seen → Reaches key font s i seen
     run-reaches from f (next r l l′ {rest} g p q) e =
-        reach-on from f r l l′ rest g p q e (λ c k. run-reaches (closingOf r) c q k) (up-to s from i f m)
+        reach-on from f r l l′ rest g p q e (λ c k. run-reaches (r .closing) c q k) (up-to s from i f m)

@@ -20,11 +20,11 @@ use Rattle.judging.specs.Judged.{Judged, shape, stuffing, font, seal, unlisted,
 use Rattle.judging.specs.Judging.{judge}
 use Rattle.judging.specs.Readings.{ends, eqb-moved}
 use Rattle.judging.specs.Resync.{Mark}
-use Rattle.reader.specs.Answers.{longestStream, sizedTold, Found, call, stretch, found, answer, buffer, answerAt, lineOver, closingOf}
+use Rattle.reader.specs.Answers.{longestStream, sizedTold, Found, call, stretch, found, readingAt, readingOf, buffer, answerOf, lineOver}
 use Rattle.demand.specs.Promises.{Seen, seenFrom, Run, none, next}
 
 -- what is seen of a stretch does not depend on what the buffer held
-pub seen-at : (i : ℕ) (p : Span) (j : Judged) (l : List ℕ) → seenFrom i (answerAt p j) (lineOver j l) ≡ record {
+pub seen-at : (i : ℕ) (p : Span) (j : Judged) (l : List ℕ) → seenFrom i (readingAt p (answerOf j)) (lineOver j l) ≡ record {
   number = numberIn j;
   ended = false;
   first = p .first - i;
@@ -38,14 +38,6 @@ seen-at i p font l = refl
 seen-at i p (seal n) l = refl
 seen-at i p (unlisted n) l = refl
 seen-at i p (line w n) l = ap (λ (x : List ℕ). record { number = 0; ended = false; first = p .first - i; closing = p .closing - i; calls = n; line = x }) (take-over w l (length w) refl)
-
-pub closing-at : (p : Span) (j : Judged) → closingOf (answerAt p j) ≡ p .closing
-closing-at p shape = refl
-closing-at p stuffing = refl
-closing-at p font = refl
-closing-at p (seal n) = refl
-closing-at p (unlisted n) = refl
-closing-at p (line w n) = refl
 
 -- places in order
 on : (a f c : ℕ) → a ≤ f → f ≤ c → a ≤ c
@@ -64,12 +56,12 @@ pub record Abreast (x : List ℕ) (i a : ℕ) (y : List ℕ) (j b : ℕ) : Type 
 
 -- what a call finds within the limits and with room
 module _ (t : Told) (s : List ℕ) (from room : ℕ) (h : length s ≤ longestStream) (g : longest ≤ room) (f : from ≤ length s) where
-  unsized : sizedTold t ≡ false → found t s from room ≡ call (answer-is.Sizes from)
+  unsized : sizedTold t ≡ false → found t s from room ≡ call from answer-is.Sizes
   unfolding found
   unsized e = rw e
 
   pub sized : sizedTold t ≡ true → found t s from room
-      ≡ cond (ends (nextSpan s from)) (call (answer-is.End (length s))) (stretch (nextSpan s from) (judge t (nextStretch s from)))
+      ≡ cond (ends (nextSpan s from)) (call (length s) answer-is.End) (stretch (nextSpan s from) (judge t (nextStretch s from)))
   unfolding found
   sized e = rw (e, le-ltb longestStream (length s) h, le-ltb room longest g, le-ltb (length s) from f)
 
@@ -78,13 +70,13 @@ module _ (t : Told) (x : List ℕ) (i a : ℕ) (y : List ℕ) (j b : ℕ) (hx : 
     (w : Abreast x i a y j b) (l m : List ℕ) (gx : longest ≤ length l) (gy : longest ≤ length m) where
   abbrev Goal : Found → Found → Type 0
   Goal f e =
-      (seenFrom i (answer f) (buffer f l) ≡ seenFrom j (answer e) (buffer e m))
-      × Abreast x i (closingOf (answer f)) y j (closingOf (answer e))
+      (seenFrom i (readingOf f) (buffer f l) ≡ seenFrom j (readingOf e) (buffer e m))
+      × Abreast x i (readingOf f .closing) y j (readingOf e .closing)
 
-  at-refusal : Goal (call (answer-is.Sizes a)) (call (answer-is.Sizes b))
+  at-refusal : Goal (call a answer-is.Sizes) (call b answer-is.Sizes)
   at-refusal = (ap (λ (k : ℕ). record { number = 2; ended = false; first = k; closing = k; calls = 0; line = [] }) (w .same), w)
 
-  at-end : Goal (call (answer-is.End (length x))) (call (answer-is.End (length y)))
+  at-end : Goal (call (length x) answer-is.End) (call (length y) answer-is.End)
   at-end =
       let r : length (drop a x) ≡ length (drop b y) = ap length (w .alike .rest) in
       let k : length x - i ≡ length y - j =
@@ -110,13 +102,12 @@ module _ (t : Told) (x : List ℕ) (i a : ℕ) (y : List ℕ) (j b : ℕ) (hx : 
       let jx = judge t (nextStretch x a) in
       let jy = judge t (nextStretch y b) in (
         seen-at i (nextSpan x a) jx l ∙ rw (f-is, c-is, n .bytes) refl ∙ sym (seen-at j (nextSpan y b) jy m),
-        rw (closing-at (nextSpan x a) jx, closing-at (nextSpan y b) jy)
-            (record {
-              alike = n .on;
-              after-i = on i a (nextSpan x a .closing) (w .after-i) cx;
-              after-j = on j b (nextSpan y b .closing) (w .after-j) cy;
-              same = c-is;
-            }),
+        record {
+          alike = n .on;
+          after-i = on i a (nextSpan x a .closing) (w .after-i) cx;
+          after-j = on j b (nextSpan y b .closing) (w .after-j) cy;
+          same = c-is;
+        },
       )
 
   -- the next stretches are found in both or in neither
@@ -128,8 +119,8 @@ module _ (t : Told) (x : List ℕ) (i a : ℕ) (y : List ℕ) (j b : ℕ) (hx : 
       next-moved y b (w .alike .in-y) ∙ ap (λ (s : List ℕ). moved b (nextSpan s 0)) (sym (w .alike .rest)) in
       ap ends ex ∙ eqb-moved (p .first) (p .closing) a ∙ sym (eqb-moved (p .first) (p .closing) b) ∙ ap ends (sym ey)
 
-  by-end : (q : Bool) → Goal (cond q (call (answer-is.End (length x))) (stretch (nextSpan x a) (judge t (nextStretch x a))))
-      (cond q (call (answer-is.End (length y))) (stretch (nextSpan y b) (judge t (nextStretch y b))))
+  by-end : (q : Bool) → Goal (cond q (call (length x) answer-is.End) (stretch (nextSpan x a) (judge t (nextStretch x a))))
+      (cond q (call (length y) answer-is.End) (stretch (nextSpan y b) (judge t (nextStretch y b))))
   by-end true = at-end
   by-end false = at-stretch
 

@@ -7,7 +7,7 @@ use frame::KEY_LENGTH;
 use libc::STDIN_FILENO;
 use libc::STDOUT_FILENO;
 use line::LONGEST;
-use reader::Answer;
+use reader::Reading;
 
 // How the listing stands: where the next reading starts, and how many rows were lines and how many refusals.
 pub struct Tally {
@@ -26,13 +26,14 @@ fn print(n: u64) {
 }
 
 // A row of a refused stretch.
-fn refused(t: Tally, answer: Answer) -> Tally {
-    print(values::first_of(answer) as u64);
+fn refused(t: Tally, reading: Reading) -> Tally {
+    let answer = reading.answer;
+    print(reading.first as u64);
     say(b" ");
     print(values::number_of(answer) as u64);
     say(b"\n");
     Tally {
-        next: values::closing_of(answer),
+        next: reading.closing,
         lines: t.lines,
         refused: std::num::wrapping_add_u64(t.refused, 1),
         ended: false,
@@ -40,16 +41,17 @@ fn refused(t: Tally, answer: Answer) -> Tally {
 }
 
 // A row of a line.
-fn line_row(t: Tally, answer: Answer, line: &[u8]) -> Tally {
+fn line_row(t: Tally, reading: Reading, line: &[u8]) -> Tally {
+    let answer = reading.answer;
     let length = values::length_of(answer);
-    print(values::first_of(answer) as u64);
+    print(reading.first as u64);
     say(b" 0 ");
     if length <= line.len() {
         say(&line[0..length]);
     }
     say(b"\n");
     Tally {
-        next: values::closing_of(answer),
+        next: reading.closing,
         lines: std::num::wrapping_add_u64(t.lines, 1),
         refused: t.refused,
         ended: false,
@@ -67,14 +69,15 @@ fn ended(t: Tally) -> Tally {
 
 // One reading and its row. The two places of a stretch differ; those of the end, and of a call that is refused, do not.
 fn one(stream: &[u8], key: &[u8], font: &[u8], line: &mut [u8], t: Tally) -> Tally {
-    let answer = reader::read(stream, t.next, key, font, line);
-    if values::first_of(answer) == values::closing_of(answer) {
+    let reading = reader::read(stream, t.next, key, font, line);
+    if reading.first == reading.closing {
         return ended(t);
     }
+    let answer = reading.answer;
     if values::number_of(answer) == 0 {
-        return line_row(t, answer, line);
+        return line_row(t, reading, line);
     }
-    refused(t, answer)
+    refused(t, reading)
 }
 
 // Every stretch of the stream, and the last row. Each reading ends further on, so as many turns as the stream has bytes are enough.

@@ -17,14 +17,14 @@ write-number written-is.Unlisted = lit≤ tt
 write-number written-is.NoRoom = lit≤ tt
 
 pub read-number : (a : Answer) → reading.numberOf a ≤ LARGEST-NUMBER
-read-number (answer-is.Sizes at) = lit≤ tt
-read-number (answer-is.TooLong at) = lit≤ tt
-read-number (answer-is.NoRoom at) = lit≤ tt
-read-number (answer-is.Beyond at) = lit≤ tt
-read-number (answer-is.End at) = lit≤ tt
-read-number (answer-is.Shape a e) = lit≤ tt
-read-number (answer-is.Stuffing a e) = lit≤ tt
-read-number (answer-is.Font a e) = lit≤ tt
-read-number (answer-is.Seal a e n) = lit≤ tt
-read-number (answer-is.Unlisted a e n) = lit≤ tt
-read-number (answer-is.Line a e k n) = lit≤ tt
+read-number answer-is.Sizes = lit≤ tt
+read-number answer-is.TooLong = lit≤ tt
+read-number answer-is.NoRoom = lit≤ tt
+read-number answer-is.Beyond = lit≤ tt
+read-number answer-is.End = lit≤ tt
+read-number answer-is.Shape = lit≤ tt
+read-number answer-is.Stuffing = lit≤ tt
+read-number answer-is.Font = lit≤ tt
+read-number (answer-is.Seal n) = lit≤ tt
+read-number (answer-is.Unlisted n) = lit≤ tt
+read-number (answer-is.Line k n) = lit≤ tt

@@ -186,14 +186,15 @@ pub extern "C" fn lubdhvani_read(
     length: &mut usize,
     calls: &mut usize,
 ) -> u32
-    ensures { λ r. ⌜ r ≡ reading.numberOf (readAnswer (told (now (key .entry)) (now (font .entry))) (now (stream .entry)) from (now (line .entry))) ⌝ }
+    ensures { λ r. ⌜ r ≡ reading.numberOf (readAnswer (told (now (key .entry)) (now (font .entry))) (now (stream .entry)) from (now (line .entry)) .answer) ⌝ }
     ensures { λ _. ⌜ now (line .exit) ≡ readOut (told (now (key .entry)) (now (font .entry))) (now (stream .entry)) from (now (line .entry)) ⌝ }
-    ensures { λ _. ⌜ (now (first .exit) ≡ reading.firstOf (readAnswer (told (now (key .entry)) (now (font .entry))) (now (stream .entry)) from (now (line .entry)))) × (now (closing .exit) ≡ reading.closingOf (readAnswer (told (now (key .entry)) (now (font .entry))) (now (stream .entry)) from (now (line .entry)))) ⌝ }
-    ensures { λ _. ⌜ (now (length .exit) ≡ reading.lengthOf (readAnswer (told (now (key .entry)) (now (font .entry))) (now (stream .entry)) from (now (line .entry)))) × (now (calls .exit) ≡ reading.callsOf (readAnswer (told (now (key .entry)) (now (font .entry))) (now (stream .entry)) from (now (line .entry)))) ⌝ }
+    ensures { λ _. ⌜ (now (first .exit) ≡ readAnswer (told (now (key .entry)) (now (font .entry))) (now (stream .entry)) from (now (line .entry)) .first) × (now (closing .exit) ≡ readAnswer (told (now (key .entry)) (now (font .entry))) (now (stream .entry)) from (now (line .entry)) .closing) ⌝ }
+    ensures { λ _. ⌜ (now (length .exit) ≡ reading.lengthOf (readAnswer (told (now (key .entry)) (now (font .entry))) (now (stream .entry)) from (now (line .entry)) .answer)) × (now (calls .exit) ≡ reading.callsOf (readAnswer (told (now (key .entry)) (now (font .entry))) (now (stream .entry)) from (now (line .entry)) .answer)) ⌝ }
 {
-    let answer = reader::read(stream, from, key, font, line);
-    *first = values::first_of(answer);
-    *closing = values::closing_of(answer);
+    let reading = reader::read(stream, from, key, font, line);
+    *first = reading.first;
+    *closing = reading.closing;
+    let answer = reading.answer;
     *length = values::length_of(answer);
     *calls = values::calls_of(answer);
     number(values::number_of(answer))

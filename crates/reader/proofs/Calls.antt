@@ -6,16 +6,17 @@ use Prim.Native.Nat.{ℕ, _≤_, _<_}
 use lib.ListN.{length}
 use borrow.Author.Tests.{eq-eqb, ne-eqb, lt-ltb, le-ltb}
 use Rattle.stream.specs.declared.Span.{Span}
-use Rattle.stream.specs.Stretches.{bytesAt, nextSpan, nextStretch}
+use Rattle.stream.specs.Stretches.{span, bytesAt, nextSpan, nextStretch}
 use Rattle.stream.specs.Places.{Within, next-within, next-equal}
 use Rattle.line.specs.Lines.{longest}
 use Rattle.framing.specs.Told.{keyLength, Told, told}
 use Rattle.body.specs.Fields.{digestLength}
 use Rattle.reader.specs.declared.Answer.{Answer}
+use Rattle.reader.specs.declared.Reading.{Reading}
 use Rattle.reader.specs.declared.Answer.the-variants as answer-is
 use Rattle.judging.specs.Sizes.{Sizes}
 use Rattle.judging.specs.Judging.{judge}
-use Rattle.reader.specs.Answers.{longestStream, sizedTold, Found, call, stretch, found, answer, buffer, answerAt, lineOver, readAnswer, readOut}
+use Rattle.reader.specs.Answers.{longestStream, sizedTold, Found, call, stretch, found, readingAt, readingOf, buffer, answerOf, lineOver, readAnswer, readOut}
 
 -- the places that `next_span` gives
 pub within : (s : List ℕ) (from : ℕ) (p : Span) → p ≡ nextSpan s from → Within (length s) p
@@ -26,50 +27,53 @@ module _ (key font s : List ℕ) (from : ℕ) (o : List ℕ) where
   t = told key font
 
   -- what a return has to show
-  abbrev pub Met : Answer → List ℕ → Type 0
+  abbrev pub Met : Reading → List ℕ → Type 0
   Met r w = (r ≡ readAnswer t s from o) × (w ≡ readOut t s from o)
 
-  met : (f : Found) → found t s from (length o) ≡ f → Met (answer f) (buffer f o)
-  met f e = (ap answer (sym e), ap (λ (x : Found). buffer x o) (sym e))
+  met : (f : Found) → found t s from (length o) ≡ f → (r : Reading) → r ≡ readingOf f → Met r (buffer f o)
+  met f e r q = (q ∙ ap readingOf (sym e), ap (λ (x : Found). buffer x o) (sym e))
 
-  pub bad-key : (length key ≡ keyLength → ⊥) → Met (answer-is.Sizes from) o
+  -- where the call is refused, and at the stream's end
+  abbrev Answered : ℕ → Answer → Type 0
+  Answered at a = (r : Reading) → r ≡ readingAt (span at at) a → Met r o
+
+  pub bad-key : (length key ≡ keyLength → ⊥) → Answered from answer-is.Sizes
   unfolding found sizedTold
-  bad-key k = met (call (answer-is.Sizes from)) (rw (ne-eqb (length key) keyLength k))
+  bad-key k = met (call from answer-is.Sizes) (rw (ne-eqb (length key) keyLength k))
 
-  pub bad-font : length key ≡ keyLength → (length font ≡ digestLength → ⊥) → Met (answer-is.Sizes from) o
+  pub bad-font : length key ≡ keyLength → (length font ≡ digestLength → ⊥) → Answered from answer-is.Sizes
   unfolding found sizedTold
   bad-font k d =
-      met (call (answer-is.Sizes from)) (rw (eq-eqb (length key) keyLength k, ne-eqb (length font) digestLength d))
+      met (call from answer-is.Sizes) (rw (eq-eqb (length key) keyLength k, ne-eqb (length font) digestLength d))
 
   module _ (k : length key ≡ keyLength) (d : length font ≡ digestLength) where
     sized : sizedTold t ≡ true
     unfolding sizedTold
     sized = rw (eq-eqb (length key) keyLength k) (eq-eqb (length font) digestLength d)
 
-    pub too-long : longestStream < length s → Met (answer-is.TooLong from) o
+    pub too-long : longestStream < length s → Answered from answer-is.TooLong
     unfolding found
-    too-long h = met (call (answer-is.TooLong from)) (rw (sized, lt-ltb longestStream (length s) h))
+    too-long h = met (call from answer-is.TooLong) (rw (sized, lt-ltb longestStream (length s) h))
 
     module _ (h : length s ≤ longestStream) where
-      pub no-room : length o < longest → Met (answer-is.NoRoom from) o
+      pub no-room : length o < longest → Answered from answer-is.NoRoom
       unfolding found
-      no-room r = met (call (answer-is.NoRoom from)) (rw (sized, le-ltb longestStream (length s) h, lt-ltb (length o) longest r))
+      no-room r = met (call from answer-is.NoRoom) (rw (sized, le-ltb longestStream (length s) h, lt-ltb (length o) longest r))
 
       module _ (r : longest ≤ length o) where
-        pub beyond : length s < from → Met (answer-is.Beyond from) o
+        pub beyond : length s < from → Answered from answer-is.Beyond
         unfolding found
         beyond f =
-            met (call (answer-is.Beyond from))
+            met (call from answer-is.Beyond)
             (rw (sized, le-ltb longestStream (length s) h, le-ltb (length o) longest r, lt-ltb (length s) from f))
 
         module _ (f : from ≤ length s) (p : Span) (e : p ≡ nextSpan s from) where
-          pub at-end : p .first ≡ p .closing → Met (answer-is.End (p .closing)) o
+          pub at-end : p .first ≡ p .closing → Answered (p .closing) answer-is.End
           unfolding found
-          at-end q =
+          at-end q a x =
               let is : nextSpan s from .first ≡ nextSpan s from .closing = rw e at q in
-              let last : p .closing ≡ length s = ap (λ (x : Span). x .closing) (e ∙ next-equal s from is .0) in
-              rw last
-              (met (call (answer-is.End (length s)))
+              let last : p .closing ≡ length s = ap (λ (y : Span). y .closing) (e ∙ next-equal s from is .0) in
+              met (call (length s) answer-is.End)
               (rw (
                 sized,
                 le-ltb longestStream (length s) h,
@@ -77,11 +81,12 @@ module _ (key font s : List ℕ) (from : ℕ) (o : List ℕ) where
                 le-ltb (length s) from f,
                 ← e,
                 eq-eqb (p .first) (p .closing) q,
-              )))
+              ))
+              a (x ∙ ap (λ (n : ℕ). readingAt (span n n) answer-is.End) last)
 
           -- the stretch that stands there, judged
-          pub at-stretch : (p .first ≡ p .closing → ⊥) → (a : Answer) (w : List ℕ) → a ≡ answerAt p (judge t (bytesAt s p))
-              → w ≡ lineOver (judge t (bytesAt s p)) o → Met a w
+          pub at-stretch : (p .first ≡ p .closing → ⊥) → (a : Answer) (w : List ℕ) → a ≡ answerOf (judge t (bytesAt s p))
+              → w ≡ lineOver (judge t (bytesAt s p)) o → Met (readingAt p a) w
           unfolding found nextStretch
           at-stretch q a w x y =
               let m = met (stretch p (judge t (bytesAt s p))) (rw (
@@ -91,5 +96,5 @@ module _ (key font s : List ℕ) (from : ℕ) (o : List ℕ) where
                 le-ltb (length s) from f,
                 ← e,
                 ne-eqb (p .first) (p .closing) q,
-              )) in
-              (x ∙ m .0, y ∙ m .1)
+              )) (readingAt p a) (ap (readingAt p) x) in
+              (m .0, y ∙ m .1)

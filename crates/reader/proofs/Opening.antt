@@ -21,7 +21,6 @@ use Rattle.cipher.specs.Results.{length-decrypted}
 use Rattle.ingage.specs.Answers.{OpenCall, openCall}
 use Rattle.ingage.specs.Exactly.{Within, opened-within}
 use Rattle.ingage.proofs.Opened as opened-type
-use Rattle.stream.specs.declared.Span.{Span}
 use Rattle.reader.specs.declared.Answer.the-variants as answer-is
 use Rattle.judging.specs.Judged.{Judged, seal, unlisted, line}
 use Rattle.judging.specs.Judging.{judgeWork, judgeSealed}
@@ -114,12 +113,12 @@ module _ (key nonce A C T : List ℕ) {room : List ℕ} (w : Within first key no
           rw (opens .sealed, u) (ap (line (work .text)) (opens .calls))
 
       -- the line is as long as the ciphertext, and copied whole
-      pub gives : (p : Span) (j : line-judged.Judged) → j ≡ lineRule lent → j ≡ Accepted
+      pub gives : (j : line-judged.Judged) → j ≡ lineRule lent → j ≡ Accepted
           → (l l′ : List ℕ) → length room ≤ length l → l′ ≡ copied lent l
-          → Shows p (judgeSealed key nonce A C T) l (answer-is.Line (p .first) (p .closing) (length C) n) l′
-      gives p j x y l l′ h c =
-          let m = shown p (judgeSealed key nonce A C T) l (line (work .text) n) (told-line j x y) in
+          → Shows (judgeSealed key nonce A C T) l (answer-is.Line (length C) n) l′
+      gives j x y l l′ h c =
+          let m = shown (judgeSealed key nonce A C T) l (line (work .text) n) (told-line j x y) in
           let fits : length (work .text) ≤ length l = omega (arith, long, w .room) in (
-            ap (λ (k : ℕ). answer-is.Line (p .first) (p .closing) k n) (sym long) ∙ m .0,
+            ap (λ (k : ℕ). answer-is.Line k n) (sym long) ∙ m .0,
             c ∙ ap (λ (s : List ℕ). copied s l) found-is ∙ ap (λ (s : List ℕ). over s l) (take-all (length l) (work .text) fits) ∙ m .1,
           )

@@ -9,7 +9,7 @@ ghost use Rattle.cipher.specs.Instances.{first as firstInstance};
 ghost use Rattle.ingage.specs.Exactly.{Within};
 ghost use Rattle.body.specs.Fields.{fieldsOf};
 ghost use Rattle.judging.specs.Judging.{judgeSealed, judgeFields, judge};
-ghost use Rattle.reader.specs.Answers.{answerAt, lineOver, readAnswer, readOut};
+ghost use Rattle.reader.specs.Answers.{answerOf, lineOver, readingAt, readAnswer, readOut};
 ghost use Rattle.framing.specs.Told.{told};
 ghost use Rattle.judging.specs.Sizes.{Sizes};
 use body::ASSOCIATED_AT;
@@ -36,50 +36,35 @@ use stuffing::unstuff;
 // The longest stream in bytes (document 01, number 3).
 pub const LONGEST_STREAM: usize = 65536;
 
-// What one read call answers. Each answer carries its places: that of the stretch's first byte and that of its closing mark.
+// What one read call answers: the place of the stretch's first byte, that of its closing mark, where the next call starts, and what is
+// found there.
+pub struct Reading {
+    pub first: usize,
+    pub closing: usize,
+    pub answer: Answer,
+}
+
 pub enum Answer {
     // The call is refused: key or font digest not of their sizes, stream too long, line buffer too short, place beyond the end.
-    // Each carries the place asked for, which both places are.
-    Sizes(usize),
-    TooLong(usize),
-    NoRoom(usize),
-    Beyond(usize),
+    // Both places are the place asked for.
+    Sizes,
+    TooLong,
+    NoRoom,
+    Beyond,
     // The end of the stream: both places are its length.
-    End(usize),
+    End,
     // A stretch that is too long, or whose fields are not as listed.
-    Shape {
-        first: usize,
-        closing: usize,
-    },
+    Shape,
     // Bad stuffing.
-    Stuffing {
-        first: usize,
-        closing: usize,
-    },
+    Stuffing,
     // Sealed to another font.
-    Font {
-        first: usize,
-        closing: usize,
-    },
-    // The seal is not the one worked out; with the calls of the permutation made.
-    Seal {
-        first: usize,
-        closing: usize,
-        calls: usize,
-    },
+    Font,
+    // The seal is not the one worked out; with the calls of the permutation made, as the next two.
+    Seal(usize),
     // The line holds a byte that is not listed.
-    Unlisted {
-        first: usize,
-        closing: usize,
-        calls: usize,
-    },
+    Unlisted(usize),
     // A line of that length is given.
-    Line {
-        first: usize,
-        closing: usize,
-        length: usize,
-        calls: usize,
-    },
+    Line { length: usize, calls: usize },
 }
 
 // Opens sealed fields and judges the line found. They are opened into a buffer beside the caller's, which is written only where a
@@ -90,68 +75,46 @@ fn judge_sealed(
     assoc: &[u8],
     cipher: &[u8],
     seal: &[u8],
-    first: usize,
-    closing: usize,
     text: &mut [u8],
     line: &mut [u8],
 ) -> Answer
     requires { ⌜ Within firstInstance (now key) (now nonce) (now assoc) (now cipher) (now seal) (now text) ⌝ }
     requires { ⌜ (length (now text) ≡ longest) × (longest ≤ length (now line)) ⌝ }
-    ensures { λ r. ⌜ r ≡ answerAt (span first closing) (judgeSealed (now (key .entry)) (now (nonce .entry)) (now (assoc .entry)) (now (cipher .entry)) (now (seal .entry))) ⌝ }
+    ensures { λ r. ⌜ r ≡ answerOf (judgeSealed (now (key .entry)) (now (nonce .entry)) (now (assoc .entry)) (now (cipher .entry)) (now (seal .entry))) ⌝ }
     ensures { λ _. ⌜ now (line .exit) ≡ lineOver (judgeSealed (now (key .entry)) (now (nonce .entry)) (now (assoc .entry)) (now (cipher .entry)) (now (seal .entry))) (now (line .entry)) ⌝ }
 {
     let length = cipher.len();
     match open(key, nonce, assoc, cipher, seal, text) {
-        Opened::Seal(calls) => return Answer::Seal {
-            first,
-            closing,
-            calls,
-        },
+        Opened::Seal(calls) => return Answer::Seal(calls),
         Opened::Done(calls) => {
             let found = &text[0..length];
             match judge_line(found) {
-                line::Judged::Unlisted => return Answer::Unlisted {
-                    first,
-                    closing,
-                    calls,
-                },
+                line::Judged::Unlisted => return Answer::Unlisted(calls),
                 line::Judged::Accepted => {
                     copy(found, line);
-                    return Answer::Line {
-                        first,
-                        closing,
-                        length,
-                        calls,
-                    };
+                    return Answer::Line { length, calls };
                 }
             }
         }
         // Never: sizes, lengths and room are right here.
-        _ => return Answer::Shape { first, closing },
+        _ => return Answer::Shape,
     }
 }
 
 // Judges a body by its fields, the font it was sealed to, its seal and its line.
-fn judge_fields(
-    body: &[u8],
-    first: usize,
-    closing: usize,
-    key: &[u8],
-    font: &[u8],
-    line: &mut [u8],
-) -> Answer
+fn judge_fields(body: &[u8], key: &[u8], font: &[u8], line: &mut [u8]) -> Answer
     requires { ⌜ Sizes (told (now key) (now font)) ⌝ }
     requires { ⌜ longest ≤ length (now line) ⌝ }
-    ensures { λ r. ⌜ r ≡ answerAt (span first closing) (judgeFields (told (now (key .entry)) (now (font .entry))) (fieldsOf (now (body .entry)))) ⌝ }
+    ensures { λ r. ⌜ r ≡ answerOf (judgeFields (told (now (key .entry)) (now (font .entry))) (fieldsOf (now (body .entry)))) ⌝ }
     ensures { λ _. ⌜ now (line .exit) ≡ lineOver (judgeFields (told (now (key .entry)) (now (font .entry))) (fieldsOf (now (body .entry)))) (now (line .entry)) ⌝ }
 {
     let n = match judge_body(body) {
-        body::Judged::Shape => return Answer::Shape { first, closing },
+        body::Judged::Shape => return Answer::Shape,
         body::Judged::Fields(n) => n,
     };
     let digest = &body[DIGEST_AT..DIGEST_AT + DIGEST_LENGTH];
     if !compare(digest, font) {
-        return Answer::Font { first, closing };
+        return Answer::Font;
     }
     let nonce = &body[NONCE_AT..NONCE_AT + NONCE_LENGTH];
     let assoc = &body[ASSOCIATED_AT..DIGEST_AT + DIGEST_LENGTH];
@@ -159,69 +122,68 @@ fn judge_fields(
     let seal_at = CIPHER_AT + n + HEAD_LENGTH;
     let seal = &body[seal_at..seal_at + SEAL_LENGTH];
     let mut text = [0u8; LONGEST];
-    judge_sealed(
-        key,
-        nonce,
-        assoc,
-        cipher,
-        seal,
-        first,
-        closing,
-        &mut text,
-        line,
-    )
+    judge_sealed(key, nonce, assoc, cipher, seal, &mut text, line)
 }
 
 // Judges the bytes of a stretch.
-fn judge_stretch(
-    stretch: &[u8],
-    first: usize,
-    closing: usize,
-    key: &[u8],
-    font: &[u8],
-    line: &mut [u8],
-) -> Answer
+fn judge_stretch(stretch: &[u8], key: &[u8], font: &[u8], line: &mut [u8]) -> Answer
     requires { ⌜ Sizes (told (now key) (now font)) ⌝ }
     requires { ⌜ longest ≤ length (now line) ⌝ }
-    ensures { λ r. ⌜ r ≡ answerAt (span first closing) (judge (told (now (key .entry)) (now (font .entry))) (now (stretch .entry))) ⌝ }
+    ensures { λ r. ⌜ r ≡ answerOf (judge (told (now (key .entry)) (now (font .entry))) (now (stretch .entry))) ⌝ }
     ensures { λ _. ⌜ now (line .exit) ≡ lineOver (judge (told (now (key .entry)) (now (font .entry))) (now (stretch .entry))) (now (line .entry)) ⌝ }
 {
     let mut body = [0u8; LONGEST_STRETCH];
     let n = match unstuff(stretch, &mut body) {
-        Unstuffed::TooLong => return Answer::Shape { first, closing },
-        Unstuffed::Bad => return Answer::Stuffing { first, closing },
+        Unstuffed::TooLong => return Answer::Shape,
+        Unstuffed::Bad => return Answer::Stuffing,
         // Never: the body has room for the longest stretch.
-        Unstuffed::NoRoom => return Answer::Shape { first, closing },
+        Unstuffed::NoRoom => return Answer::Shape,
         Unstuffed::Length(n) => n,
     };
-    judge_fields(&body[0..n], first, closing, key, font, line)
+    judge_fields(&body[0..n], key, font, line)
+}
+
+// An answer with one place for both.
+fn at(place: usize, answer: Answer) -> Reading
+    ensures { λ r. ⌜ r ≡ readingAt (span place place) answer ⌝ }
+{
+    Reading {
+        first: place,
+        closing: place,
+        answer,
+    }
 }
 
 // Judges the next stretch from a place. A line that is given is written to the start of line; nothing else is written.
-pub fn read(stream: &[u8], from: usize, key: &[u8], font: &[u8], line: &mut [u8]) -> Answer
+pub fn read(stream: &[u8], from: usize, key: &[u8], font: &[u8], line: &mut [u8]) -> Reading
     ensures { λ r. ⌜ r ≡ readAnswer (told (now (key .entry)) (now (font .entry))) (now (stream .entry)) from (now (line .entry)) ⌝ }
     ensures { λ _. ⌜ now (line .exit) ≡ readOut (told (now (key .entry)) (now (font .entry))) (now (stream .entry)) from (now (line .entry)) ⌝ }
 {
     if key.len() != KEY_LENGTH {
-        return Answer::Sizes(from);
+        return at(from, Answer::Sizes);
     }
     if font.len() != DIGEST_LENGTH {
-        return Answer::Sizes(from);
+        return at(from, Answer::Sizes);
     }
     if stream.len() > LONGEST_STREAM {
-        return Answer::TooLong(from);
+        return at(from, Answer::TooLong);
     }
     if line.len() < LONGEST {
-        return Answer::NoRoom(from);
+        return at(from, Answer::NoRoom);
     }
     if from > stream.len() {
-        return Answer::Beyond(from);
+        return at(from, Answer::Beyond);
     }
     let span = next_span(stream, from);
     let first = span.first;
     let closing = span.closing;
     if first == closing {
-        return Answer::End(closing);
+        return at(closing, Answer::End);
     }
-    judge_stretch(&stream[first..closing], first, closing, key, font, line)
+    let answer = judge_stretch(&stream[first..closing], key, font, line);
+    Reading {
+        first,
+        closing,
+        answer,
+    }
 }

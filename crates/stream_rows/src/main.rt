@@ -5,6 +5,7 @@ use libc::STDIN_FILENO;
 use libc::STDOUT_FILENO;
 use reader::Answer;
 use reader::LONGEST_STREAM;
+use reader::Reading;
 ghost use mathlib.Core.Path.{_≡_};
 ghost use Prim.Native.Nat.{_<_};
 ghost use lib.ListN.{length};
@@ -64,7 +65,7 @@ fn shown(line: &[u8], length: usize) {
 // The number of an answer; the end of the stream has a word of its own.
 fn number(answer: Answer) {
     match answer {
-        Answer::End(_) => say(b"end "),
+        Answer::End => say(b"end "),
         _ => cell(values::number_of(answer)),
     }
 }
@@ -83,19 +84,20 @@ fn row(
     key: &[u8],
     font: &[u8],
     line: &mut [u8],
-) -> Answer {
-    let answer = reader::read(stream, from, key, font, line);
+) -> Reading {
+    let reading = reader::read(stream, from, key, font, line);
+    let answer = reading.answer;
     say(name);
     say(b" ");
     cell(from);
     part(stream, from);
-    cell(values::first_of(answer));
-    cell(values::closing_of(answer));
+    cell(reading.first);
+    cell(reading.closing);
     number(answer);
     cell(values::length_of(answer));
     cell(values::calls_of(answer));
     shown(line, values::length_of(answer));
-    answer
+    reading
 }
 
 // All readings of a case. Each ends further on, so one more than the stream has bytes is enough. The two places of a stretch differ; those
@@ -104,9 +106,9 @@ fn case_rows(name: &[u8], stream: &[u8], place: usize, key: &[u8], font: &[u8], 
     let mut from = place;
     let mut turns: u64 = 70000;
     while turns > 0 {
-        let answer = row(name, stream, from, key, font, line);
-        from = values::closing_of(answer);
-        if values::first_of(answer) < from {
+        let reading = row(name, stream, from, key, font, line);
+        from = reading.closing;
+        if reading.first < from {
             turns -= 1;
         } else {
             turns = 0;

@@ -1,7 +1,7 @@
 // Document 01's number and values of an answer of the reader and of the writer ('Numbers returned'), for callers that report them.
 // The promises cite specs/Answers.antt of reader and of frame.
 ghost use mathlib.Core.Path.{_≡_};
-ghost use Rattle.reader.specs.Answers.{numberOf, firstOf, closingOf, lengthOf, callsOf};
+ghost use Rattle.reader.specs.Answers.{numberOf, lengthOf, callsOf};
 ghost use Rattle.frame.specs.Answers as writing;
 use frame::Written;
 use reader::Answer;
@@ -14,103 +14,20 @@ pub fn number_of(answer: Answer) -> usize
     ensures { λ r. ⌜ r ≡ numberOf answer ⌝ }
 {
     match answer {
-        Answer::Sizes(_) => 2,
-        Answer::TooLong(_) => 3,
-        Answer::NoRoom(_) => 4,
-        Answer::Beyond(_) => 10,
-        Answer::End(_) => 0,
-        Answer::Shape {
-            first: _,
-            closing: _,
-        } => 7,
-        Answer::Stuffing {
-            first: _,
-            closing: _,
-        } => 6,
-        Answer::Font {
-            first: _,
-            closing: _,
-        } => 8,
-        Answer::Seal {
-            first: _,
-            closing: _,
-            calls: _,
-        } => 5,
-        Answer::Unlisted {
-            first: _,
-            closing: _,
-            calls: _,
-        } => 9,
+        Answer::Sizes => 2,
+        Answer::TooLong => 3,
+        Answer::NoRoom => 4,
+        Answer::Beyond => 10,
+        Answer::End => 0,
+        Answer::Shape => 7,
+        Answer::Stuffing => 6,
+        Answer::Font => 8,
+        Answer::Seal(_) => 5,
+        Answer::Unlisted(_) => 9,
         Answer::Line {
-            first: _,
-            closing: _,
             length: _,
             calls: _,
         } => 0,
-    }
-}
-
-// The place of the stretch's first byte.
-pub fn first_of(answer: Answer) -> usize
-    ensures { λ r. ⌜ r ≡ firstOf answer ⌝ }
-{
-    match answer {
-        Answer::Sizes(at) => at,
-        Answer::TooLong(at) => at,
-        Answer::NoRoom(at) => at,
-        Answer::Beyond(at) => at,
-        Answer::End(at) => at,
-        Answer::Shape { first, closing: _ } => first,
-        Answer::Stuffing { first, closing: _ } => first,
-        Answer::Font { first, closing: _ } => first,
-        Answer::Seal {
-            first,
-            closing: _,
-            calls: _,
-        } => first,
-        Answer::Unlisted {
-            first,
-            closing: _,
-            calls: _,
-        } => first,
-        Answer::Line {
-            first,
-            closing: _,
-            length: _,
-            calls: _,
-        } => first,
-    }
-}
-
-// The place of its closing mark, where the next call starts.
-pub fn closing_of(answer: Answer) -> usize
-    ensures { λ r. ⌜ r ≡ closingOf answer ⌝ }
-{
-    match answer {
-        Answer::Sizes(at) => at,
-        Answer::TooLong(at) => at,
-        Answer::NoRoom(at) => at,
-        Answer::Beyond(at) => at,
-        Answer::End(at) => at,
-        Answer::Shape { first: _, closing } => closing,
-        Answer::Stuffing { first: _, closing } => closing,
-        Answer::Font { first: _, closing } => closing,
-        Answer::Seal {
-            first: _,
-            closing,
-            calls: _,
-        } => closing,
-        Answer::Unlisted {
-            first: _,
-            closing,
-            calls: _,
-        } => closing,
-        Answer::Line {
-            first: _,
-            closing,
-            length: _,
-            calls: _,
-        } => closing,
     }
 }
 
@@ -119,39 +36,17 @@ pub fn length_of(answer: Answer) -> usize
     ensures { λ r. ⌜ r ≡ lengthOf answer ⌝ }
 {
     match answer {
-        Answer::Sizes(_) => 0,
-        Answer::TooLong(_) => 0,
-        Answer::NoRoom(_) => 0,
-        Answer::Beyond(_) => 0,
-        Answer::End(_) => 0,
-        Answer::Shape {
-            first: _,
-            closing: _,
-        } => 0,
-        Answer::Stuffing {
-            first: _,
-            closing: _,
-        } => 0,
-        Answer::Font {
-            first: _,
-            closing: _,
-        } => 0,
-        Answer::Seal {
-            first: _,
-            closing: _,
-            calls: _,
-        } => 0,
-        Answer::Unlisted {
-            first: _,
-            closing: _,
-            calls: _,
-        } => 0,
-        Answer::Line {
-            first: _,
-            closing: _,
-            length,
-            calls: _,
-        } => length,
+        Answer::Sizes => 0,
+        Answer::TooLong => 0,
+        Answer::NoRoom => 0,
+        Answer::Beyond => 0,
+        Answer::End => 0,
+        Answer::Shape => 0,
+        Answer::Stuffing => 0,
+        Answer::Font => 0,
+        Answer::Seal(_) => 0,
+        Answer::Unlisted(_) => 0,
+        Answer::Line { length, calls: _ } => length,
     }
 }
 
@@ -160,39 +55,17 @@ pub fn calls_of(answer: Answer) -> usize
     ensures { λ r. ⌜ r ≡ callsOf answer ⌝ }
 {
     match answer {
-        Answer::Sizes(_) => NO_CALLS,
-        Answer::TooLong(_) => NO_CALLS,
-        Answer::NoRoom(_) => NO_CALLS,
-        Answer::Beyond(_) => NO_CALLS,
-        Answer::End(_) => NO_CALLS,
-        Answer::Shape {
-            first: _,
-            closing: _,
-        } => NO_CALLS,
-        Answer::Stuffing {
-            first: _,
-            closing: _,
-        } => NO_CALLS,
-        Answer::Font {
-            first: _,
-            closing: _,
-        } => NO_CALLS,
-        Answer::Seal {
-            first: _,
-            closing: _,
-            calls,
-        } => calls,
-        Answer::Unlisted {
-            first: _,
-            closing: _,
-            calls,
-        } => calls,
-        Answer::Line {
-            first: _,
-            closing: _,
-            length: _,
-            calls,
-        } => calls,
+        Answer::Sizes => NO_CALLS,
+        Answer::TooLong => NO_CALLS,
+        Answer::NoRoom => NO_CALLS,
+        Answer::Beyond => NO_CALLS,
+        Answer::End => NO_CALLS,
+        Answer::Shape => NO_CALLS,
+        Answer::Stuffing => NO_CALLS,
+        Answer::Font => NO_CALLS,
+        Answer::Seal(calls) => calls,
+        Answer::Unlisted(calls) => calls,
+        Answer::Line { length: _, calls } => calls,
     }
 }
 

@@ -1,4 +1,4 @@
--- The promises of `new`, `place`, `next` and `after` admit a single answer: the same struct, the same place, the same answer and the same
+-- The promises of `new`, `place`, `next` and `after` admit a single answer: the same struct, the same place, the same reading and the same
 -- bytes left in the line buffer. `X-says`: the contract that is checked says exactly `X`; `X-single`: whatever meets it is the same.
 -- Assumes nothing.
 use mathlib.Core.Path.{_≡_, refl, sym, _∙_}
@@ -14,9 +14,9 @@ use contract.Monad.{Fun, fact}
 use denote.Ref.{now}
 use denote.Triple.Entry.{Args}
 use denote.Triple.Clauses.{AtExit}
-use Rattle.reader.specs.Answers.{readAnswer, readOut, closingOf}
+use Rattle.reader.specs.Answers.{readAnswer, readOut}
 use Rattle.framing.specs.Told.{told}
-use Rattle.reader.specs.declared.Answer.{Answer}
+use Rattle.reader.specs.declared.Reading.{Reading}
 use Rattle.walker.specs.declared.Walker.{Walker}
 use Rattle.walker.proofs.new as new
 use Rattle.walker.proofs.place as place
@@ -30,12 +30,12 @@ New κs a r = (r .stream ≡ a .0) × (r .at ≡ 0)
 abbrev pub Place : (κs : Lfts 1) → Args place.signature κs → ℕ → Type 0
 Place κs a r = r ≡ a .0 .at
 
-abbrev pub Next : (κs : Lfts 4) → Args next.signature κs → Answer → AtExit next.ended κs → Type 0
+abbrev pub Next : (κs : Lfts 4) → Args next.signature κs → Reading → AtExit next.ended κs → Type 0
 Next κs a r x = (r ≡ readAnswer (told (now (a .1 .0)) (now (a .1 .1 .0))) (now (a .0 .stream)) (a .0 .at) (now (a .1 .1 .1 .0)))
     × (now (x .1 .1 .1 .0) ≡ readOut (told (now (a .1 .0)) (now (a .1 .1 .0))) (now (a .0 .stream)) (a .0 .at) (now (a .1 .1 .1 .0)))
 
 abbrev pub After : (κs : Lfts 1) → Args after.signature κs → Walker → Type 0
-After κs a r = (r .stream ≡ a .0 .stream) × (r .at ≡ closingOf (a .1 .0))
+After κs a r = (r .stream ≡ a .0 .stream) × (r .at ≡ a .1 .0 .closing)
 
 module _ {M : Type 1} (𝓤 : URA M) (H : Heap 𝓤) (A : Atoms 𝓤) (mem : Memory → SProp 𝓤) (run : Routine → Fun 𝓤) where
   pub new-says : (κs : Lfts 1) (a : Args new.signature κs) (r : Walker) (x : AtExit new.ended κs) → new.clauses 𝓤 H A mem run κs a .ensures tt r x ≡ fact 𝓤 (New κs a r)
@@ -44,7 +44,7 @@ module _ {M : Type 1} (𝓤 : URA M) (H : Heap 𝓤) (A : Atoms 𝓤) (mem : Mem
   pub place-says : (κs : Lfts 1) (a : Args place.signature κs) (r : ℕ) (x : AtExit place.ended κs) → place.clauses 𝓤 H A mem run κs a .ensures tt r x ≡ fact 𝓤 (Place κs a r)
   place-says κs a r x = refl
 
-  pub next-says : (κs : Lfts 4) (a : Args next.signature κs) (r : Answer) (x : AtExit next.ended κs) → next.clauses 𝓤 H A mem run κs a .ensures tt r x ≡ fact 𝓤 (Next κs a r x)
+  pub next-says : (κs : Lfts 4) (a : Args next.signature κs) (r : Reading) (x : AtExit next.ended κs) → next.clauses 𝓤 H A mem run κs a .ensures tt r x ≡ fact 𝓤 (Next κs a r x)
   next-says κs a r x = refl
 
   pub after-says : (κs : Lfts 1) (a : Args after.signature κs) (r : Walker) (x : AtExit after.ended κs) → after.clauses 𝓤 H A mem run κs a .ensures tt r x ≡ fact 𝓤 (After κs a r)
@@ -56,7 +56,7 @@ new-single κs a r r′ p q = λ i. record { stream = (p .0 ∙ sym (q .0)) i; a
 pub place-single : (κs : Lfts 1) (a : Args place.signature κs) (r r′ : ℕ) → Place κs a r → Place κs a r′ → r ≡ r′
 place-single κs a r r′ p q = p ∙ sym q
 
-pub next-single : (κs : Lfts 4) (a : Args next.signature κs) (r r′ : Answer) (x x′ : AtExit next.ended κs) → Next κs a r x → Next κs a r′ x′
+pub next-single : (κs : Lfts 4) (a : Args next.signature κs) (r r′ : Reading) (x x′ : AtExit next.ended κs) → Next κs a r x → Next κs a r′ x′
     → (r ≡ r′) × (x .1 .1 .1 .0 .now ≡ x′ .1 .1 .1 .0 .now)
 next-single κs a r r′ x x′ p q = (p .0 ∙ sym (q .0), p .1 ∙ sym (q .1))
 

@@ -1,11 +1,10 @@
 // A walker (document 01, 'A frame and a stream'): a small struct that holds the stream and the place reached, thin over the read call.
-// Its answers are those of `read` from that place; `after` says where it stands next.
+// Its readings are those of `read` from that place; `after` says where it stands next.
 ghost use mathlib.Core.Path.{_≡_};
-ghost use Rattle.reader.specs.Answers.{readAnswer, readOut, closingOf};
+ghost use Rattle.reader.specs.Answers.{readAnswer, readOut};
 ghost use Rattle.framing.specs.Told.{told};
-use reader::Answer;
+use reader::Reading;
 use reader::read;
-use values::closing_of;
 
 pub struct Walker<'a> {
     pub stream: &'a [u8],
@@ -32,19 +31,19 @@ pub fn next<'a, 'b, 'c, 'd>(
     key: &'b [u8],
     font: &'c [u8],
     line: &'d mut [u8],
-) -> Answer
+) -> Reading
     ensures { λ r. ⌜ (r ≡ readAnswer (told (now (key .entry)) (now (font .entry))) (now (w .entry .stream)) (w .entry .at) (now (line .entry))) × (now (line .exit) ≡ readOut (told (now (key .entry)) (now (font .entry))) (now (w .entry .stream)) (w .entry .at) (now (line .entry))) ⌝ }
 {
     read(w.stream, w.at, key, font, line)
 }
 
-// The walker after an answer: at the closing mark that it names, at the stream's length at the end, and where it was if the call was
+// The walker after a reading: at the closing mark that it names, at the stream's length at the end, and where it was if the call was
 // refused.
-pub fn after<'a>(w: Walker<'a>, answer: Answer) -> Walker<'a>
-    ensures { λ r. ⌜ (r .stream ≡ w .entry .stream) × (r .at ≡ closingOf answer) ⌝ }
+pub fn after<'a>(w: Walker<'a>, reading: Reading) -> Walker<'a>
+    ensures { λ r. ⌜ (r .stream ≡ w .entry .stream) × (r .at ≡ reading .closing) ⌝ }
 {
     Walker {
         stream: w.stream,
-        at: closing_of(answer),
+        at: reading.closing,
     }
 }

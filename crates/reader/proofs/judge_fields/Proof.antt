@@ -8,7 +8,6 @@ use Rattle.framing.specs.Told.{told}
 use Rattle.body.specs.Fields.{fieldsOf}
 use Rattle.lists.specs.Below.{below-all}
 use borrow.Author.Tests.{not-true, not-false}
-use Rattle.stream.specs.Stretches.{span}
 use mathlib.Core.Path.{refl, sym, _∙_}
 use native.Mathlib.Omega.{arith}
 use borrow.Author.Needs.{needs}
@@ -31,7 +30,7 @@ returns : tie.Need-returns
 returns c =
     let s = c .before .before .before .before .before .before .before in
     let a = s .args in
-    shown (span (a .first) (a .closing)) (judgeFields (told (a .key .now) (a .font .now)) (fieldsOf (a .body .now))) (a .line .now) shape
+    shown (judgeFields (told (a .key .now) (a .font .now)) (fieldsOf (a .body .now))) (a .line .now) shape
     (no-fields (told (a .key .now) (a .font .now)) (a .body .now) (sym (c .before .before .judge-body .ensures) ∙ c .enum-told .given .1))
 
 enum-known-n : tie.Need-enum-known-n
@@ -56,7 +55,7 @@ returns-2 : tie.Need-returns-2
 returns-2 c =
     let s = c .before .before .before .before .before .before .before .before .before .before .before in
     let a = s .args in
-    shown (span (a .first) (a .closing)) (judgeFields (told (a .key .now) (a .font .now)) (fieldsOf (a .body .now))) (a .line .now) font
+    shown (judgeFields (told (a .key .now) (a .font .now)) (fieldsOf (a .body .now))) (a .line .now) font
     (other-font (told (a .key .now) (a .font .now)) (a .body .now) _ (found (c .before .before .before .before)) (sym (c .before .compare .ensures) ∙ not-true _ (c .if1 .taken)))
 
 add-nonce : tie.Need-add-nonce
@@ -129,7 +128,7 @@ returns-3 : tie.Need-returns-3
 returns-3 c =
     let s = c .before .before .before .before .before .before .before .before .before .before .before .before .before .before .before .before .before .before .before .before .before in
     let a = s .args in
-    passed (span (a .first) (a .closing)) (judgeFields (told (a .key .now) (a .font .now)) (fieldsOf (a .body .now))) _ (a .line .now) _ _
+    passed (judgeFields (told (a .key .now) (a .font .now)) (fieldsOf (a .body .now))) _ (a .line .now) _ _
     (its-font (told (a .key .now) (a .font .now)) (a .body .now) _ (found (c .before .before .before .before .before .before .before .before .before .before .before .before .before .before)) (sym (c .before .before .before .before .before .before .before .before .before .before .before .compare .ensures) ∙ not-false _ (c .before .before .before .before .before .before .before .before .before .before .if1 .left)))
     (c .before .before .before .judge-sealed .ensures)
 

@@ -4,7 +4,6 @@ use Rattle.reader.proofs.Opening.{told-seal, told-other, told-unlisted,
 use Rattle.reader.proofs.Shown.{shown}
 use Rattle.judging.specs.Judging.{judgeSealed}
 use Rattle.judging.specs.Judged.{seal, unlisted}
-use Rattle.stream.specs.Stretches.{span}
 use native.Mathlib.Omega.{arith}
 use borrow.Author.Needs.{needs}
 use Rattle.reader.proofs.judge_sealed.Statement.{statement}
@@ -24,7 +23,7 @@ returns c =
     let s = c .before .before .before .before .before .before .before .before .before .before .before .before .before .before in
     let a = s .args in
     let o = c .before .before .before .before .before .«open» in
-    shown (span (a .first) (a .closing)) (judgeSealed (a .key .now) (a .nonce .now) (a .assoc .now) (a .cipher .now) (a .seal .now)) (a .line .now) (seal _)
+    shown (judgeSealed (a .key .now) (a .nonce .now) (a .assoc .now) (a .cipher .now) (a .seal .now)) (a .line .now) (seal _)
     (told-seal (a .key .now) (a .nonce .now) (a .assoc .now) (a .cipher .now) (a .seal .now) (s .pre .0) (o .result) (o .ensures .0) _ (c .before .calls .given .1))
 
 enum-known-calls-2 : tie.Need-enum-known-calls-2
@@ -53,7 +52,7 @@ returns-2 c =
     let s = c .before .before .before .before .before .before .before .before .before .before .before .before .before .before .before .before .before .before .before in
     let a = s .args in
     let o = c .before .before .before .before .before .before .before .before .before .before .«open» in
-    shown (span (a .first) (a .closing)) (judgeSealed (a .key .now) (a .nonce .now) (a .assoc .now) (a .cipher .now) (a .seal .now)) (a .line .now) (unlisted _)
+    shown (judgeSealed (a .key .now) (a .nonce .now) (a .assoc .now) (a .cipher .now) (a .seal .now)) (a .line .now) (unlisted _)
     (told-unlisted (a .key .now) (a .nonce .now) (a .assoc .now) (a .cipher .now) (a .seal .now) (s .pre .0) (o .result) (o .ensures .0) _ (c .before .before .before .before .before .before .calls2 .given .1) _ (o .ensures .1) _ (c .before .before .judge-line .ensures) (c .enum-told .given .1))
 
 enum-told-2 : tie.Need-enum-told-2
@@ -73,7 +72,7 @@ returns-3 c =
     let s = c .before .before .before .before .before .before .before .before .before .before .before .before .before .before .before .before .before .before .before .before .before .before .before in
     let a = s .args in
     let o = c .before .before .before .before .before .before .before .before .before .before .before .before .before .before .«open» in
-    gives (a .key .now) (a .nonce .now) (a .assoc .now) (a .cipher .now) (a .seal .now) (s .pre .0) (o .result) (o .ensures .0) _ (c .before .before .before .before .before .before .before .before .before .before .calls2 .given .1) _ (o .ensures .1) (span (a .first) (a .closing))
+    gives (a .key .now) (a .nonce .now) (a .assoc .now) (a .cipher .now) (a .seal .now) (s .pre .0) (o .result) (o .ensures .0) _ (c .before .before .before .before .before .before .before .before .before .before .calls2 .given .1) _ (o .ensures .1)
     _ (c .before .before .before .before .before .before .judge-line .ensures) (c .before .before .before .before .enum-told2 .given .1) (a .line .now) _ (omega (arith, s .pre .1 .0, s .pre .1 .1)) (c .before .before .copy .ensures)
 
 same-length-5 : tie.Need-same-length-5

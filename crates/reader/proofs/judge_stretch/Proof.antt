@@ -5,7 +5,6 @@ use Rattle.reader.proofs.Shown.{shown, passed}
 use Rattle.judging.specs.Judging.{judge}
 use Rattle.judging.specs.Judged.{shape, stuffing}
 use Rattle.framing.specs.Told.{told}
-use Rattle.stream.specs.Stretches.{span}
 use mathlib.Core.Path.{sym, _∙_}
 use native.Mathlib.Omega.{arith}
 use borrow.Author.Needs.{needs}
@@ -25,7 +24,7 @@ returns : tie.Need-returns
 returns c =
     let s = c .before .before .before .before .before .before .before .before .before in
     let a = s .args in
-    shown (span (a .first) (a .closing)) (judge (told (a .key .now) (a .font .now)) (a .stretch .now)) (a .line .now) shape
+    shown (judge (told (a .key .now) (a .font .now)) (a .stretch .now)) (a .line .now) shape
     (told-long (told (a .key .now) (a .font .now)) (a .stretch .now) _ (sym (c .before .before .before .unstuff .ensures .0) ∙ c .enum-told .given .1))
 
 enum-told-2 : tie.Need-enum-told-2
@@ -35,7 +34,7 @@ returns-2 : tie.Need-returns-2
 returns-2 c =
     let s = c .before .before .before .before .before .before .before .before .before in
     let a = s .args in
-    shown (span (a .first) (a .closing)) (judge (told (a .key .now) (a .font .now)) (a .stretch .now)) (a .line .now) stuffing
+    shown (judge (told (a .key .now) (a .font .now)) (a .stretch .now)) (a .line .now) stuffing
     (told-bad (told (a .key .now) (a .font .now)) (a .stretch .now) _ (sym (c .before .before .before .unstuff .ensures .0) ∙ c .enum-told2 .given .1))
 
 enum-told-3 : tie.Need-enum-told-3
@@ -72,7 +71,7 @@ returns-4 : tie.Need-returns-4
 returns-4 c =
     let s = c .before .before .before .before .before .before .before .before .before .before .before .before .before .before .before .before in
     let a = s .args in
-    passed (span (a .first) (a .closing)) (judge (told (a .key .now) (a .font .now)) (a .stretch .now)) _ (a .line .now) _ _
+    passed (judge (told (a .key .now) (a .font .now)) (a .stretch .now)) _ (a .line .now) _ _
     (told-body (told (a .key .now) (a .font .now)) (a .stretch .now) _ _ _ (sym (c .before .before .before .before .before .before .before .before .before .before .unstuff .ensures .0) ∙ c .before .before .before .before .before .before .before .n .given .1) (c .before .before .before .before .before .before .before .before .before .before .unstuff .ensures .1)) (c .before .before .judge-fields .ensures)
 
 pub judge-stretch-spec : {M : Type 1} → statement M

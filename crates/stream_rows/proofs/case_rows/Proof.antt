@@ -17,12 +17,6 @@ loop-holds c = search needs
 row-requires : tie.Need-row-requires Inv-loop μ-loop
 row-requires c κs = search needs
 
-closing-of-requires : tie.Need-closing-of-requires Inv-loop μ-loop
-closing-of-requires c κs = search needs
-
-first-of-requires : tie.Need-first-of-requires Inv-loop μ-loop
-first-of-requires c κs = search needs
-
 sub-turns : tie.Need-sub-turns Inv-loop μ-loop
 sub-turns c = search needs
 
@@ -52,8 +46,6 @@ case-rows-spec =
     μ-loop
     loop-holds
     row-requires
-    closing-of-requires
-    first-of-requires
     sub-turns
     loop-less
     loop-again

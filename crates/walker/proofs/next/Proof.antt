@@ -30,7 +30,6 @@ use denote.Ref.{RefT, now}
 use denote.Signature.{plain, namedLft, shrSliceOf}
 use denote.Slice.{sliceVal, slice-vals, shr-slice-tells, mut-slice-tells, ShrSlice, MutSlice, Room, finally}
 use denote.Steps.{owned, peeks, heard, nothing}
-use denote.Enum.Laws as EL
 use denote.Struct.Declared.{Declared}
 use denote.Struct.Laws as LL
 use denote.Struct.Rest.{all-own, own-open}
@@ -45,9 +44,9 @@ use denote.Exit.{yes}
 use denote.Triple.Clauses.{ensured, lasts}
 use Rattle.reader.specs.Answers.{readAnswer, readOut}
 use Rattle.framing.specs.Told.{told}
-use Rattle.reader.specs.declared.Answer.{Answer}
-use Rattle.reader.proofs.Answer as S
-use Rattle.reader.proofs.Answer.Laws as S′
+use Rattle.reader.specs.declared.Reading.{Reading}
+use Rattle.reader.proofs.Reading as S
+use Rattle.reader.proofs.Reading.Laws as S′
 use Rattle.reader.proofs.read as callee
 use Rattle.reader.proofs.read.Symbol as callee-def
 use Rattle.reader.proofs.read.Symbol.{name as #reader·read}
@@ -131,7 +130,7 @@ module _ {M : Type 1} (𝓤 : URA M) (H : Heap 𝓤) (A : Atoms 𝓤) (W : Given
   to = ((κs, (q₀, (q₁, (q₂, (q₃, tt)))), tt, a′, passed), tt)
 
   -- what is said of a result, and of the buffer's last list
-  abbrev Answered : Answer → Type 0
+  abbrev Answered : Reading → Type 0
   Answered r = r ≡ readAnswer (told (now key) (now font)) (now (d .stream)) (d .at) ys
 
   abbrev Left : List ℕ → Type 0
@@ -150,7 +149,7 @@ module _ {M : Type 1} (𝓤 : URA M) (H : Heap 𝓤) (A : Atoms 𝓤) (W : Given
       move ! (1 ∷ []) $ drop ! $ owned ! usize (Is usize) (uint-makes 𝓤 H A W w64) (d .at) _ (refl, fits) $ move ! (0 ∷ 2 ∷ []) $ fjoin ! $ move ! (1 ∷ 0 ∷ []) $ fjoin ! $
       move ! (1 ∷ 0 ∷ []) $ join ! $ frame ! $ done !)
 
-  exits : (r : Answer) (u : Val) (zs : List ℕ) → Answered r × Left zs → length zs ≡ length ys
+  exits : (r : Reading) (u : Val) (zs : List ℕ) → Answered r × Left zs → length zs ≡ length ys
       → ent 𝓤 (⋆ 𝓤 H A (tokens ∷ ‵ (finally u8 γ zs) ∷ ‵ (S.the-row .own r (u ∷ [])) ∷ [])) (Post u)
   exits r u zs e l =
       qed W (tokens ∷ ‵ (finally u8 γ zs) ∷ ‵ (S.the-row .own r (u ∷ [])) ∷ []) ∵
@@ -172,13 +171,13 @@ module _ {M : Type 1} (𝓤 : URA M) (H : Heap 𝓤) (A : Atoms 𝓤) (W : Given
         assigns ! (agg ! (and-then ! (load ! (from ! (stop !)) (look ! 2 refl)) (and-then ! (load ! (from ! (fld ! refl (stop !))) (look-in ! 8 (sub ! 1 refl (whole !)))) (no-more !)))) (from ! (stop !)) (init ! 0 refl (tt, (tt, (record { fits = room .0 }, tt)))) $
         move ! (18 ∷ []) $ use1 W (raw (Reads 𝓤 H A mem run .pre to)) (apart (wt .1 .1 .0 .fits)) $
         calls-at ! fm (Reads 𝓤 H A mem run) known to (and-then ! (load ! (from ! (stop !)) (look ! 7 refl)) (and-then ! (load ! (from ! (stop !)) (look ! 5 refl)) (and-then ! (load ! (from ! (stop !)) (look ! 13 refl)) (and-then ! (load ! (from ! (stop !)) (look ! 11 refl)) (and-then ! (load ! (from ! (stop !)) (look ! 1 refl)) (no-more !)))))) (λ u.
-        use1 W (later (some (λ (r : Answer). (tokens ⊛ ‵ (S.the-row .own r (u ∷ []))) ⊛ raw (ensured 𝓤 H A callee.ended (callee.clauses 𝓤 H A mem run) κs a′ tt r)))) (id⊢ 𝓤 _) $ await ! tt $ pick ! (λ r.
+        use1 W (later (some (λ (r : Reading). (tokens ⊛ ‵ (S.the-row .own r (u ∷ []))) ⊛ raw (ensured 𝓤 H A callee.ended (callee.clauses 𝓤 H A mem run) κs a′ tt r)))) (id⊢ 𝓤 _) $ await ! tt $ pick ! (λ r.
         -- what `read` ensures, at some last list
         split ! $ move ! (1 ∷ []) $ use1 W (some (λ (zs : Unit {0} × (Unit {0} × (Unit {0} × (Unit {0} × (List ℕ × Unit {0}))))). ‵ (lasts callee.ended κs a′ zs) ⊛ raw (fact 𝓤 (Answered r)) ⊛ raw (fact 𝓤 (Left (zs .1 .1 .1 .1 .0))))) (id⊢ 𝓤 _) $ pick ! (λ zs.
         split ! $ move ! (1 ∷ []) $ split ! $ heard ! (Answered r) (λ e. heard ! (Left (zs .1 .1 .1 .1 .0)) (λ f. fsplit ! $ drop ! $ fsplit ! $ drop ! $ fsplit ! $ drop ! $ fsplit ! $ drop ! $ fsplit ! $ fsplit ! $ move ! (1 ∷ []) $ feqL ! (λ l.
         -- [the last list; true; the tokens and the result; _8; …]
         move ! (2 ∷ []) $ split ! $ move ! (1 ∷ []) $ peeks ! S.the-row (Is S.the-row) (shows 𝓤 H A S.the-row) r (u ∷ []) (λ is.
-        land ! (from ! (stop !)) (init ! 20 refl (EL.lawful S.the-type S′.the-laws 𝓤 H A W tt .typed r _ is .0)) $
+        land ! (from ! (stop !)) (init ! 20 refl (LL.lawful S.the-type S′.the-laws 𝓤 H A W .typed r _ is .0)) $
         returns ! (look ! 20 refl) $ forget ! 4 refl $ forget ! 6 refl $ forget ! 8 refl $ forget ! 10 refl $ forget ! 12 refl $ forget ! 14 refl $ forget ! 16 refl $ forget ! 18 refl $ forget ! 20 refl $
         move ! (20 ∷ 21 ∷ []) $ free1 ! $ move ! (18 ∷ 19 ∷ []) $ free1 ! $ move ! (16 ∷ 17 ∷ []) $ free1 ! $ move ! (14 ∷ 15 ∷ []) $ free1 ! $ move ! (12 ∷ 13 ∷ []) $ free1 ! $ move ! (10 ∷ 11 ∷ []) $ free1 ! $ move ! (8 ∷ 9 ∷ []) $ free1 ! $ move ! (6 ∷ 7 ∷ []) $ free1 ! $ move ! (4 ∷ 5 ∷ []) $ free1 ! $ free0 ! $
         keep ! (1 ∷ 2 ∷ 0 ∷ []) $ by ! (exits r u (zs .1 .1 .1 .1 .0) (e, f) l)))))))))))))))))
