@@ -93,12 +93,12 @@ fn send(frame: &[u8], which: u64) {
 fn seal_line(line: &[u8], nonce: &[u8], which: u64, key: &[u8], font: &[u8]) {
     let mut frame = [0u8; frame::FRAME_ROOM];
     let written = frame::write(key, nonce, font, line, &mut frame);
-    let number = values::written_number(written);
+    let number = numbers::write_number(written);
     if number != 0 {
         report(which, number as u64);
         return;
     }
-    let length = values::written_length(written);
+    let length = numbers::write_length(written);
     if length <= frame.len() {
         send(&frame[0..length], which);
     }

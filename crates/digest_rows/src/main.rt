@@ -3,7 +3,6 @@
 ghost use mathlib.Core.Path.{_≡_};
 ghost use Prim.Native.Nat.{_<_};
 ghost use lib.ListN.{length};
-use digest::Digested;
 use digest::LIMIT;
 use libc::STDIN_FILENO;
 use libc::STDOUT_FILENO;
@@ -42,29 +41,13 @@ fn hex(bytes: &[u8]) {
     }
 }
 
-fn number_of(answer: Digested) -> usize {
-    match answer {
-        Digested::Done(_) => 0,
-        Digested::Instance => 1,
-        Digested::TooLong => 3,
-        Digested::NoRoom => 4,
-    }
-}
-
-fn count_of(answer: Digested) -> usize {
-    match answer {
-        Digested::Done(n) => n,
-        _ => 0,
-    }
-}
-
 fn row(instance: usize, message: &[u8], out: &mut [u8]) {
     let answer = digest::digest(instance, message, out);
     cell(instance);
     cell(message.len());
     cell(out.len());
-    cell(number_of(answer));
-    cell(count_of(answer));
+    cell(numbers::digest_number(answer) as usize);
+    cell(numbers::digest_count(answer));
     hex(out);
     say(b"\n");
 }

@@ -30,7 +30,7 @@ fn refused(t: Tally, reading: Reading) -> Tally {
     let answer = reading.answer;
     print(reading.first as u64);
     say(b" ");
-    print(values::number_of(answer) as u64);
+    print(numbers::read_number(answer) as u64);
     say(b"\n");
     Tally {
         next: reading.closing,
@@ -43,7 +43,7 @@ fn refused(t: Tally, reading: Reading) -> Tally {
 // A row of a line.
 fn line_row(t: Tally, reading: Reading, line: &[u8]) -> Tally {
     let answer = reading.answer;
-    let length = values::length_of(answer);
+    let length = numbers::read_length(answer);
     print(reading.first as u64);
     say(b" 0 ");
     if length <= line.len() {
@@ -74,7 +74,7 @@ fn one(stream: &[u8], key: &[u8], font: &[u8], line: &mut [u8], t: Tally) -> Tal
         return ended(t);
     }
     let answer = reading.answer;
-    if values::number_of(answer) == 0 {
+    if numbers::read_number(answer) == 0 {
         return line_row(t, reading, line);
     }
     refused(t, reading)

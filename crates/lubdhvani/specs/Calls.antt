@@ -6,10 +6,6 @@ use lib.ListN.{length}
 use Rattle.gage.specs.Permutation.{permitted, numberOf}
 use Rattle.gage.specs.declared.Answer.the-variants.{Done, Size}
 
--- document 01, 'Numbers returned': the largest
-abbrev pub LARGEST-NUMBER : ℕ
-LARGEST-NUMBER = 10
-
 -- the permutation of a state where it stands
 unfoldable pub permuteNumber : ℕ → ℕ
 permuteNumber n = cond (permitted n) (numberOf Done) (numberOf Size)

@@ -1,7 +1,6 @@
 // The C interface: each proved call under its C name, thin. include/lubdhvani.h is its manual; numbers are document 01's, and
 // counts, lengths and places go out through references to numbers. The promises cite specs/Calls.antt.
 ghost use mathlib.Core.Path.{_≡_};
-ghost use Prim.Native.Nat.{_≤_};
 ghost use lib.ListN.{length, replicate};
 ghost use Rattle.lists.specs.Buffers.{copied};
 ghost use Rattle.digest.specs.Answers.{digestAnswer, digestOut};
@@ -16,15 +15,21 @@ ghost use Rattle.framing.specs.Told.{told};
 ghost use Rattle.reader.specs.Answers.{readAnswer, readOut};
 ghost use Rattle.reader.specs.Answers as reading;
 ghost use Rattle.stream.specs.Stretches.{nextSpan};
-ghost use Rattle.lubdhvani.specs.Calls.{LARGEST-NUMBER, permuteNumber, permuteState};
+ghost use Rattle.lubdhvani.specs.Calls.{permuteNumber, permuteState};
 use gage::Answer;
 use gage::LARGEST;
 use numbers::digest_count;
 use numbers::digest_number;
 use numbers::open_count;
 use numbers::open_number;
+use numbers::read_count;
+use numbers::read_length;
+use numbers::read_number;
 use numbers::seal_count;
 use numbers::seal_number;
+use numbers::write_count;
+use numbers::write_length;
+use numbers::write_number;
 
 // A state of at most LARGEST bytes at the start of a whole one.
 fn widened(state: &[u8]) -> [u8; LARGEST]
@@ -143,14 +148,6 @@ pub extern "C" fn lubdhvani_open(
     open_number(answer)
 }
 
-// One of document 01's numbers, as C takes it.
-fn number(n: usize) -> u32
-    requires { ⌜ n ≤ LARGEST-NUMBER ⌝ }
-    ensures { λ r. ⌜ r ≡ n ⌝ }
-{
-    n as u32
-}
-
 // Writes the frame of a line.
 #[no_mangle]
 pub extern "C" fn lubdhvani_write(
@@ -168,9 +165,9 @@ pub extern "C" fn lubdhvani_write(
     ensures { λ _. ⌜ now (calls .exit) ≡ writing.countOf (writeCall (told (now (key .entry)) (now (font .entry))) (now (nonce .entry)) (now (line .entry)) (now (frame .entry)) .answer) ⌝ }
 {
     let answer = frame::write(key, nonce, font, line, frame);
-    *length = values::written_length(answer);
-    *calls = values::written_calls(answer);
-    number(values::written_number(answer))
+    *length = write_length(answer);
+    *calls = write_count(answer);
+    write_number(answer)
 }
 
 // Judges the next stretch from a place, and gives out its line.
@@ -195,7 +192,7 @@ pub extern "C" fn lubdhvani_read(
     *first = reading.first;
     *closing = reading.closing;
     let answer = reading.answer;
-    *length = values::length_of(answer);
-    *calls = values::calls_of(answer);
-    number(values::number_of(answer))
+    *length = read_length(answer);
+    *calls = read_count(answer);
+    read_number(answer)
 }

@@ -1,4 +1,4 @@
--- The promises of the numbers and counts, as the check reads them (`Post`), admit a single answer. Assumes nothing.
+-- The promises of the numbers, lengths and counts, as the check reads them (`Post`), admit a single answer. Assumes nothing.
 use mathlib.Core.Path.{_≡_, sym, _∙_}
 use Prim.Native.Nat.{ℕ}
 use contract.Lifetimes.{Lfts}
@@ -16,6 +16,18 @@ use Rattle.numbers.proofs.open_number.Kinds as open-number-kinds
 use Rattle.numbers.proofs.open_number.Reads as open-number-reads
 use Rattle.numbers.proofs.open_count.Kinds as open-count-kinds
 use Rattle.numbers.proofs.open_count.Reads as open-count-reads
+use Rattle.numbers.proofs.write_number.Kinds as write-number-kinds
+use Rattle.numbers.proofs.write_number.Reads as write-number-reads
+use Rattle.numbers.proofs.write_length.Kinds as write-length-kinds
+use Rattle.numbers.proofs.write_length.Reads as write-length-reads
+use Rattle.numbers.proofs.write_count.Kinds as write-count-kinds
+use Rattle.numbers.proofs.write_count.Reads as write-count-reads
+use Rattle.numbers.proofs.read_number.Kinds as read-number-kinds
+use Rattle.numbers.proofs.read_number.Reads as read-number-reads
+use Rattle.numbers.proofs.read_length.Kinds as read-length-kinds
+use Rattle.numbers.proofs.read_length.Reads as read-length-reads
+use Rattle.numbers.proofs.read_count.Kinds as read-count-kinds
+use Rattle.numbers.proofs.read_count.Reads as read-count-reads
 
 pub digest-number-single : (κs : Lfts 0) (a : Dens κs digest-number-kinds.ps) (r r′ : ℕ) (x x′ : AtExit (endedOf 0 digest-number-kinds.ps digest-number-kinds.r) κs)
     → digest-number-reads.Post κs a r x → digest-number-reads.Post κs a r′ x′ → r ≡ r′
@@ -40,3 +52,27 @@ open-number-single κs a r r′ x x′ p q = p ∙ sym q
 pub open-count-single : (κs : Lfts 0) (a : Dens κs open-count-kinds.ps) (r r′ : ℕ) (x x′ : AtExit (endedOf 0 open-count-kinds.ps open-count-kinds.r) κs)
     → open-count-reads.Post κs a r x → open-count-reads.Post κs a r′ x′ → r ≡ r′
 open-count-single κs a r r′ x x′ p q = p ∙ sym q
+
+pub write-number-single : (κs : Lfts 0) (a : Dens κs write-number-kinds.ps) (r r′ : ℕ) (x x′ : AtExit (endedOf 0 write-number-kinds.ps write-number-kinds.r) κs)
+    → write-number-reads.Post κs a r x → write-number-reads.Post κs a r′ x′ → r ≡ r′
+write-number-single κs a r r′ x x′ p q = p ∙ sym q
+
+pub write-length-single : (κs : Lfts 0) (a : Dens κs write-length-kinds.ps) (r r′ : ℕ) (x x′ : AtExit (endedOf 0 write-length-kinds.ps write-length-kinds.r) κs)
+    → write-length-reads.Post κs a r x → write-length-reads.Post κs a r′ x′ → r ≡ r′
+write-length-single κs a r r′ x x′ p q = p ∙ sym q
+
+pub write-count-single : (κs : Lfts 0) (a : Dens κs write-count-kinds.ps) (r r′ : ℕ) (x x′ : AtExit (endedOf 0 write-count-kinds.ps write-count-kinds.r) κs)
+    → write-count-reads.Post κs a r x → write-count-reads.Post κs a r′ x′ → r ≡ r′
+write-count-single κs a r r′ x x′ p q = p ∙ sym q
+
+pub read-number-single : (κs : Lfts 0) (a : Dens κs read-number-kinds.ps) (r r′ : ℕ) (x x′ : AtExit (endedOf 0 read-number-kinds.ps read-number-kinds.r) κs)
+    → read-number-reads.Post κs a r x → read-number-reads.Post κs a r′ x′ → r ≡ r′
+read-number-single κs a r r′ x x′ p q = p ∙ sym q
+
+pub read-length-single : (κs : Lfts 0) (a : Dens κs read-length-kinds.ps) (r r′ : ℕ) (x x′ : AtExit (endedOf 0 read-length-kinds.ps read-length-kinds.r) κs)
+    → read-length-reads.Post κs a r x → read-length-reads.Post κs a r′ x′ → r ≡ r′
+read-length-single κs a r r′ x x′ p q = p ∙ sym q
+
+pub read-count-single : (κs : Lfts 0) (a : Dens κs read-count-kinds.ps) (r r′ : ℕ) (x x′ : AtExit (endedOf 0 read-count-kinds.ps read-count-kinds.r) κs)
+    → read-count-reads.Post κs a r x → read-count-reads.Post κs a r′ x′ → r ≡ r′
+read-count-single κs a r r′ x x′ p q = p ∙ sym q

@@ -1,15 +1,22 @@
-// Document 01's number and the count of what digest, seal and open answer ('Numbers returned'). The promises cite the definitions beside
-// those answers: digest/specs/Answers.antt and ingage/specs/Answers.antt.
+// Document 01's number and values of what each call answers ('Numbers returned'), for callers that report them. The promises cite the
+// definitions beside those answers: specs/Answers.antt of digest, ingage, frame and reader.
 ghost use mathlib.Core.Path.{_≡_};
-ghost use Rattle.digest.specs.Answers.{numberOf, countOf};
+ghost use Rattle.digest.specs.Answers as hashing;
 ghost use Rattle.ingage.specs.Answers.{sealNumber, sealCount, openNumber, openCount};
+ghost use Rattle.frame.specs.Answers as writing;
+ghost use Rattle.reader.specs.Answers as reading;
 use digest::Digested;
+use frame::Written;
 use ingage::Opened;
 use ingage::Sealed;
+use reader::Answer;
 
-// Of a digest.
+// What a refusal that makes no call of the permutation counts, and the end of the stream.
+const NO_CALLS: usize = 0;
+
+// The number of what `digest` answers.
 pub fn digest_number(answer: Digested) -> u32
-    ensures { λ r. ⌜ r ≡ numberOf answer ⌝ }
+    ensures { λ r. ⌜ r ≡ hashing.numberOf answer ⌝ }
 {
     match answer {
         Digested::Done(_) => 0,
@@ -19,18 +26,19 @@ pub fn digest_number(answer: Digested) -> u32
     }
 }
 
+// Its count.
 pub fn digest_count(answer: Digested) -> usize
-    ensures { λ r. ⌜ r ≡ countOf answer ⌝ }
+    ensures { λ r. ⌜ r ≡ hashing.countOf answer ⌝ }
 {
     match answer {
         Digested::Done(calls) => calls,
-        Digested::Instance => 0,
-        Digested::TooLong => 0,
-        Digested::NoRoom => 0,
+        Digested::Instance => NO_CALLS,
+        Digested::TooLong => NO_CALLS,
+        Digested::NoRoom => NO_CALLS,
     }
 }
 
-// Of a sealing.
+// The number of what `seal` answers.
 pub fn seal_number(answer: Sealed) -> u32
     ensures { λ r. ⌜ r ≡ sealNumber answer ⌝ }
 {
@@ -42,18 +50,19 @@ pub fn seal_number(answer: Sealed) -> u32
     }
 }
 
+// Its count.
 pub fn seal_count(answer: Sealed) -> usize
     ensures { λ r. ⌜ r ≡ sealCount answer ⌝ }
 {
     match answer {
         Sealed::Done(calls) => calls,
-        Sealed::Sizes => 0,
-        Sealed::TooLong => 0,
-        Sealed::NoRoom => 0,
+        Sealed::Sizes => NO_CALLS,
+        Sealed::TooLong => NO_CALLS,
+        Sealed::NoRoom => NO_CALLS,
     }
 }
 
-// Of an opening.
+// The number of what `open` answers.
 pub fn open_number(answer: Opened) -> u32
     ensures { λ r. ⌜ r ≡ openNumber answer ⌝ }
 {
@@ -66,14 +75,117 @@ pub fn open_number(answer: Opened) -> u32
     }
 }
 
+// Its count.
 pub fn open_count(answer: Opened) -> usize
     ensures { λ r. ⌜ r ≡ openCount answer ⌝ }
 {
     match answer {
         Opened::Done(calls) => calls,
-        Opened::Sizes => 0,
-        Opened::TooLong => 0,
-        Opened::NoRoom => 0,
+        Opened::Sizes => NO_CALLS,
+        Opened::TooLong => NO_CALLS,
+        Opened::NoRoom => NO_CALLS,
         Opened::Seal(calls) => calls,
+    }
+}
+
+// The number of what `write` answers.
+pub fn write_number(answer: Written) -> u32
+    ensures { λ r. ⌜ r ≡ writing.numberOf answer ⌝ }
+{
+    match answer {
+        Written::Done {
+            length: _,
+            calls: _,
+        } => 0,
+        Written::Sizes => 2,
+        Written::TooLong => 3,
+        Written::Unlisted => 9,
+        Written::NoRoom => 4,
+    }
+}
+
+// The frame's length, 0 on a refusal.
+pub fn write_length(answer: Written) -> usize
+    ensures { λ r. ⌜ r ≡ writing.lengthOf answer ⌝ }
+{
+    match answer {
+        Written::Done { length, calls: _ } => length,
+        Written::Sizes => 0,
+        Written::TooLong => 0,
+        Written::Unlisted => 0,
+        Written::NoRoom => 0,
+    }
+}
+
+// Its count.
+pub fn write_count(answer: Written) -> usize
+    ensures { λ r. ⌜ r ≡ writing.countOf answer ⌝ }
+{
+    match answer {
+        Written::Done { length: _, calls } => calls,
+        Written::Sizes => NO_CALLS,
+        Written::TooLong => NO_CALLS,
+        Written::Unlisted => NO_CALLS,
+        Written::NoRoom => NO_CALLS,
+    }
+}
+
+// The number of what `read` answers; the end of the stream has 0, as a line has.
+pub fn read_number(answer: Answer) -> u32
+    ensures { λ r. ⌜ r ≡ reading.numberOf answer ⌝ }
+{
+    match answer {
+        Answer::Sizes => 2,
+        Answer::TooLong => 3,
+        Answer::NoRoom => 4,
+        Answer::Beyond => 10,
+        Answer::End => 0,
+        Answer::Shape => 7,
+        Answer::Stuffing => 6,
+        Answer::Font => 8,
+        Answer::Seal(_) => 5,
+        Answer::Unlisted(_) => 9,
+        Answer::Line {
+            length: _,
+            calls: _,
+        } => 0,
+    }
+}
+
+// The line's length, 0 where no line is given.
+pub fn read_length(answer: Answer) -> usize
+    ensures { λ r. ⌜ r ≡ reading.lengthOf answer ⌝ }
+{
+    match answer {
+        Answer::Sizes => 0,
+        Answer::TooLong => 0,
+        Answer::NoRoom => 0,
+        Answer::Beyond => 0,
+        Answer::End => 0,
+        Answer::Shape => 0,
+        Answer::Stuffing => 0,
+        Answer::Font => 0,
+        Answer::Seal(_) => 0,
+        Answer::Unlisted(_) => 0,
+        Answer::Line { length, calls: _ } => length,
+    }
+}
+
+// Its count.
+pub fn read_count(answer: Answer) -> usize
+    ensures { λ r. ⌜ r ≡ reading.callsOf answer ⌝ }
+{
+    match answer {
+        Answer::Sizes => NO_CALLS,
+        Answer::TooLong => NO_CALLS,
+        Answer::NoRoom => NO_CALLS,
+        Answer::Beyond => NO_CALLS,
+        Answer::End => NO_CALLS,
+        Answer::Shape => NO_CALLS,
+        Answer::Stuffing => NO_CALLS,
+        Answer::Font => NO_CALLS,
+        Answer::Seal(calls) => calls,
+        Answer::Unlisted(calls) => calls,
+        Answer::Line { length: _, calls } => calls,
     }
 }

@@ -1,6 +1,5 @@
 // Prints the rows that the second program makes of its own permutation (tests/second, src/rows/permute.rs): every permitted size
 // over three states, forwards and backwards, then sizes that are not permitted.
-use gage::Answer;
 use gage::LARGEST;
 use gage::Permuted;
 use libc::STDOUT_FILENO;
@@ -65,13 +64,6 @@ fn permitted_rows() {
     }
 }
 
-fn number_of(answer: Answer) -> usize {
-    match answer {
-        Answer::Done => 0,
-        Answer::Size => 1,
-    }
-}
-
 fn refused(n: usize) {
     let before = ramp(n);
     let p = gage::permute(before, n);
@@ -80,7 +72,7 @@ fn refused(n: usize) {
     say(b"refused ");
     number(n);
     say(b" ");
-    number(number_of(answer));
+    number(gage::number(answer) as usize);
     if lists::compare(&before, &after) {
         say(b" same\n");
     } else {

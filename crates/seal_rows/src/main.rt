@@ -45,7 +45,7 @@ struct Case {
 
 // The number of a call, the length of a frame, and the count.
 struct Outcome {
-    number: usize,
+    number: u32,
     length: usize,
     count: usize,
 }
@@ -83,39 +83,27 @@ fn shown(bytes: &[u8]) {
     hex(&digest);
 }
 
-fn answered(number: usize, count: usize) -> Outcome {
+fn of_seal(answer: Sealed) -> Outcome {
     Outcome {
-        number,
+        number: numbers::seal_number(answer),
         length: 0,
-        count,
+        count: numbers::seal_count(answer),
     }
 }
 
-fn of_seal(answer: Sealed) -> Outcome {
-    answered(
-        numbers::seal_number(answer) as usize,
-        numbers::seal_count(answer),
-    )
-}
-
 fn of_open(answer: Opened) -> Outcome {
-    answered(
-        numbers::open_number(answer) as usize,
-        numbers::open_count(answer),
-    )
+    Outcome {
+        number: numbers::open_number(answer),
+        length: 0,
+        count: numbers::open_count(answer),
+    }
 }
 
 fn of_write(answer: Written) -> Outcome {
-    match answer {
-        Written::Done { length, calls } => Outcome {
-            number: 0,
-            length,
-            count: calls,
-        },
-        Written::Sizes => answered(2, 0),
-        Written::TooLong => answered(3, 0),
-        Written::Unlisted => answered(9, 0),
-        Written::NoRoom => answered(4, 0),
+    Outcome {
+        number: numbers::write_number(answer),
+        length: numbers::write_length(answer),
+        count: numbers::write_count(answer),
     }
 }
 
@@ -165,7 +153,7 @@ fn row(c: Case, all: &[u8], out: &mut [u8], seal: &mut [u8]) {
     let t = parted(c, all, out, seal);
     say(part(all, 0, c.name));
     say(b" ");
-    cell(t.number);
+    cell(t.number as usize);
     cell(t.length);
     cell(t.count);
     shown(out);

@@ -66,7 +66,7 @@ fn shown(line: &[u8], length: usize) {
 fn number(answer: Answer) {
     match answer {
         Answer::End => say(b"end "),
-        _ => cell(values::number_of(answer)),
+        _ => cell(numbers::read_number(answer) as usize),
     }
 }
 
@@ -94,9 +94,9 @@ fn row(
     cell(reading.first);
     cell(reading.closing);
     number(answer);
-    cell(values::length_of(answer));
-    cell(values::calls_of(answer));
-    shown(line, values::length_of(answer));
+    cell(numbers::read_length(answer));
+    cell(numbers::read_count(answer));
+    shown(line, numbers::read_length(answer));
     reading
 }
 

@@ -1,5 +1,4 @@
 -- `lubdhvani_read` meets its promise: the reader's answer, read off as number, places, length and count. Assumes nothing.
-use Rattle.lubdhvani.specs.Numbers.{read-number}
 use Rattle.reader.specs.Answers as reading
 use Rattle.reader.specs.declared.Reading.{Reading}
 use mathlib.Core.Path.{_∙_, ap}
@@ -10,30 +9,27 @@ use Rattle.lubdhvani.proofs.lubdhvani_read.Tie as tie
 read-requires : tie.Need-read-requires
 read-requires c κs = search needs
 
-length-of-requires : tie.Need-length-of-requires
-length-of-requires c κs = search needs
+read-length-requires : tie.Need-read-length-requires
+read-length-requires c κs = search needs
 
-calls-of-requires : tie.Need-calls-of-requires
-calls-of-requires c κs = search needs
+read-count-requires : tie.Need-read-count-requires
+read-count-requires c κs = search needs
 
-number-of-requires : tie.Need-number-of-requires
-number-of-requires c κs = search needs
-
-number-requires : tie.Need-number-requires
-number-requires c κs = rw (c .number-of .ensures) (read-number (c .before .before .before .before .before .read .result .answer))
+read-number-requires : tie.Need-read-number-requires
+read-number-requires c κs = search needs
 
 same-length : tie.Need-same-length
 same-length c = search needs
 
 returns : tie.Need-returns
 returns c =
-    let done = c .before .before .before .before .before .before .read .ensures in (
-      c .number .ensures ∙ c .before .number-of .ensures ∙ ap (λ (r : Reading). reading.numberOf (r .answer)) (done .0),
+    let done = c .before .before .before .before .before .read .ensures in (
+      c .read-number .ensures ∙ ap (λ (r : Reading). reading.numberOf (r .answer)) (done .0),
       (
         done .1,
         (
           (ap (λ (r : Reading). r .first) (done .0), ap (λ (r : Reading). r .closing) (done .0)),
-          (c .before .before .before .length-of .ensures ∙ ap (λ (r : Reading). reading.lengthOf (r .answer)) (done .0), c .before .before .calls-of .ensures ∙ ap (λ (r : Reading). reading.callsOf (r .answer)) (done .0)),
+          (c .before .before .read-length .ensures ∙ ap (λ (r : Reading). reading.lengthOf (r .answer)) (done .0), c .before .read-count .ensures ∙ ap (λ (r : Reading). reading.callsOf (r .answer)) (done .0)),
         ),
       ),
     )
@@ -43,9 +39,8 @@ lubdhvani-read-spec =
     tie.close
     (tie.spec
     read-requires
-    length-of-requires
-    calls-of-requires
-    number-of-requires
-    number-requires
+    read-length-requires
+    read-count-requires
+    read-number-requires
     same-length
     returns)
