@@ -1,6 +1,7 @@
 // Composes a job stream: key.bin, font.bin, then orders on standard input, one a row: the nonce as 24 hexadecimal digits, a blank, the
 // line. The frames go to standard output; a row that can't be sealed is reported on standard error with document 01's number, and the
-// others are still written. Nonces come from the caller; none is made here.
+// others are still written. Half an order is none: a last row without its newline is not sealed. Nonces come from the caller; none is made
+// here.
 ghost use Prim.Native.Nat.{_≤_};
 ghost use lib.ListN.{length};
 use body::NONCE_LENGTH;
@@ -16,22 +17,29 @@ use text::Digit;
 // The most of a row that is kept: nonce, blank and longest line fit with room to spare, and a longer row keeps a line that is too long.
 const ROW: usize = 128;
 
-// A row being gathered: its number, from 1, how much of it is kept, and whether anything of it came.
+// A row being gathered: its number, from 1, how much of it is kept, and whether anything of it came; and whether a frame could not be
+// written, after which no more are.
 pub struct Orders {
     pub number: u64,
     pub length: usize,
     pub begun: bool,
+    pub failed: bool,
 }
 
 fn complain(text: &[u8]) {
     io::write_all(STDERR_FILENO, text);
 }
 
-fn report(row: u64, number: u64) {
+// A row named on standard error, and what became of it.
+fn report(row: u64, what: &[u8]) {
     complain(b"row ");
     io::print_decimal(STDERR_FILENO, row);
-    complain(b" refused ");
-    io::print_decimal(STDERR_FILENO, number);
+    complain(what);
+}
+
+fn refused(row: u64, number: u32) {
+    report(row, b" refused ");
+    io::print_decimal(STDERR_FILENO, number as u64);
     complain(b"\n");
 }
 
@@ -49,17 +57,6 @@ fn first_blank(row: &[u8]) -> usize
     i
 }
 
-// The value of two digits, or 256 where one is none.
-fn pair(high: u8, low: u8) -> u32 {
-    let Digit::Value(h) = text::value(high) else {
-        return 256;
-    };
-    let Digit::Value(l) = text::value(low) else {
-        return 256;
-    };
-    (h as u32) % 16 * 16 + (l as u32) % 16
-}
-
 // Whether the text is exactly a nonce in digits; then it stands in nonce.
 fn nonce_of(text: &[u8], nonce: &mut [u8]) -> bool {
     if text.len() != 2 * NONCE_LENGTH {
@@ -70,81 +67,89 @@ fn nonce_of(text: &[u8], nonce: &mut [u8]) -> bool {
     }
     let mut i = 0;
     while i < NONCE_LENGTH {
-        let v = pair(text[2 * i], text[2 * i + 1]);
-        if v > 255 {
+        let Digit::Value(high) = text::value(text[2 * i]) else {
             return false;
-        }
-        nonce[i] = (v % 256) as u8;
+        };
+        let Digit::Value(low) = text::value(text[2 * i + 1]) else {
+            return false;
+        };
+        nonce[i] = high % 16 * 16 + low % 16;
         i += 1;
     }
     true
 }
 
-// A frame on standard output; a row whose frame can't be written whole is reported.
-fn send(frame: &[u8], which: u64) {
-    if !io::write_all(STDOUT_FILENO, frame) {
-        complain(b"row ");
-        io::print_decimal(STDERR_FILENO, which);
-        complain(b" not written\n");
+// A frame on standard output; false where it can't be written whole.
+fn send(frame: &[u8], which: u64) -> bool {
+    if io::write_all(STDOUT_FILENO, frame) {
+        return true;
     }
+    report(which, b" not written, and none behind it\n");
+    false
 }
 
 // One line under its nonce: its frame on standard output, or its refusal on standard error.
-fn seal_line(line: &[u8], nonce: &[u8], which: u64, key: &[u8], font: &[u8]) {
+fn seal_line(line: &[u8], nonce: &[u8], which: u64, key: &[u8], font: &[u8]) -> bool {
     let mut frame = [0u8; frame::FRAME_ROOM];
     let written = frame::write(key, nonce, font, line, &mut frame);
     let number = numbers::write_number(written);
-    if number != 0 {
-        report(which, number as u64);
-        return;
-    }
     let length = numbers::write_length(written);
-    if length <= frame.len() {
-        send(&frame[0..length], which);
+    if number != 0 {
+        refused(which, number);
+        return true;
     }
+    // Never: no frame is longer than its room.
+    if length > frame.len() {
+        return false;
+    }
+    send(&frame[0..length], which)
 }
 
-// One order. A row with no blank has no line.
-fn order(row: &[u8], which: u64, key: &[u8], font: &[u8]) {
+// One order; false where its frame can't be written. A row with no blank has no line.
+fn order(row: &[u8], which: u64, key: &[u8], font: &[u8]) -> bool {
     let mut nonce = [0u8; NONCE_LENGTH];
     let at = first_blank(row);
     if !nonce_of(&row[0..at], &mut nonce) {
-        report(which, 2);
-        return;
+        refused(which, 2);
+        return true;
     }
     if at < row.len() {
         let from = at + 1;
-        seal_line(&row[from..], &nonce, which, key, font);
-    } else {
-        seal_line(&row[at..], &nonce, which, key, font);
+        return seal_line(&row[from..], &nonce, which, key, font);
+    }
+    seal_line(&row[at..], &nonce, which, key, font)
+}
+
+// The row that ends here, and the next one begun. The row is never longer than its room.
+fn ended(row: &[u8], o: Orders, key: &[u8], font: &[u8]) -> Orders {
+    let at = o.length;
+    let mut written = false;
+    if at <= row.len() {
+        written = order(&row[0..at], o.number, key, font);
+    }
+    Orders {
+        number: std::num::wrapping_add_u64(o.number, 1),
+        length: 0,
+        begun: false,
+        failed: !written,
     }
 }
 
 // The next byte of the orders: it ends a row, or is kept while there is room for it.
 fn fed(b: u8, row: &mut [u8], o: Orders, key: &[u8], font: &[u8]) -> Orders {
-    let at = o.length;
     if b == b'\n' {
-        if at <= row.len() {
-            order(&row[0..at], o.number, key, font);
-        }
-        return Orders {
-            number: std::num::wrapping_add_u64(o.number, 1),
-            length: 0,
-            begun: false,
-        };
+        return ended(row, o, key, font);
     }
-    if at < row.len() {
-        row[at] = b;
-        return Orders {
-            number: o.number,
-            length: at + 1,
-            begun: true,
-        };
+    let mut length = o.length;
+    if length < row.len() {
+        row[length] = b;
+        length += 1;
     }
     Orders {
         number: o.number,
-        length: at,
+        length,
         begun: true,
+        failed: false,
     }
 }
 
@@ -153,12 +158,16 @@ fn fed_all(bytes: &[u8], row: &mut [u8], o: Orders, key: &[u8], font: &[u8]) -> 
     let mut i = 0;
     while i < bytes.len() {
         next = fed(bytes[i], row, next, key, font);
+        let failed = next.failed;
+        if failed {
+            return next;
+        }
         i += 1;
     }
     next
 }
 
-// All orders of standard input. The last row may lack its newline; one that a failed read broke off is no order.
+// All orders of standard input, until its end or until a frame can't be written.
 fn compose(key: &[u8], font: &[u8]) {
     let mut chunk = io::buffer();
     let mut row = [0u8; ROW];
@@ -166,6 +175,7 @@ fn compose(key: &[u8], font: &[u8]) {
         number: 1,
         length: 0,
         begun: false,
+        failed: false,
     };
     let mut turns: u64 = 0xFFFF_FFFF_FFFF_FFFF;
     while turns > 0 {
@@ -179,12 +189,16 @@ fn compose(key: &[u8], font: &[u8]) {
             turns = 0;
         } else {
             o = fed_all(&chunk[0..got], &mut row, o, key, font);
+            let failed = o.failed;
+            if failed {
+                return;
+            }
             turns -= 1;
         }
     }
     let begun = o.begun;
     if begun {
-        fed(b'\n', &mut row, o, key, font);
+        report(o.number, b" cut off, not sealed\n");
     }
 }
 
@@ -211,8 +225,13 @@ fn font_digest(buffer: &mut [u8], font: &mut [u8]) -> bool {
 }
 
 fn main() {
+    if os::arg_count() > 1 {
+        complain(b"usage: compose < orders > stream\n");
+        return;
+    }
     let mut key = [0u8; KEY_LENGTH];
     let mut font = [0u8; DIGEST];
+    // Of 65,536 bytes: the longest font.
     let mut buffer = io::large_buffer();
     if !key_read(&mut key) {
         complain(b"no key\n");

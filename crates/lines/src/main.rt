@@ -4,66 +4,99 @@ use digest::DIGEST;
 use digest::Digested;
 use files::Loaded;
 use frame::KEY_LENGTH;
+use libc::STDERR_FILENO;
 use libc::STDIN_FILENO;
 use libc::STDOUT_FILENO;
 use line::LONGEST;
 use reader::Reading;
 
-// How the listing stands: where the next reading starts, and how many rows were lines and how many refusals.
+// How the listing stands: where the next reading starts, how many rows were lines and how many refusals, whether it is at its end, and
+// whether that is because a row could not be written.
 pub struct Tally {
     pub next: usize,
     pub lines: u64,
     pub refused: u64,
     pub ended: bool,
+    pub failed: bool,
 }
 
-fn say(text: &[u8]) {
-    io::write_all(STDOUT_FILENO, text);
+// Each answers false where standard output does not take it whole: a listing with a hole in it would be a guess, so it stops there.
+fn say(text: &[u8]) -> bool {
+    io::write_all(STDOUT_FILENO, text)
 }
 
-fn print(n: u64) {
-    io::print_decimal(STDOUT_FILENO, n);
+fn print(n: u64) -> bool {
+    io::print_decimal(STDOUT_FILENO, n)
 }
 
-// A row of a refused stretch.
-fn refused(t: Tally, reading: Reading) -> Tally {
+fn complain(text: &[u8]) {
+    io::write_all(STDERR_FILENO, text);
+}
+
+// The place and the number that start a row.
+fn head(place: usize, number: u32) -> bool {
+    if !print(place as u64) {
+        return false;
+    }
+    if !say(b" ") {
+        return false;
+    }
+    print(number as u64)
+}
+
+// The line behind its blank.
+fn given(line: &[u8], length: usize) -> bool {
+    if !say(b" ") {
+        return false;
+    }
+    // Never: the buffer has room for the longest line.
+    if length > line.len() {
+        return false;
+    }
+    say(&line[0..length])
+}
+
+// The row of a stretch.
+fn row(reading: Reading, line: &[u8]) -> bool {
     let answer = reading.answer;
-    print(reading.first as u64);
-    say(b" ");
-    print(numbers::read_number(answer) as u64);
-    say(b"\n");
+    let number = numbers::read_number(answer);
+    if !head(reading.first, number) {
+        return false;
+    }
+    if number == 0 {
+        if !given(line, numbers::read_length(answer)) {
+            return false;
+        }
+    }
+    say(b"\n")
+}
+
+// The row counted, and the next reading from the closing mark.
+fn counted(t: Tally, reading: Reading) -> Tally {
+    let answer = reading.answer;
+    let mut lines = t.lines;
+    let mut refused = t.refused;
+    if numbers::read_number(answer) == 0 {
+        lines = std::num::wrapping_add_u64(lines, 1);
+    } else {
+        refused = std::num::wrapping_add_u64(refused, 1);
+    }
     Tally {
         next: reading.closing,
-        lines: t.lines,
-        refused: std::num::wrapping_add_u64(t.refused, 1),
+        lines,
+        refused,
         ended: false,
+        failed: false,
     }
 }
 
-// A row of a line.
-fn line_row(t: Tally, reading: Reading, line: &[u8]) -> Tally {
-    let answer = reading.answer;
-    let length = numbers::read_length(answer);
-    print(reading.first as u64);
-    say(b" 0 ");
-    if length <= line.len() {
-        say(&line[0..length]);
-    }
-    say(b"\n");
-    Tally {
-        next: reading.closing,
-        lines: std::num::wrapping_add_u64(t.lines, 1),
-        refused: t.refused,
-        ended: false,
-    }
-}
-
-fn ended(t: Tally) -> Tally {
+fn stopped(t: Tally, failed: bool) -> Tally {
     Tally {
         next: t.next,
         lines: t.lines,
         refused: t.refused,
         ended: true,
+        failed,
     }
 }
 
@@ -71,23 +104,43 @@ fn ended(t: Tally) -> Tally {
 fn one(stream: &[u8], key: &[u8], font: &[u8], line: &mut [u8], t: Tally) -> Tally {
     let reading = reader::read(stream, t.next, key, font, line);
     if reading.first == reading.closing {
-        return ended(t);
+        return stopped(t, false);
     }
-    let answer = reading.answer;
-    if numbers::read_number(answer) == 0 {
-        return line_row(t, reading, line);
+    if !row(reading, line) {
+        return stopped(t, true);
     }
-    refused(t, reading)
+    counted(t, reading)
+}
+
+// The last row, which only a whole listing has.
+fn last_row(t: Tally) -> bool {
+    if t.failed {
+        return false;
+    }
+    if !say(b"lines ") {
+        return false;
+    }
+    if !print(t.lines) {
+        return false;
+    }
+    if !say(b" refused ") {
+        return false;
+    }
+    if !print(t.refused) {
+        return false;
+    }
+    say(b"\n")
 }
 
 // Every stretch of the stream, and the last row. Each reading ends further on, so as many turns as the stream has bytes are enough.
-fn list(stream: &[u8], key: &[u8], font: &[u8]) {
+fn list(stream: &[u8], key: &[u8], font: &[u8]) -> bool {
     let mut line = [0u8; LONGEST];
     let mut t = Tally {
         next: 0,
         lines: 0,
         refused: 0,
         ended: false,
+        failed: false,
     };
     let mut turns = stream.len();
     while turns > 0 {
@@ -99,11 +152,7 @@ fn list(stream: &[u8], key: &[u8], font: &[u8]) {
             turns -= 1;
         }
     }
-    say(b"lines ");
-    print(t.lines);
-    say(b" refused ");
-    print(t.refused);
-    say(b"\n");
+    last_row(t)
 }
 
 // The font's digest, where font.bin is a font of at most 65,536 bytes.
@@ -132,18 +181,30 @@ fn key_read(key: &mut [u8]) -> bool {
 fn list_input(buffer: &mut [u8], key: &[u8], font: &[u8]) {
     match files::take_in(STDIN_FILENO, buffer) {
         Loaded::Bytes(n) => {
+            // Never more: that is Long.
             if n <= buffer.len() {
-                list(&buffer[0..n], key, font);
+                if !list(&buffer[0..n], key, font) {
+                    complain(b"listing not written whole\n");
+                }
             }
         }
-        Loaded::Long => say(b"too long\n"),
-        Loaded::Failed => say(b"no stream\n"),
+        Loaded::Long => {
+            say(b"too long\n");
+        }
+        Loaded::Failed => {
+            say(b"no stream\n");
+        }
     }
 }
 
 fn main() {
+    if os::arg_count() > 1 {
+        complain(b"usage: lines < stream\n");
+        return;
+    }
     let mut key = [0u8; KEY_LENGTH];
     let mut font = [0u8; DIGEST];
+    // Of 65,536 bytes: the longest font, and the longest stream.
     let mut buffer = io::large_buffer();
     if !key_read(&mut key) {
         say(b"no key\n");

@@ -6,10 +6,10 @@ use Rattle.compose.proofs.compose.Statement.{statement}
 use Rattle.compose.proofs.compose.Tie as tie
 
 abbrev Inv-loop : tie.InvT-loop
-Inv-loop key font chunk₀ row₀ o₀ turns₀ t10 chunk row o turns = (length chunk ≡ 4096) × (length row ≡ 128)
+Inv-loop key font chunk₀ row₀ o₀ turns₀ t11 t12 chunk row o turns = (length chunk ≡ 4096) × (length row ≡ 128)
 
 abbrev μ-loop : tie.MeasureT-loop
-μ-loop key font chunk₀ row₀ o₀ turns₀ t10 chunk row o turns = turns
+μ-loop key font chunk₀ row₀ o₀ turns₀ t11 t12 chunk row o turns = turns
 
 buffer-requires : tie.Need-buffer-requires Inv-loop μ-loop
 buffer-requires c κs = search needs
@@ -59,6 +59,9 @@ slice-aggregate-fed-all c = search needs
 fed-all-requires : tie.Need-fed-all-requires Inv-loop μ-loop
 fed-all-requires c κs = search needs
 
+returns-2 : tie.Need-returns-2 Inv-loop μ-loop
+returns-2 c = search needs
+
 sub-turns : tie.Need-sub-turns Inv-loop μ-loop
 sub-turns c = search needs
 
@@ -68,17 +71,17 @@ loop-less-2 c = search needs
 loop-again-2 : tie.Need-loop-again-2 Inv-loop μ-loop
 loop-again-2 c = search needs
 
-slice-aggregate-fed : tie.Need-slice-aggregate-fed Inv-loop μ-loop
-slice-aggregate-fed c = search needs
+slice-aggregate-report : tie.Need-slice-aggregate-report Inv-loop μ-loop
+slice-aggregate-report c = search needs
 
-fed-requires : tie.Need-fed-requires Inv-loop μ-loop
-fed-requires c κs = search needs
-
-returns-2 : tie.Need-returns-2 Inv-loop μ-loop
-returns-2 c = search needs
+report-requires : tie.Need-report-requires Inv-loop μ-loop
+report-requires c κs = search needs
 
 returns-3 : tie.Need-returns-3 Inv-loop μ-loop
 returns-3 c = search needs
+
+returns-4 : tie.Need-returns-4 Inv-loop μ-loop
+returns-4 c = search needs
 
 pub compose-spec : {M : Type 1} → statement M
 compose-spec =
@@ -102,10 +105,11 @@ compose-spec =
     part-fed-all-end
     slice-aggregate-fed-all
     fed-all-requires
+    returns-2
     sub-turns
     loop-less-2
     loop-again-2
-    slice-aggregate-fed
-    fed-requires
-    returns-2
-    returns-3)
+    slice-aggregate-report
+    report-requires
+    returns-3
+    returns-4)

@@ -24,23 +24,20 @@ returns-2 c = search needs
 loop-holds : tie.Need-loop-holds Inv-loop μ-loop
 loop-holds c = search needs
 
-mul-pair : tie.Need-mul-pair Inv-loop μ-loop
-mul-pair c = search needs
+mul-value : tie.Need-mul-value Inv-loop μ-loop
+mul-value c = search needs
 
-shared-slice-read-pair : tie.Need-shared-slice-read-pair Inv-loop μ-loop
-shared-slice-read-pair c = search needs
+shared-slice-read-value : tie.Need-shared-slice-read-value Inv-loop μ-loop
+shared-slice-read-value c = search needs
 
-mul-pair-2 : tie.Need-mul-pair-2 Inv-loop μ-loop
-mul-pair-2 c = search needs
+value-requires : tie.Need-value-requires Inv-loop μ-loop
+value-requires c κs = search needs
 
-add-pair : tie.Need-add-pair Inv-loop μ-loop
-add-pair c = search needs
+enum-known-high : tie.Need-enum-known-high Inv-loop μ-loop
+enum-known-high c = search needs
 
-shared-slice-read-pair-2 : tie.Need-shared-slice-read-pair-2 Inv-loop μ-loop
-shared-slice-read-pair-2 c = search needs
-
-pair-requires : tie.Need-pair-requires Inv-loop μ-loop
-pair-requires c κs = search needs
+enum-told : tie.Need-enum-told Inv-loop μ-loop
+enum-told c = search needs
 
 same-length : tie.Need-same-length Inv-loop μ-loop
 same-length c = search needs
@@ -48,8 +45,35 @@ same-length c = search needs
 returns-3 : tie.Need-returns-3 Inv-loop μ-loop
 returns-3 c = search needs
 
-cast-nonce : tie.Need-cast-nonce Inv-loop μ-loop
-cast-nonce c = search needs
+mul-value-2 : tie.Need-mul-value-2 Inv-loop μ-loop
+mul-value-2 c = search needs
+
+add-value : tie.Need-add-value Inv-loop μ-loop
+add-value c = search needs
+
+shared-slice-read-value-2 : tie.Need-shared-slice-read-value-2 Inv-loop μ-loop
+shared-slice-read-value-2 c = search needs
+
+value-requires-2 : tie.Need-value-requires-2 Inv-loop μ-loop
+value-requires-2 c κs = search needs
+
+enum-known-low : tie.Need-enum-known-low Inv-loop μ-loop
+enum-known-low c = search needs
+
+enum-told-2 : tie.Need-enum-told-2 Inv-loop μ-loop
+enum-told-2 c = search needs
+
+same-length-2 : tie.Need-same-length-2 Inv-loop μ-loop
+same-length-2 c = search needs
+
+returns-4 : tie.Need-returns-4 Inv-loop μ-loop
+returns-4 c = search needs
+
+mul-nonce : tie.Need-mul-nonce Inv-loop μ-loop
+mul-nonce c = search needs
+
+add-nonce : tie.Need-add-nonce Inv-loop μ-loop
+add-nonce c = search needs
 
 slice-write-nonce : tie.Need-slice-write-nonce Inv-loop μ-loop
 slice-write-nonce c = search needs
@@ -63,11 +87,11 @@ loop-less c = search needs
 loop-again : tie.Need-loop-again Inv-loop μ-loop
 loop-again c = search needs
 
-same-length-2 : tie.Need-same-length-2 Inv-loop μ-loop
-same-length-2 c = search needs
+same-length-3 : tie.Need-same-length-3 Inv-loop μ-loop
+same-length-3 c = search needs
 
-returns-4 : tie.Need-returns-4 Inv-loop μ-loop
-returns-4 c = search needs
+returns-5 : tie.Need-returns-5 Inv-loop μ-loop
+returns-5 c = search needs
 
 pub nonce-of-spec : {M : Type 1} → statement M
 nonce-of-spec =
@@ -79,18 +103,26 @@ nonce-of-spec =
     returns
     returns-2
     loop-holds
-    mul-pair
-    shared-slice-read-pair
-    mul-pair-2
-    add-pair
-    shared-slice-read-pair-2
-    pair-requires
+    mul-value
+    shared-slice-read-value
+    value-requires
+    enum-known-high
+    enum-told
     same-length
     returns-3
-    cast-nonce
+    mul-value-2
+    add-value
+    shared-slice-read-value-2
+    value-requires-2
+    enum-known-low
+    enum-told-2
+    same-length-2
+    returns-4
+    mul-nonce
+    add-nonce
     slice-write-nonce
     add-i
     loop-less
     loop-again
-    same-length-2
-    returns-4)
+    same-length-3
+    returns-5)

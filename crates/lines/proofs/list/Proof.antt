@@ -6,10 +6,10 @@ use Rattle.lines.proofs.list.Statement.{statement}
 use Rattle.lines.proofs.list.Tie as tie
 
 abbrev Inv-loop : tie.InvT-loop
-Inv-loop stream key font line₀ t₀ turns₀ t8 t9 t10 line t turns = length line ≡ 65
+Inv-loop stream key font line₀ t₀ turns₀ line t turns = length line ≡ 65
 
 abbrev μ-loop : tie.MeasureT-loop
-μ-loop stream key font line₀ t₀ turns₀ t8 t9 t10 line t turns = turns
+μ-loop stream key font line₀ t₀ turns₀ line t turns = turns
 
 loop-holds : tie.Need-loop-holds Inv-loop μ-loop
 loop-holds c = search needs
@@ -35,29 +35,8 @@ loop-less-2 c = search needs
 loop-again-2 : tie.Need-loop-again-2 Inv-loop μ-loop
 loop-again-2 c = search needs
 
-slice-aggregate-say : tie.Need-slice-aggregate-say Inv-loop μ-loop
-slice-aggregate-say c = search needs
-
-say-requires : tie.Need-say-requires Inv-loop μ-loop
-say-requires c κs = search needs
-
-print-requires : tie.Need-print-requires Inv-loop μ-loop
-print-requires c κs = search needs
-
-slice-aggregate-say-2 : tie.Need-slice-aggregate-say-2 Inv-loop μ-loop
-slice-aggregate-say-2 c = search needs
-
-say-requires-2 : tie.Need-say-requires-2 Inv-loop μ-loop
-say-requires-2 c κs = search needs
-
-print-requires-2 : tie.Need-print-requires-2 Inv-loop μ-loop
-print-requires-2 c κs = search needs
-
-slice-aggregate-say-3 : tie.Need-slice-aggregate-say-3 Inv-loop μ-loop
-slice-aggregate-say-3 c = search needs
-
-say-requires-3 : tie.Need-say-requires-3 Inv-loop μ-loop
-say-requires-3 c κs = search needs
+last-row-requires : tie.Need-last-row-requires Inv-loop μ-loop
+last-row-requires c κs = search needs
 
 returns : tie.Need-returns Inv-loop μ-loop
 returns c = search needs
@@ -76,12 +55,5 @@ list-spec =
     sub-turns
     loop-less-2
     loop-again-2
-    slice-aggregate-say
-    say-requires
-    print-requires
-    slice-aggregate-say-2
-    say-requires-2
-    print-requires-2
-    slice-aggregate-say-3
-    say-requires-3
+    last-row-requires
     returns)
