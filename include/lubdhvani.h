@@ -16,6 +16,8 @@
  *  - Nothing is changed but what is named; the rest of a longer buffer stays as it was.
  *  - The library has no state of its own: calls on different buffers may run at the same time. Keys and states that a call works with are
  *    not wiped from the stack.
+ *  - Every call runs in LUBDHVANI_STACK bytes of stack. lubdhvani_read needs that much for the longest stretch, which is measured byte by
+ *    byte in calls of its own; where it reads a line it needs a third of it, and no other call needs over a sixth.
  *
  * Link with target/staticlib/liblubdhvani.a, which `rt staticlib lubdhvani` makes.
  */
@@ -42,7 +44,8 @@ enum {
     LUBDHVANI_LONGEST_LINE = 65,       /* a line has 1 to 65 bytes; also the least room for a line */
     LUBDHVANI_FRAME = 276,             /* the least room for a frame */
     LUBDHVANI_LONGEST_STRETCH = 274,   /* a longer one is refused with 7 */
-    LUBDHVANI_INSTANCES = 10           /* hash instances are 1 to 10; fonts are digested with 1 */
+    LUBDHVANI_INSTANCES = 10,          /* hash instances are 1 to 10; fonts are digested with 1 */
+    LUBDHVANI_STACK = 24576            /* what a call needs of the stack at most, on x86-64 */
 };
 
 /* Numbers returned. */

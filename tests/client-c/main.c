@@ -1,9 +1,11 @@
 /* A composer and a press in small, over include/lubdhvani.h: twelve lines are sealed and sent, the link damages some of them,
  * and the press lists what arrives. Every answer is compared with the one expected; the status is 1 if one differs. */
+#define _XOPEN_SOURCE 700
 #include "lubdhvani.h"
 
 #include <stdio.h>
 #include <string.h>
+#include <ucontext.h>
 
 static int wrong;
 
@@ -225,6 +227,37 @@ static void press(void)
     printf("client-c: %d lines sent, %zu printed, %zu stretches refused\n", ORDERS, printed, row - printed);
 }
 
+/* The stack that the header names is enough for the stretches that need the most, whatever is wrong with them. */
+
+static uint8_t stack[2 * LUBDHVANI_STACK];
+static ucontext_t here, there;
+
+static void read_longest(void)
+{
+    static const uint8_t contents[] = {'A', 0x7D, 0x5E};
+    uint8_t stream[LUBDHVANI_LONGEST_STRETCH + 2], line[LUBDHVANI_LONGEST_LINE];
+    size_t first, closing, length, calls;
+
+    for (size_t i = 0; i < sizeof contents; i++) {
+        memset(stream, contents[i], sizeof stream);
+        stream[0] = stream[sizeof stream - 1] = 0x7E;
+        lubdhvani_read(stream, sizeof stream, 0, key, sizeof key, font, sizeof font, line, sizeof line, &first, &closing, &length, &calls);
+        check(first == 1 && closing == sizeof stream - 1 && length == 0, "the longest stretch is refused at its places");
+    }
+}
+
+static void check_stack(void)
+{
+    memset(stack, 0xA5, sizeof stack);
+    getcontext(&there);
+    there.uc_stack.ss_sp = stack + LUBDHVANI_STACK;
+    there.uc_stack.ss_size = LUBDHVANI_STACK;
+    there.uc_link = &here;
+    makecontext(&there, read_longest, 0);
+    swapcontext(&here, &there);
+    check(all_are(0xA5, stack, LUBDHVANI_STACK), "a reading keeps within the stack that is asked for");
+}
+
 int main(void)
 {
     size_t calls;
@@ -232,6 +265,7 @@ int main(void)
     check_permutation();
     check_digest();
     check_seal();
+    check_stack();
     compose();
     press();
     puts(wrong ? "client-c: not as expected" : "client-c: all as expected");
