@@ -173,7 +173,7 @@ fn number(word: &[u8]) -> usize {
     n
 }
 
-fn told(known: bool) {
+fn known_or_told(known: bool) {
     if !known {
         complain(b"kat: no such instance\n");
     }
@@ -181,9 +181,9 @@ fn told(known: bool) {
 
 fn answered(kind: &[u8], instance: usize) {
     if lists::compare(kind, b"hash") {
-        told(hash(instance));
+        known_or_told(hash(instance));
     } else if lists::compare(kind, b"aead") {
-        told(aead(instance));
+        known_or_told(aead(instance));
     } else {
         complain(b"usage: kat hash I (1 to 10), kat aead I (1)\n");
     }
@@ -194,6 +194,7 @@ fn main() {
     let mut which = [0u8; 8];
     let k = os::arg(1, &mut kind);
     let w = os::arg(2, &mut which);
+    // Never: a word that is longer counts as none.
     if k > 8 {
         return;
     }

@@ -20,6 +20,7 @@ fn number(n: usize) {
 // The first n bytes of a state.
 fn hex(state: [u8; LARGEST], n: usize) {
     let mut digits = [0u8; 2 * LARGEST];
+    // Never more: every size asked for is at most the largest.
     if n <= LARGEST {
         text::put_hex(&state, &mut digits);
         say(&digits[0..2 * n]);
