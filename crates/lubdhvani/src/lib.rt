@@ -91,22 +91,6 @@ pub extern "C" fn lubdhvani_digest(
     digest_number(answer)
 }
 
-// The places of the next stretch.
-#[no_mangle]
-pub extern "C" fn lubdhvani_next_stretch(
-    stream: &[u8],
-    from: usize,
-    first: &mut usize,
-    closing: &mut usize,
-)
-    ensures { λ _. ⌜ now (first .exit) ≡ nextSpan (now (stream .entry)) from .first ⌝ }
-    ensures { λ _. ⌜ now (closing .exit) ≡ nextSpan (now (stream .entry)) from .closing ⌝ }
-{
-    let span = stream::next_span(stream, from);
-    *first = span.first;
-    *closing = span.closing;
-}
-
 // Seals a message.
 #[no_mangle]
 pub extern "C" fn lubdhvani_seal(
@@ -168,6 +152,22 @@ pub extern "C" fn lubdhvani_write(
     *length = write_length(answer);
     *calls = write_count(answer);
     write_number(answer)
+}
+
+// The places of the next stretch.
+#[no_mangle]
+pub extern "C" fn lubdhvani_next_stretch(
+    stream: &[u8],
+    from: usize,
+    first: &mut usize,
+    closing: &mut usize,
+)
+    ensures { λ _. ⌜ now (first .exit) ≡ nextSpan (now (stream .entry)) from .first ⌝ }
+    ensures { λ _. ⌜ now (closing .exit) ≡ nextSpan (now (stream .entry)) from .closing ⌝ }
+{
+    let span = stream::next_span(stream, from);
+    *first = span.first;
+    *closing = span.closing;
 }
 
 // Judges the next stretch from a place, and gives out its line.
