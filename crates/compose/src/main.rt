@@ -6,8 +6,6 @@ ghost use Prim.Native.Nat.{_≤_};
 ghost use lib.ListN.{length};
 use body::NONCE_LENGTH;
 use digest::DIGEST;
-use digest::Digested;
-use files::Loaded;
 use frame::KEY_LENGTH;
 use libc::STDERR_FILENO;
 use libc::STDIN_FILENO;
@@ -202,28 +200,6 @@ fn compose(key: &[u8], font: &[u8]) {
     }
 }
 
-// The key, where key.bin is one.
-fn key_read(key: &mut [u8]) -> bool {
-    match files::load(b"key.bin", key) {
-        Loaded::Bytes(n) => n == KEY_LENGTH,
-        _ => false,
-    }
-}
-
-// The font's digest, where font.bin is a font of at most 65,536 bytes.
-fn font_digest(buffer: &mut [u8], font: &mut [u8]) -> bool {
-    let Loaded::Bytes(n) = files::load(b"font.bin", buffer) else {
-        return false;
-    };
-    if n > buffer.len() {
-        return false;
-    }
-    match digest::digest(1, &buffer[0..n], font) {
-        Digested::Done(_) => true,
-        _ => false,
-    }
-}
-
 fn main() {
     if os::arg_count() > 1 {
         complain(b"usage: compose < orders > stream\n");
@@ -233,11 +209,11 @@ fn main() {
     let mut font = [0u8; DIGEST];
     // Of 65,536 bytes: the longest font.
     let mut buffer = io::large_buffer();
-    if !key_read(&mut key) {
+    if !told::key(&mut key) {
         complain(b"no key\n");
         return;
     }
-    if !font_digest(&mut buffer, &mut font) {
+    if !told::font(&mut buffer, &mut font) {
         complain(b"no font\n");
         return;
     }

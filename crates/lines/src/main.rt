@@ -1,7 +1,6 @@
 // Lists the lines of a job stream (document 01, 'The listing program'): key.bin, font.bin, then the stream on standard input, one
 // 65,536-byte buffer reused. Thin over the proved calls: every row is what `reader::read` answers.
 use digest::DIGEST;
-use digest::Digested;
 use files::Loaded;
 use frame::KEY_LENGTH;
 use libc::STDERR_FILENO;
@@ -155,28 +154,6 @@ fn list(stream: &[u8], key: &[u8], font: &[u8]) -> bool {
     last_row(t)
 }
 
-// The font's digest, where font.bin is a font of at most 65,536 bytes.
-fn font_digest(buffer: &mut [u8], font: &mut [u8]) -> bool {
-    let Loaded::Bytes(n) = files::load(b"font.bin", buffer) else {
-        return false;
-    };
-    if n > buffer.len() {
-        return false;
-    }
-    match digest::digest(1, &buffer[0..n], font) {
-        Digested::Done(_) => true,
-        _ => false,
-    }
-}
-
-// The key, where key.bin is one.
-fn key_read(key: &mut [u8]) -> bool {
-    match files::load(b"key.bin", key) {
-        Loaded::Bytes(n) => n == KEY_LENGTH,
-        _ => false,
-    }
-}
-
 // The listing of what stands on standard input.
 fn list_input(buffer: &mut [u8], key: &[u8], font: &[u8]) {
     match files::take_in(STDIN_FILENO, buffer) {
@@ -206,11 +183,11 @@ fn main() {
     let mut font = [0u8; DIGEST];
     // Of 65,536 bytes: the longest font, and the longest stream.
     let mut buffer = io::large_buffer();
-    if !key_read(&mut key) {
+    if !told::key(&mut key) {
         say(b"no key\n");
         return;
     }
-    if !font_digest(&mut buffer, &mut font) {
+    if !told::font(&mut buffer, &mut font) {
         say(b"no font\n");
         return;
     }
