@@ -1,23 +1,21 @@
 -- The answers of `write`, case by case, in the words of lengths, the line's rule and room: it is done exactly for what it accepts,
 -- with room. Assumes nothing.
-use mathlib.Core.Path.{_≡_, refl, sym, ap, _∙_}
+use mathlib.Core.Path.{_≡_, refl}
 use mathlib.Core.Bool.{Bool, true, false, not, cond}
 use mathlib.Core.List.{List}
-use Prim.Native.Nat.{ℕ, _+_, _≤_, _<_}
+use Prim.Native.Nat.{ℕ, _≤_, _<_}
 use native.Mathlib.Omega.{arith}
 use lib.Dec.{eqb, leb, ltb}
 use lib.ListN.{length}
 use borrow.Author.Tests.{eq-eqb, eqb-true, le-leb, leb-true, lt-ltb, le-ltb, ltb-false}
-use Rattle.lists.specs.Buffers.{over}
 use Rattle.line.specs.Lines.{longest, lineRule}
 use Rattle.line.specs.declared.Judged.{Judged}
 use Rattle.line.specs.declared.Judged.the-variants as line-is
 use Rattle.body.specs.Fields.{nonceLength, digestLength, shortest}
 use Rattle.frame.specs.declared.Written.the-variants.{Done, Sizes, TooLong, Unlisted, NoRoom}
 use Rattle.framing.specs.Told.{Told, keyLength}
-use Rattle.framing.specs.Frames.{frameOf}
-use Rattle.framing.specs.Lengths.{frameRoom, Sealable, besideLine, write-calls}
-use Rattle.frame.specs.Answers.{sizesRight, lengthRight, WriteCall, refused, byRule, framedCall, writeCall, lengthOf, countOf}
+use Rattle.framing.specs.Lengths.{frameRoom, Sealable}
+use Rattle.frame.specs.Answers.{sizesRight, lengthRight, WriteCall, refused, byRule, framedCall, writeCall}
 
 never : {X : Type 0} → false ≡ true → X
 never e = absurd (let z : _≡_ {A = ℕ} 0 1 = cc e in omega arith)
@@ -105,13 +103,3 @@ done-accepts t nonce line o n calls =
     by-sizes true p true q e = by-rule (right-sealable t nonce line p q) (lineRule line) refl e
     by-sizes true p false q e = absurd (let i : _≡_ {A = ℕ} 0 1 = cc e in omega arith)
     by-sizes false p y q e = absurd (let i : _≡_ {A = ℕ} 0 1 = cc e in omega arith)
-
--- and then with the frame's length, the count n + 39 and the frame over the buffer
-pub done-told : (t : Told) (nonce line o : List ℕ) (n calls : ℕ) → writeCall t nonce line o .answer ≡ Done n calls
-    → (n ≡ length (frameOf t nonce line)) × (calls ≡ length line + besideLine) × (writeCall t nonce line o .frame ≡ over (frameOf t nonce line) o)
-unfolding framedCall
-done-told t nonce line o n calls e =
-    let a = done-accepts t nonce line o n calls e in
-    let w = write-done t nonce line o (a .0 .sealable) (a .0 .listed) (a .1) in
-    let d = sym (ap (λ (x : WriteCall). x .answer) w) ∙ e in
-    (sym (ap lengthOf d), sym (ap countOf d) ∙ write-calls (a .0 .sealable), ap (λ (x : WriteCall). x .frame) w)

@@ -1,14 +1,12 @@
 -- The rule of a line as a statement on lists: a line is accepted exactly if each of its bytes is a digit, a symbol or the blank.
 -- Assumes nothing.
-use mathlib.Core.Path.{_≡_, refl, subst}
+use mathlib.Core.Path.{_≡_, refl}
 use mathlib.Core.Bool.{Bool, true, false, cond}
 use mathlib.Core.List.{List, [], _∷_}
-use Prim.Native.Nat.{ℕ, _≤_, _<_}
+use Prim.Native.Nat.{ℕ, _≤_}
 use native.Mathlib.Omega.{arith}
 use lib.Dec.{eqb, leb}
 use borrow.Author.Tests.{le-leb, lt-leb, leb-true, eqb-true}
-use Rattle.lists.specs.Below.{Below}
-use Rattle.line.specs.declared.Judged.{Judged}
 use Rattle.line.specs.declared.Judged.the-variants.{Accepted, Unlisted}
 use Rattle.line.specs.Lines.{firstDigit, lastDigit, transit, dash, blank, isListed, allListed, lineRule}
 
@@ -81,34 +79,10 @@ pub rule-unlisted : (s : List ℕ) → (AllListed s → ⊥) → lineRule s ≡ 
 unfolding lineRule
 rule-unlisted s n = rw (refuted (allListed s) (is-all-listed s) n)
 
--- what an answer says of the line
-abbrev Says : Judged → List ℕ → Type 0
-Says Accepted s = AllListed s
-Says Unlisted s = AllListed s → ⊥
-
-rule-says : (s : List ℕ) → Says (lineRule s) s
-unfolding lineRule
-rule-says s = go (allListed s) refl
-  where
-    go : (t : Bool) → allListed s ≡ t → Says (cond t Accepted Unlisted) s
-    go true e = is-all-listed s e
-    go false e = λ a. never (all-listed-is s a) e
-
 pub accepted-rule : (s : List ℕ) → lineRule s ≡ Accepted → AllListed s
-accepted-rule s e = subst (λ (j : Judged). Says j s) e (rule-says s)
-
-pub unlisted-rule : (s : List ℕ) → lineRule s ≡ Unlisted → AllListed s → ⊥
-unlisted-rule s e = subst (λ (j : Judged). Says j s) e (rule-says s)
-
--- an accepted line is one of bytes
-listed-below : (b : ℕ) → Listed b → b < 256
-listed-below b (a-digit l h) = omega arith
-listed-below b (a-symbol l h) = omega arith
-listed-below b (a-blank e) = omega arith
-
-all-below : (s : List ℕ) → AllListed s → Below 256 s
-all-below [] a = tt
-all-below (b ∷ s) a = (listed-below b (a .0), all-below s (a .1))
-
-pub accepted-below : (s : List ℕ) → lineRule s ≡ Accepted → Below 256 s
-accepted-below s e = all-below s (accepted-rule s e)
+unfolding lineRule
+accepted-rule s = go (allListed s) refl
+  where
+    go : (t : Bool) → allListed s ≡ t → cond t Accepted Unlisted ≡ Accepted → AllListed s
+    go true p e = is-all-listed s p
+    go false p e = absurd (let z : _≡_ {A = ℕ} 0 1 = cc e in omega arith)
