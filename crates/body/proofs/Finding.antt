@@ -3,12 +3,12 @@ use mathlib.Core.Path.{_≡_, refl, ap, _∙_}
 use mathlib.Core.Bool.{Bool, true, false, cond}
 use mathlib.Core.List.{List, [], _∷_}
 use Prim.Native.Nat.{ℕ, _+_, _*_, _≤_, _<_}
-use native.Mathlib.Numerals.{add-one}
 use native.Mathlib.Omega.{arith}
 use lib.Dec.{leb}
 use lib.ListN.{length, getD, take, drop, length-drop}
-use lib.Seq.{drop-cons, length-take-le}
+use lib.Seq.{length-take-le}
 use borrow.Author.Tests.{eq-eqb, ne-eqb, leb-true, leb-false}
+use Rattle.lists.specs.Walk.{at}
 use Rattle.body.specs.Fields.{headLength, highByte, takes, value, no-field, front}
 use Rattle.body.specs.Answers.{Ends, Found}
 
@@ -21,7 +21,7 @@ short-front tag (t ∷ high ∷ low ∷ s) h = absurd (omega arith)
 
 -- one byte more
 on : (b : List ℕ) (i j : ℕ) → j ≡ i + 1 → i < length b → drop i b ≡ getD b i 0 ∷ drop j b
-on b i j e h = rw (e, add-one i) (drop-cons b i 0 h)
+on b i j e h = rw e (at b i h)
 
 module _ (b : List ℕ) (tag at : ℕ) where
   -- no field: the place past the end

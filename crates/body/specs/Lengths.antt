@@ -7,6 +7,7 @@ use native.Mathlib.Omega.{arith}
 use lib.Dec.{leb}
 use lib.ListN.{length, length-append}
 use borrow.Author.Tests.{eq-eqb, le-leb, eqb-true, leb-true}
+use Rattle.lists.specs.Never.{never}
 use Rattle.line.specs.Lines.{longest}
 use Rattle.body.specs.Fields.{nonceTag, digestTag, cipherTag, sealTag, nonceLength, digestLength, shortest, sealLength, headLength, field, body, associated, takes}
 
@@ -75,9 +76,6 @@ nonce-taken n e = eqb-true n nonceLength e
 pub digest-taken : (n : ℕ) → takes digestTag n ≡ true → n ≡ digestLength
 unfolding takes
 digest-taken n e = eqb-true n digestLength e
-
-never : {X : Type 0} → false ≡ true → X
-never e = absurd (let z : _≡_ {A = ℕ} 0 1 = cc e in omega arith)
 
 pub cipher-taken : (n : ℕ) → takes cipherTag n ≡ true → (shortest ≤ n) × (n ≤ longest)
 unfolding takes

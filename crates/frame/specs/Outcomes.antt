@@ -8,6 +8,7 @@ use native.Mathlib.Omega.{arith}
 use lib.Dec.{eqb, leb, ltb}
 use lib.ListN.{length}
 use borrow.Author.Tests.{eq-eqb, eqb-true, le-leb, leb-true, lt-ltb, le-ltb, ltb-false}
+use Rattle.lists.specs.Never.{never}
 use Rattle.line.specs.Lines.{longest, lineRule}
 use Rattle.line.specs.declared.Judged.{Judged}
 use Rattle.line.specs.declared.Judged.the-variants as line-is
@@ -16,9 +17,6 @@ use Rattle.frame.specs.declared.Written.the-variants.{Done, Sizes, TooLo
 use Rattle.framing.specs.Told.{Told, keyLength}
 use Rattle.framing.specs.Lengths.{frameRoom, Sealable}
 use Rattle.frame.specs.Answers.{sizesRight, lengthRight, WriteCall, refused, byRule, framedCall, writeCall}
-
-never : {X : Type 0} → false ≡ true → X
-never e = absurd (let z : _≡_ {A = ℕ} 0 1 = cc e in omega arith)
 
 -- the tests say what the lengths are
 pub sizes-right : {t : Told} {nonce line : List ℕ} → Sealable t nonce line → sizesRight t nonce ≡ true

@@ -1,16 +1,12 @@
 -- The rule of a line a byte at a time, as the loop of `judge_line` goes. Assumes nothing.
 use mathlib.Core.Path.{_≡_}
 use mathlib.Core.Bool.{true, false}
-use mathlib.Core.List.{List, _∷_}
+use mathlib.Core.List.{List}
 use Prim.Native.Nat.{ℕ, _+_, _≤_, _<_}
-use native.Mathlib.Numerals.{add-one}
 use lib.ListN.{length, getD, drop, drop-of-length-le}
-use lib.Seq.{drop-cons}
+use Rattle.lists.specs.Walk.{at}
 use Rattle.line.specs.declared.Judged.the-variants.{Accepted, Unlisted}
 use Rattle.line.specs.Lines.{isListed, allListed, lineRule}
-
-at : (s : List ℕ) (i : ℕ) → i < length s → drop i s ≡ getD s i 0 ∷ drop (i + 1) s
-at s i h = rw (add-one, drop-cons s i 0 h)
 
 pub line-on : (s : List ℕ) (i : ℕ) → i < length s → isListed (getD s i 0) ≡ true → lineRule (drop i s) ≡ lineRule (drop (i + 1) s)
 unfolding lineRule allListed

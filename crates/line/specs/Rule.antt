@@ -7,6 +7,7 @@ use Prim.Native.Nat.{ℕ, _≤_}
 use native.Mathlib.Omega.{arith}
 use lib.Dec.{eqb, leb}
 use borrow.Author.Tests.{le-leb, lt-leb, leb-true, eqb-true}
+use Rattle.lists.specs.Never.{never}
 use Rattle.line.specs.declared.Judged.the-variants.{Accepted, Unlisted}
 use Rattle.line.specs.Lines.{firstDigit, lastDigit, transit, dash, blank, isListed, allListed, lineRule}
 
@@ -44,9 +45,6 @@ is-listed b = go (leb firstDigit b) refl (leb b lastDigit) refl (leb transit b) 
     go false p u q true r false s e = a-blank (eqb-true b blank e)
     go false p u q false r w s e = a-blank (eqb-true b blank e)
 
-never : {t : Bool} → t ≡ true → t ≡ false → ⊥
-never p q = let z : _≡_ {A = ℕ} 0 1 = cc (p, q) in omega arith
-
 -- a test that isn't true is false
 refuted : {X : Type 0} (t : Bool) → (t ≡ true → X) → (X → ⊥) → t ≡ false
 refuted true f n = absurd (n (f refl))
@@ -63,7 +61,7 @@ all-listed-is (b ∷ s) a = rw (listed-is b (a .0)) (all-listed-is s (a .1))
 
 both : {X Y : Type 0} (t u : Bool) → (t ≡ true → X) → (u ≡ true → Y) → cond t u false ≡ true → X × Y
 both true u f g e = (f refl, g e)
-both false u f g e = absurd (never e refl)
+both false u f g e = never e
 
 pub is-all-listed : (s : List ℕ) → allListed s ≡ true → AllListed s
 unfolding allListed

@@ -3,14 +3,11 @@ use mathlib.Core.Path.{_≡_, refl}
 use mathlib.Core.Bool.{Bool, true, false, cond}
 use mathlib.Core.List.{List}
 use Prim.Native.Nat.{ℕ}
-use native.Mathlib.Omega.{arith}
 use lib.ListN.{length}
+use Rattle.lists.specs.Never.{never}
 use Rattle.body.specs.Fields.{nonceTag, digestTag, cipherTag, sealTag, takes}
 use Rattle.body.specs.Lengths.{Sized, takes-nonce, takes-digest, takes-cipher, takes-seal, nonce-taken, digest-taken, cipher-taken, seal-taken}
 use Rattle.putting.specs.Answers.{fitting}
-
-never : {X : Type 0} → false ≡ true → X
-never e = absurd (let z : _≡_ {A = ℕ} 0 1 = cc e in omega arith)
 
 -- values of those lengths fit, and no others
 pub sized-fitting : {nonce digest cipher seal : List ℕ} → Sized nonce digest cipher seal → fitting nonce digest cipher seal ≡ true

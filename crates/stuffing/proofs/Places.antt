@@ -1,13 +1,6 @@
--- What the needs of the loops and of the stores ask of plain numbers: places in a buffer, and room for twice a body. Assumes nothing.
-use Prim.Native.Nat.{ℕ, _+_, _*_, _-_, _/_, _^_, _≤_, _<_}
+-- What the needs of the stores ask of plain numbers: places in a buffer, and room for twice a body. Assumes nothing.
+use Prim.Native.Nat.{ℕ, _+_, _*_, _/_, _≤_, _<_}
 use native.Mathlib.Omega.{arith}
-
--- the place behind place i, and what is left behind it
-pub next : {i n : ℕ} → i < n → n < 2 ^ 64 → i + 1 < 2 ^ 64
-next h l = omega arith
-
-pub less : {i n : ℕ} → i < n → n - (i + 1) < n - i
-less h = omega arith
 
 -- two places from k on
 pub first : {k n : ℕ} → k + 2 ≤ n → k < n

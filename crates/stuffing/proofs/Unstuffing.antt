@@ -10,7 +10,7 @@ use lib.Seq.{take-suc, take-all, drop-cons, length-take-le}
 use borrow.Author.Tests.{eq-eqb, ne-eqb}
 use Rattle.lists.specs.Buffers.{over}
 use Rattle.lists.specs.Over.{over-more, over-length}
-use Rattle.stuffing.proofs.Places.{next}
+use Rattle.lists.specs.Walk.{at, next}
 use Rattle.stuffing.specs.Stuffing.{escape, meant, unstuffed, unescaped}
 
 -- what is left of the body, outside an escape or inside one
@@ -85,17 +85,14 @@ module _ (s o : List ℕ) (room : length (unstuffed s) ≤ length o) where
 
 -- the definition a byte at a time
 module _ (s : List ℕ) (i : ℕ) (l : i < length s) where
-  at : drop i s ≡ getD s i 0 ∷ drop (i + 1) s
-  at = rw (add-one, drop-cons s i 0 l)
-
   pub inside : (e : Bool) → e ≡ true → left e (drop i s) ≡ meant (getD s i 0) ∷ unstuffed (drop (i + 1) s)
   unfolding unstuffed
-  inside e t = rw (t, at)
+  inside e t = rw (t, at s i l)
 
   pub opening : (e : Bool) → e ≡ false → getD s i 0 ≡ escape → left e (drop i s) ≡ unescaped (drop (i + 1) s)
   unfolding unstuffed
-  opening e t b = rw (t, at, eq-eqb (getD s i 0) escape b)
+  opening e t b = rw (t, at s i l, eq-eqb (getD s i 0) escape b)
 
   pub plainly : (e : Bool) → e ≡ false → (getD s i 0 ≡ escape → ⊥) → left e (drop i s) ≡ getD s i 0 ∷ unstuffed (drop (i + 1) s)
   unfolding unstuffed
-  plainly e t b = rw (t, at, ne-eqb (getD s i 0) escape b)
+  plainly e t b = rw (t, at s i l, ne-eqb (getD s i 0) escape b)

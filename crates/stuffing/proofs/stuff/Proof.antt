@@ -5,7 +5,8 @@ use Prim.Native.Nat.{_-_}
 use lib.ListN.{length}
 use Rattle.stuffing.specs.Outcomes.{stuff-no-room, stuff-done}
 use Rattle.stuffing.specs.declared.Stuffed.the-variants.{Done}
-use Rattle.stuffing.proofs.Places.{next, less, doubled, halved}
+use Rattle.lists.specs.Walk.{next, less}
+use Rattle.stuffing.proofs.Places.{doubled, halved}
 use Rattle.stuffing.proofs.Written.{Written, written-length, has-room, written-none, written-more, written-all}
 use Rattle.stuffing.proofs.stuff.Statement.{statement}
 use Rattle.stuffing.proofs.stuff.Tie as tie

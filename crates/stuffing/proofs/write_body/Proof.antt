@@ -3,7 +3,7 @@
 use Prim.Native.Nat.{_-_}
 use lib.ListN.{length}
 use borrow.Author.Needs.{needs}
-use Rattle.stuffing.proofs.Places.{next, less}
+use Rattle.lists.specs.Walk.{next, less}
 use Rattle.stuffing.proofs.Unstuffing.{Unwound, unwound-length, unwound-none, unwound-more, fits, fits-counted, unwound-open, unwound-all, inside, opening, plainly}
 use Rattle.stuffing.proofs.write_body.Statement.{statement}
 use Rattle.stuffing.proofs.write_body.Tie as tie

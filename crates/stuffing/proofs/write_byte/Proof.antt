@@ -4,7 +4,8 @@ use native.Mathlib.Nat.{lt-of-le-of-lt}
 use lib.ListN.{length-set}
 use borrow.Author.Tests.{eq-eqb, ne-eqb}
 use borrow.Author.Needs.{needs}
-use Rattle.stuffing.proofs.Places.{next, first, second}
+use Rattle.lists.specs.Walk.{next}
+use Rattle.stuffing.proofs.Places.{first, second}
 use Rattle.stuffing.proofs.write_byte.Statement.{statement}
 use Rattle.stuffing.proofs.write_byte.Tie as tie
 
