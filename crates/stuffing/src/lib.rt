@@ -157,9 +157,9 @@ pub fn unstuff(s: &[u8], out: &mut [u8]) -> Unstuffed
     ensures { λ r. ⌜ r ≡ unstuffAnswer (now (s .entry)) (now (out .entry)) ⌝ }
     ensures { λ _. ⌜ now (out .exit) ≡ unstuffOut (now (s .entry)) (now (out .entry)) ⌝ }
 {
-    let told = unstuffed_length(s);
-    let Unstuffed::Length(n) = told else {
-        return told;
+    let answer = unstuffed_length(s);
+    let Unstuffed::Length(n) = answer else {
+        return answer;
     };
     if n > out.len() {
         return Unstuffed::NoRoom;

@@ -19,7 +19,7 @@ abbrev μ-loop : tie.MeasureT-loop
 
 returns : tie.Need-returns Inv-loop μ-loop
 returns c =
-    let told = stuff-no-room (c .before .before .before .args .body .now) (c .before .before .before .args .out .now) (halved (c .if1 .taken)) in (sym (told .0), sym (told .1))
+    let answer = stuff-no-room (c .before .before .before .args .body .now) (c .before .before .before .args .out .now) (halved (c .if1 .taken)) in (sym (answer .0), sym (answer .1))
 
 loop-holds : tie.Need-loop-holds Inv-loop μ-loop
 loop-holds c = written-none _ _ (doubled (c .if1 .left))
@@ -47,8 +47,8 @@ same-length c = written-length _ _ (doubled (c .before .before .if1 .left)) _ _ 
 returns-2 : tie.Need-returns-2 Inv-loop μ-loop
 returns-2 c =
     let done = written-all _ _ (doubled (c .before .before .if1 .left)) _ _ _ (c .before .loop .inv) (c .loop-test .left) in
-    let told = stuff-done (c .before .before .before .before .before .args .body .now) (c .before .before .before .before .before .args .out .now) (doubled (c .before .before .if1 .left)) in
-    (ap Done (done .0) ∙ sym (told .0), done .1 ∙ sym (told .1))
+    let answer = stuff-done (c .before .before .before .before .before .args .body .now) (c .before .before .before .before .before .args .out .now) (doubled (c .before .before .if1 .left)) in
+    (ap Done (done .0) ∙ sym (answer .0), done .1 ∙ sym (answer .1))
 
 pub stuff-spec : {M : Type 1} → statement M
 stuff-spec =
