@@ -1,3 +1,5 @@
+-- `put_frame` meets its promise: the marks and the stuffed body are laid one behind the other from the buffer's start.
+-- Assumes nothing.
 use mathlib.Core.Path.{_≡_, sym, _∙_}
 use Prim.Native.Nat.{_+_, _≤_}
 use native.Mathlib.Omega.{arith}
@@ -10,9 +12,6 @@ use Rattle.stuffing.specs.Stuffing.{stuffed}
 use Rattle.stuffing.specs.declared.Stuffed.the-variants as stuffed-is
 use Rattle.frame.proofs.put_frame.Statement.{statement}
 use Rattle.frame.proofs.put_frame.Tie as tie
-
--- `put_frame` meets its promise: the marks and the stuffed body are laid one behind the other from the buffer's start.
--- Assumes nothing.
 
 abbrev start : tie.After-stuff → tie.Start
 start c = c .before .before .before .before

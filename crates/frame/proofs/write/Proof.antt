@@ -1,3 +1,4 @@
+-- `write` meets its promise: document 01's refusals in their order, then the sealed body and its frame. Assumes nothing.
 use mathlib.Core.Path.{_≡_, sym, _∙_}
 use mathlib.Core.List.{List}
 use Prim.Native.Nat.{ℕ, _+_, _-_}
@@ -15,8 +16,6 @@ use Rattle.line.specs.Lines.{lineRule}
 use Rattle.framing.specs.Told.{Told, told}
 use Rattle.frame.proofs.write.Statement.{statement}
 use Rattle.frame.proofs.write.Tie as tie
-
--- `write` meets its promise: document 01's refusals in their order, then the sealed body and its frame. Assumes nothing.
 
 -- the start, from where sizes and lengths are right, and what is told there
 abbrev start : tie.Else2 → tie.Start

@@ -1,3 +1,4 @@
+-- `put_body` meets its promise: the fields are laid one behind the other from the buffer's start (`Laid`). Assumes nothing.
 use mathlib.Core.Path.{sym, _∙_}
 use mathlib.Core.List.{List, _++_}
 use Prim.Native.Nat.{ℕ}
@@ -11,8 +12,6 @@ use Rattle.putting.specs.Fitting.{fitting-sized}
 use Rattle.body.specs.Fields.{nonceTag, digestTag, cipherTag, sealTag, field}
 use Rattle.putting.proofs.put_body.Statement.{statement}
 use Rattle.putting.proofs.put_body.Tie as tie
-
--- `put_body` meets its promise: the fields are laid one behind the other from the buffer's start (`Laid`). Assumes nothing.
 
 -- the start, from where the values fit and the buffer has room; and that place, from behind each field written
 abbrev start : tie.Else2 → tie.Start

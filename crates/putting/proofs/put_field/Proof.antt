@@ -1,3 +1,4 @@
+-- `put_field` meets its promise: three stores and a copy are the field's bytes stored one behind the other. Assumes nothing.
 use mathlib.Core.Path.{_≡_, ap, _∙_}
 use Prim.Native.Nat.{_+_, _-_}
 use native.Mathlib.Omega.{arith}
@@ -10,9 +11,6 @@ use Rattle.putting.proofs.Laying.{headed, put-one}
 use Rattle.body.specs.Lengths.{length-field}
 use Rattle.putting.proofs.put_field.Statement.{statement}
 use Rattle.putting.proofs.put_field.Tie as tie
-
--- `put_field` meets its promise: three stores and a copy are the field's bytes stored one behind the other. Assumes nothing.
--- `put_field` meets its promise: three stores and a copy are the field's bytes stored one behind the other. Assumes nothing.
 
 -- a field's bytes are its head and its value
 abbrev Whole : tie.Start → Type 0
