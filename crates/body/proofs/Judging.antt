@@ -10,7 +10,7 @@ use lib.ListN.{length, take, drop, length-drop, drop-of-length-le}
 use lib.Seq.{drop-cons, drop-drop, length-take-le}
 use borrow.Author.Tests.{leb-true}
 use Rattle.body.specs.declared.Judged.the-variants.{Fields, Shape}
-use Rattle.body.specs.Fields.{nonceTag, digestTag, cipherTag, sealTag, headLength, highByte, takes, Front, value, no-field, front, fields, next, afterNonce, afterDigest, afterCipher, afterSeal, fieldsOf}
+use Rattle.body.specs.Fields.{nonceTag, digestTag, cipherTag, sealTag, headLength, highByte, takes, Front, value, no-field, front, next, afterNonce, afterDigest, afterCipher, afterSeal, fieldsOf}
 use Rattle.body.specs.Answers.{Ends, Found, judged}
 
 -- what is behind a field of some bytes

@@ -5,7 +5,7 @@ use Prim.Native.Nat.{ℕ, _-_}
 use native.Mathlib.Omega.{arith}
 use lib.ListN.{length, take, drop}
 use lib.Seq.{take-at}
-use Rattle.body.specs.Fields.{body, fields}
+use Rattle.body.specs.Fields.{fields}
 use Rattle.body.specs.OneToOne.{body-one-to-one}
 use Rattle.stuffing.specs.Stuffing.{mark, stuffed}
 use Rattle.stuffing.specs.RoundTrip.{stuffed-one-to-one}
