@@ -4,3 +4,4 @@ pub mod Writing
 pub mod Passing
 pub mod Calls
 pub mod Single
+pub mod Contracts

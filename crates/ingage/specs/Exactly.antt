@@ -1,27 +1,30 @@
--- Demand 2 in document 01's words, of what the public calls promise (`sealCall`, `openCall`): within the sizes and with room, open
--- answers done exactly when ciphertext and seal are what seal makes of some message, and then gives that message. Assumes nothing.
+-- Demand 2 in document 01's words, of what the public calls promise (`sealCall`, `openCall`; proofs/Contracts.antt): on bytes, within the
+-- sizes and with room, open answers done exactly when ciphertext and seal are what seal makes of some message, and then gives that message.
+-- Assumes nothing.
 use mathlib.Core.Path.{_≡_, refl, sym, ap, _∙_}
 use mathlib.Core.Bool.{Bool, true, false, not, cond}
 use mathlib.Core.Logic.{_↔_}
-use mathlib.Core.List.{List, append-nil}
+use mathlib.Core.List.{List}
 use Prim.Native.Nat.{ℕ, _≤_}
 use native.Mathlib.Omega.{arith}
-use lib.ListN.{length, drop-of-length-le}
+use lib.ListN.{length}
 use borrow.Author.Tests.{eq-eqb, le-ltb}
+use Rattle.lists.specs.Below.{Below}
 use Rattle.lists.specs.Buffers.{over, cleared}
+use Rattle.lists.specs.Over.{over-whole}
 use Rattle.cipher.specs.declared.Instance.{Instance}
 use Rattle.ingage.specs.declared.Sealed.the-variants as sealed
 use Rattle.ingage.specs.declared.Opened.the-variants as opened
 use Rattle.cipher.specs.Instances.{Fitting}
 use Rattle.cipher.specs.Cipher.{Work, encrypted, decrypted, accepted}
 use Rattle.cipher.specs.RoundTrip.{seal-open, exactly, accepted-refl, accepted-eq}
-use Rattle.cipher.specs.Results.{length-encrypted, length-decrypted}
+use Rattle.cipher.specs.Results.{length-encrypted, length-decrypted, decrypted-below}
 use Rattle.ingage.specs.Answers.{sealCount, openCount, LONGEST-ASSOCIATED, LONGEST-TEXT, sized, tooLong, SealCall, sealCall, OpenCall, openCall}
 
--- seal makes C and T of the message P, in any buffers of just their lengths
+-- seal makes C and T of P, in any buffers of just their lengths
 abbrev pub Makes : Instance → List ℕ → List ℕ → List ℕ → List ℕ → List ℕ → List ℕ → ℕ → Type 0
 Makes z key nonce A P C T n =
-    (out seal : List ℕ) → length out ≡ length C → length seal ≡ length T
+    (out seal : List ℕ) → Below 256 out → Below 256 seal → length out ≡ length C → length seal ≡ length T
     → sealCall z key nonce A P out seal ≡ record { answer = sealed.Done n; out = C; seal = T }
 
 -- key, nonce and seal have their sizes, nothing is too long, and there is room for the text
@@ -32,6 +35,14 @@ pub record Within (z : Instance) (key nonce A text seal out : List ℕ) : Type 0
   pub associated : length A ≤ LONGEST-ASSOCIATED
   pub short : length text ≤ LONGEST-TEXT
   pub room : length text ≤ length out
+
+-- what open is given is bytes
+pub record Bytes (key nonce A C T : List ℕ) : Type 0 where
+  pub key-bytes : Below 256 key
+  pub nonce-bytes : Below 256 nonce
+  pub associated-bytes : Below 256 A
+  pub cipher-bytes : Below 256 C
+  pub seal-bytes : Below 256 T
 
 module _ (z : Instance) (key nonce A text seal out : List ℕ) (w : Within z key nonce A text seal out) where
   sizes-right : sized z (length key) (length nonce) (length seal) ≡ true
@@ -58,14 +69,10 @@ module _ (z : Instance) (key nonce A text seal out : List ℕ) (w : Within z key
   unfolding openCall
   opened-within = rw (sizes-right, not-long, le-ltb (length out) (length text) (w .room))
 
--- a text over a buffer of its own length
-over-whole : (w o : List ℕ) → length o ≤ length w → over w o ≡ w
-over-whole w o h = rw (drop-of-length-le o h) (append-nil w)
-
-module _ (z : Instance) (fits : Fitting z) (key nonce A C T out : List ℕ) (w : Within z key nonce A C T out) where
+module _ (z : Instance) (fits : Fitting z) (key nonce A C T out : List ℕ) (w : Within z key nonce A C T out) (b : Bytes key nonce A C T) where
   -- seal makes what the algorithm works out
   makes : (P : List ℕ) (n : ℕ) → length P ≡ length C → encrypted z key nonce A P ≡ record { text = C; seal = T; calls = n } → Makes z key nonce A P C T n
-  makes P n l e o s ol sl =
+  makes P n l e o s ob sb ol sl =
       sealed-within z key nonce A P s o (record {
         key-size = w .key-size;
         nonce-size = w .nonce-size;
@@ -78,7 +85,7 @@ module _ (z : Instance) (fits : Fitting z) (key nonce A C T out : List ℕ) (w :
 
   made : (P : List ℕ) (n : ℕ) → length P ≡ length C → Makes z key nonce A P C T n → encrypted z key nonce A P ≡ record { text = C; seal = T; calls = n }
   made P n l m =
-      let p : sealCall z key nonce A P C T ≡ record { answer = sealed.Done n; out = C; seal = T } = m C T refl refl in
+      let p : sealCall z key nonce A P C T ≡ record { answer = sealed.Done n; out = C; seal = T } = m C T (b .cipher-bytes) (b .seal-bytes) refl refl in
       let q = sealed-within z key nonce A P T C (record {
         key-size = w .key-size;
         nonce-size = w .nonce-size;
@@ -109,7 +116,7 @@ module _ (z : Instance) (fits : Fitting z) (key nonce A C T out : List ℕ) (w :
 
   -- and answers done only where there is one
   pub open-found : (n : ℕ) → openCall z key nonce A C T out .answer ≡ opened.Done n
-      → (P : List ℕ) × (length P ≡ length C) × Makes z key nonce A P C T n
+      → (P : List ℕ) × Below 256 P × (length P ≡ length C) × Makes z key nonce A P C T n
   open-found n e =
       by-seal (accepted (decrypted z key nonce A C .seal) T) refl
       (ap (λ (x : OpenCall). x .answer) (sym (opened-within z key nonce A C T out w)) ∙ e)
@@ -117,17 +124,18 @@ module _ (z : Instance) (fits : Fitting z) (key nonce A C T out : List ℕ) (w :
       by-seal : (t : Bool) → accepted (decrypted z key nonce A C .seal) T ≡ t
           → cond {A = OpenCall} (not t) (record { answer = opened.Seal (decrypted z key nonce A C .calls); out = cleared (length C) out })
           (record { answer = opened.Done (decrypted z key nonce A C .calls); out = over (decrypted z key nonce A C .text) out }) .answer ≡ opened.Done n
-          → (P : List ℕ) × (length P ≡ length C) × Makes z key nonce A P C T n
+          → (P : List ℕ) × Below 256 P × (length P ≡ length C) × Makes z key nonce A P C T n
       by-seal true s d =
           let P : List ℕ = decrypted z key nonce A C .text in
           let l = length-decrypted z fits key nonce A (w .key-size) (w .nonce-size) C in
+          let bytes = decrypted-below z key nonce A (b .key-bytes) (b .nonce-bytes) (b .associated-bytes) C (b .cipher-bytes) in
           let calls : decrypted z key nonce A C .calls ≡ n = ap openCount d in
-          (P, l, makes P n l (seal-open z fits key nonce A (w .key-size) (w .nonce-size) C ∙ rw (accepted-eq (decrypted z key nonce A C .seal) T s, calls) refl))
+          (P, bytes, l, makes P n l (seal-open z fits key nonce A (w .key-size) (w .nonce-size) C ∙ rw (accepted-eq (decrypted z key nonce A C .seal) T s, calls) refl))
       by-seal false s d = absurd (let i : _≡_ {A = ℕ} 0 1 = cc d in omega arith)
 
   pub open-exactly : ((n : ℕ) × (openCall z key nonce A C T out .answer ≡ opened.Done n))
-      ↔ ((n : ℕ) × (P : List ℕ) × (length P ≡ length C) × Makes z key nonce A P C T n)
+      ↔ ((n : ℕ) × (P : List ℕ) × Below 256 P × (length P ≡ length C) × Makes z key nonce A P C T n)
   open-exactly = (
-    λ (n, e). (n, open-found n e .0, open-found n e .1, open-found n e .2),
-    λ (n, P, l, m). (n, ap (λ (x : OpenCall). x .answer) (open-gives P n l m)),
+    λ (n, e). let f = open-found n e in (n, f .0, f .1, f .2, f .3),
+    λ (n, P, p, l, m). (n, ap (λ (x : OpenCall). x .answer) (open-gives P n l m)),
   )
