@@ -12,7 +12,7 @@ use Rattle.cells.specs.Cells.{table, substitute, restore, onFirst}
 use Rattle.shuffling.specs.Sizes.{SMALLEST}
 use Rattle.shuffling.specs.Shuffling.{shuffle, unshuffle}
 use Rattle.shuffling.specs.Widths.{whereWide, where-wide}
-use Rattle.gage.specs.Permutation.{leaders, turns, permuteBy, unturns, unpermuteBy}
+use Rattle.gage.specs.Permutation.{turns, permuteBy, unturns, unpermuteBy}
 
 -- b is a state a whose first n bytes were changed by f
 pub record Changed (f : List ℕ → List ℕ) (n : ℕ) (a b : List ℕ) : Type 0 where

@@ -3,9 +3,9 @@
 ghost use mathlib.Core.Path.{_≡_};
 ghost use mathlib.Core.List.{_++_};
 ghost use Prim.Native.Nat.{_/_, _<_, _≤_};
-ghost use lib.ListN.{getD, length, take, drop};
+ghost use lib.ListN.{getD, take, drop};
 ghost use Rattle.cells.specs.Sizes.{LARGEST};
-ghost use Rattle.gage.specs.Permutation.{ROUNDS, leaders, numberOf, permitted, permuteBy, permute, unpermuteBy, unpermute, answered};
+ghost use Rattle.gage.specs.Permutation.{ROUNDS, leaders, numberOf, permitted, permute, unpermute, answered};
 
 // The largest permitted state, in bytes.
 pub const LARGEST: usize = cells::LARGEST;

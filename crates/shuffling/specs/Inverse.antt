@@ -7,7 +7,7 @@ use native.Mathlib.Omega.{arith}
 use lib.ListN.{length, getD}
 use lib.Seq.{ext-getD}
 use Rattle.lists.specs.Below.{Below, below-at}
-use Rattle.shuffling.specs.Shuffling.{bit, element, source, weights, origins, shuffledByte, shuffle, unshuffledByte, unshuffle}
+use Rattle.shuffling.specs.Shuffling.{element, source, weights, origins, shuffledByte, shuffle, unshuffledByte, unshuffle}
 use Rattle.shuffling.specs.Bits.{origin-weight, weighed-by, placed-back, origin-back, placed-whole, origin-whole}
 use Rattle.shuffling.specs.States.{length-shuffle, length-unshuffle, shuffle-at, unshuffle-at}
 

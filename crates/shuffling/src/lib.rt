@@ -4,7 +4,7 @@ use cells::LARGEST;
 ghost use mathlib.Core.Path.{_≡_};
 ghost use mathlib.Core.List.{[], _∷_, _++_};
 ghost use Prim.Native.Nat.{_+_, _-_, _<_, _≤_, _%_};
-ghost use lib.ListN.{getD, length, take, drop};
+ghost use lib.ListN.{getD, take, drop};
 ghost use Rattle.lists.specs.Upto.{Upto};
 ghost use Rattle.cells.specs.Sizes.{LARGEST};
 ghost use Rattle.shuffling.specs.Sizes.{AHEAD, WRAPPED};
