@@ -16,10 +16,6 @@ abbrev pub before : ℕ → List ℕ → ℕ → ℕ
 before l s zero = l
 before l s (suc i) = getD s i 0 % 4
 
-before-below : (l : ℕ) (s : List ℕ) (i : ℕ) → l < 4 → before l s i < 4
-before-below l s zero h = h
-before-below l s (suc i) h = omega arith
-
 substitute-at : (t : List (List ℕ)) (l : ℕ) (s : List ℕ) (i : ℕ) → i < length s
     → getD (substitute t l s) i 0 ≡ substitutedByte t (before l s i) (getD s i 0)
 unfolding substitute cells bytes follow substitutedByte

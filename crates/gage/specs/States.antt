@@ -1,4 +1,4 @@
--- A state stays a state: the permutation and its inverse keep its length and give bytes, at every size and for all leaders.
+-- A state stays a state: the permutation and its inverse keep its length, and the permutation gives bytes, at every size and for all leaders.
 -- Assumes nothing.
 use mathlib.Core.Path.{_≡_, refl, _∙_}
 use mathlib.Core.List.{List, [], _∷_}
@@ -7,7 +7,7 @@ use lib.ListN.{length, take}
 use Rattle.lists.specs.Below.{Below}
 use Rattle.cells.specs.Cells.{table, substitute, restore}
 use Rattle.cells.specs.Quasigroup.{table-closed}
-use Rattle.cells.specs.States.{length-substitute, length-restore, substitute-below, restore-below}
+use Rattle.cells.specs.States.{length-substitute, length-restore, substitute-below}
 use Rattle.shuffling.specs.Shuffling.{shuffle}
 use Rattle.shuffling.specs.States.{length-shuffle, length-unshuffle, unshuffle-below}
 use Rattle.gage.specs.Permutation.{leaders, turns, permuteBy, permute, unturns, unpermuteBy, unpermute}
@@ -49,11 +49,6 @@ unfolding permuteBy
 permuteBy-below [] s b = b
 permuteBy-below (l ∷ ls) s b = turns-below ls (substitute table l s) (substitute-below table table-closed l s)
 
-pub unpermuteBy-below : (ls s : List ℕ) → Below 256 s → Below 256 (unpermuteBy ls s)
-unfolding unpermuteBy
-unpermuteBy-below [] s b = b
-unpermuteBy-below (l ∷ ls) s b = restore-below table table-closed l (unturns ls s)
-
 pub length-permute : (k : ℕ) (s : List ℕ) → length (permute k s) ≡ length s
 unfolding permute
 length-permute k s = length-permuteBy (take k leaders) s
@@ -65,7 +60,3 @@ length-unpermute k s = length-unpermuteBy (take k leaders) s
 pub permute-below : (k : ℕ) (s : List ℕ) → Below 256 s → Below 256 (permute k s)
 unfolding permute
 permute-below k s b = permuteBy-below (take k leaders) s b
-
-pub unpermute-below : (k : ℕ) (s : List ℕ) → Below 256 s → Below 256 (unpermute k s)
-unfolding unpermute
-unpermute-below k s b = unpermuteBy-below (take k leaders) s b

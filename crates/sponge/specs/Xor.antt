@@ -1,10 +1,10 @@
--- Laws of bytes XORed into a state: what stays, one byte more, and no more bytes than the state has. Assumes nothing.
+-- Laws of bytes XORed into a state: its length and bytes, one byte more, and no more bytes than the state has. Assumes nothing.
 use mathlib.Core.Path.{_≡_, refl, ap}
 use mathlib.Core.List.{List, [], _∷_}
 use Prim.Native.Nat.{ℕ, zero, suc, _≤_, _<_}
 use native.Mathlib.Nat.{not-suc-le-zero, le-of-suc-le-suc}
 use lib.Bits.{bitXor, xor-lt}
-use lib.ListN.{length, getD, take, drop, set}
+use lib.ListN.{length, getD, take, set}
 use Rattle.lists.specs.Below.{Below}
 use Rattle.sponge.specs.Absorbing.{xored}
 
@@ -19,13 +19,6 @@ unfolding xored
 xored-below [] s p q = q
 xored-below (x ∷ b) [] p q = tt
 xored-below (x ∷ b) (y ∷ s) p q = (xor-lt 8 x y (p .0) (q .0), xored-below b s (p .1) (q .1))
-
--- behind the bytes XORed in, the state stays
-pub xored-rest : (b s : List ℕ) → drop (length b) (xored b s) ≡ drop (length b) s
-unfolding xored
-xored-rest [] s = refl
-xored-rest (x ∷ b) [] = refl
-xored-rest (x ∷ b) (y ∷ s) = xored-rest b s
 
 -- one byte more
 pub xored-more : (b s : List ℕ) (i : ℕ) → i < length b → i < length s
