@@ -49,13 +49,11 @@ cells-bytes (a ∷ b ∷ c ∷ []) f = absurd f
 cells-bytes (a ∷ b ∷ c ∷ d ∷ r) (ha, hb, hc, hd, f) =
     ap₂ _∷_ (omega arith) (ap₂ _∷_ (omega arith) (ap₂ _∷_ (omega arith) (ap₂ _∷_ (omega arith) (cells-bytes r f))))
 
-below : (x y : ℕ) → star table x y < 4
-below x y = table-closed .below x y
-
 follow-fours : (l : ℕ) (s : List ℕ) → Fours (follow table l (cells s))
 unfolding cells follow
 follow-fours l [] = tt
 follow-fours l (x ∷ r) =
+    let below = table-closed .below in
     (below l (x / 64), below (x / 64) (x / 16 % 4), below (x / 16 % 4) (x / 4 % 4), below (x / 4 % 4) (x % 4), follow-fours (x % 4) r)
 
 recover-fours : (l : ℕ) (s : List ℕ) → Fours (recover table l (cells s))
@@ -65,6 +63,7 @@ recover-fours l (x ∷ r) =
     let a = star table l (x / 64) in
     let b = star table a (x / 16 % 4) in
     let c = star table b (x / 4 % 4) in
+    let below = table-closed .below in
     (below l (x / 64), below a (x / 16 % 4), below b (x / 4 % 4), below c (x % 4), recover-fours (star table c (x % 4)) r)
 
 pub restore-substitute : (l : ℕ) (s : List ℕ) → l < 4 → Below 256 s → restore table l (substitute table l s) ≡ s

@@ -8,7 +8,7 @@ use lib.ListN.{length, take, drop, replicate}
 use Rattle.lists.specs.Buffers.{same}
 use Rattle.gage.specs.Permutation.{ROUNDS, permute}
 use Rattle.sponge.specs.Padding.{block, blockCount}
-use Rattle.sponge.specs.Absorbing.{xored, Run, changed, called}
+use Rattle.sponge.specs.Absorbing.{xored, Run, from, changed, called}
 use Rattle.cipher.specs.declared.Instance.{Instance}
 
 -- the permutation runs ROUNDS at the start and at the end, and ROUNDS / 2 after each block (r1 and r2)
@@ -31,10 +31,6 @@ AFTER-MESSAGE = 0x02
 -- s XOR (0* || v): v into the last byte
 unfoldable pub marked : ℕ → List ℕ → List ℕ
 marked v s = xored (replicate (length s - 1) 0 ++ (v ∷ [])) s
-
--- a run that starts in the state s
-abbrev pub from : List ℕ → Run
-from s = record { state = s; calls = 0 }
 
 -- a block b XORed into the state, and the permutation after it
 abbrev pub passed : List ℕ → Run → Run

@@ -3,13 +3,13 @@
 use Prim.Native.Nat.{ℕ, zero, suc, _+_, _/_, _≤_, _<_}
 use native.Mathlib.Nat.{not-suc-le-zero, le-of-suc-le-suc}
 use native.Mathlib.Omega.{arith}
-use mathlib.Core.Path.{_≡_, refl}
-use mathlib.Core.Bool.{Bool, true, false}
+use mathlib.Core.Path.{_≡_}
+use mathlib.Core.Bool.{true}
 use mathlib.Core.List.{List, [], _∷_}
 use lib.Dec.{T, leb, leb→le, ltb, ltb→lt}
 use lib.ListN.{length, getD}
 use Rattle.gage.specs.Permutation.{among, permitted}
-use Rattle.gage.specs.Tables.{permitted-size}
+use Rattle.gage.specs.Tables.{is-true, permitted-size}
 use Rattle.sponge.specs.Padding.{LARGEST-RATE}
 use Rattle.cipher.specs.declared.Instance.{Instance}
 
@@ -45,10 +45,6 @@ fitting z (a, b, c, d, e) = record {
   small = ltb→lt (z .rate) LARGEST-RATE d;
   ends = leb→le (z .rate + z .seal) (z .state) e;
 }
-  where
-    is-true : (b : Bool) → T b → b ≡ true
-    is-true true h = refl
-    is-true false h = absurd h
 
 abbrev AllTested : List Instance → Type 0
 AllTested [] = Unit {0}

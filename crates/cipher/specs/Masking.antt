@@ -32,14 +32,6 @@ xor-back =
     ∙ ap₂ (λ (x y : ℕ). x * 2 + y) (back (b / 2)) (bit-back (n % 2) (b % 2) (mod-lt n (omega arith)) (mod-lt b (omega arith)))
     ∙ div-add-mod' n 2)
 
--- the first n bytes of the state
-pub xored-take : (n : ℕ) (b s : List ℕ) → take n (xored b s) ≡ xored (take n b) (take n s)
-unfolding xored
-xored-take zero b s = refl
-xored-take (suc n) [] s = refl
-xored-take (suc n) (x ∷ b) [] = refl
-xored-take (suc n) (x ∷ b) (y ∷ s) = ap (λ (l : List ℕ). bitXor x y ∷ l) (xored-take n b s)
-
 -- no byte behind the first k of b reaches the first k of the state
 pub masked-take : (k : ℕ) (b s : List ℕ) → k ≤ length b → take k (xored b s) ≡ masked (take k b) s
 unfolding xored masked

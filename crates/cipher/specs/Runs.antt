@@ -8,9 +8,9 @@ use lib.ListN.{length, replicate, length-append, length-replicate}
 use Rattle.gage.specs.Permutation.{ROUNDS, permute}
 use Rattle.gage.specs.States.{length-permute}
 use Rattle.sponge.specs.Padding.{block, blockCount}
-use Rattle.sponge.specs.Absorbing.{xored, Run}
+use Rattle.sponge.specs.Absorbing.{xored, Run, from}
 use Rattle.sponge.specs.Xor.{length-xored}
-use Rattle.cipher.specs.Cipher.{from, passed, keyed, started, associatedBlock, absorbing, absorbed, begun, encrypting, decrypting, finished, marked, AFTER-ASSOCIATED, AFTER-MESSAGE}
+use Rattle.cipher.specs.Cipher.{passed, keyed, started, associatedBlock, absorbing, absorbed, begun, encrypting, decrypting, finished, marked, AFTER-ASSOCIATED, AFTER-MESSAGE}
 use Rattle.cipher.specs.Masking.{length-marked}
 use Rattle.cipher.specs.declared.Instance.{Instance}
 

@@ -9,8 +9,9 @@ use lib.ListN.{length, take}
 use lib.Seq.{take-all}
 use Rattle.lists.specs.Buffers.{copied, over}
 use Rattle.sponge.specs.Padding.{blockCount}
+use Rattle.sponge.specs.Absorbing.{from}
 use Rattle.digest.specs.Instances.{DIGEST, unknown, sizeOf, rateOf, outputsOf}
-use Rattle.digest.specs.Hashing.{begun, absorbed, squeezed, sponged, digestOf, digestCalls}
+use Rattle.digest.specs.Hashing.{absorbed, squeezed, sponged, digestOf, digestCalls}
 use Rattle.digest.specs.Shapes.{known-whole}
 use Rattle.digest.specs.Calls.{digest-calls}
 use Rattle.digest.specs.Outputs.{length-digest, squeezed-state}
@@ -29,10 +30,10 @@ copied-whole i m o e h = ap (λ (w : List ℕ). over w o) (take-all (length o) (
 
 -- what is given out of the state that took the message up is the digest
 hashed : (i : ℕ) (m s : List ℕ) → take (sizeOf i) s ≡ absorbed (sizeOf i) (rateOf i) m (blockCount (rateOf i) m) .state
-    → squeezed (rateOf i) (begun (take (sizeOf i) s)) (outputsOf i) .hash ≡ digestOf i m
+    → squeezed (rateOf i) (from (take (sizeOf i) s)) (outputsOf i) .hash ≡ digestOf i m
 unfolding digestOf sponged
 hashed i m s e =
-    squeezed-state (rateOf i) (begun (take (sizeOf i) s)) (absorbed (sizeOf i) (rateOf i) m (blockCount (rateOf i) m)) (outputsOf i) e
+    squeezed-state (rateOf i) (from (take (sizeOf i) s)) (absorbed (sizeOf i) (rateOf i) m (blockCount (rateOf i) m)) (outputsOf i) e
 
 -- the count that the code works out is the one of the calls
 counted : (i : ℕ) (m : List ℕ) {a : Digested} → a ≡ Done (digestCalls i m) → Done (length m / rateOf i + 1 + outputsOf i) ≡ a
@@ -42,7 +43,7 @@ counted i m e = ap Done (sym (digest-calls i m)) ∙ sym e
 -- the last return: the shape of the instance, the state, what was given out of it, and its copy
 pub finished : (i : ℕ) (m o : List ℕ) {n R k : ℕ} (s : List ℕ) {hash w : List ℕ} → unknown i ≡ false → length m ≤ LIMIT → DIGEST ≤ length o
     → n ≡ sizeOf i → R ≡ rateOf i → k ≡ outputsOf i → take n s ≡ absorbed n R m (blockCount R m) .state
-    → hash ≡ squeezed R (begun (take n s)) k .hash → w ≡ copied hash o
+    → hash ≡ squeezed R (from (take n s)) k .hash → w ≡ copied hash o
     → (Done (length m / R + 1 + k) ≡ digestAnswer i m o) × (w ≡ digestOut i m o)
 finished i m o {n} {R} {k} s {hash} {w} e h g n-is R-is k-is taken given put =
     let d : hash ≡ digestOf i m = (rw (n-is, R-is, k-is) at given) ∙ hashed i m s (rw (n-is, R-is) at taken) in

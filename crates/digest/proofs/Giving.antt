@@ -10,12 +10,13 @@ use lib.ListN.{length, take, drop, replicate, length-append, length-drop}
 use lib.Seq.{take-all, take-take, take-at, take-append-add, length-take-le}
 use borrow.Rule.Slice.PartMut.{putMid, postOf}
 use Rattle.lists.specs.Buffers.{copied}
-use Rattle.gage.specs.Permutation.{ROUNDS, permute}
+use Rattle.gage.specs.Permutation.{LARGEST, ROUNDS, permute}
+use Rattle.sponge.specs.Absorbing.{from}
 use Rattle.sponge.specs.Blocks.{blocks-suc}
 use Rattle.digest.specs.Instances.{DIGEST}
 use Rattle.digest.specs.Shapes.{Fits}
-use Rattle.digest.specs.Hashing.{begun, squeezed}
-use Rattle.digest.proofs.Taking.{LARGEST, size-room}
+use Rattle.digest.specs.Hashing.{squeezed}
+use Rattle.digest.proofs.Taking.{size-room}
 
 -- after j of k outputs from the state s, at bytes
 pub record Given (n R k : ℕ) (s hash t : List ℕ) (at j : ℕ) : Type 0 where
@@ -25,8 +26,8 @@ pub record Given (n R k : ℕ) (s hash t : List ℕ) (at j : ℕ) : Type 0 where
   pub place : at ≡ j * R
   pub long : length t ≡ LARGEST
   pub room : length hash ≡ DIGEST
-  pub state : take n t ≡ squeezed R (begun (take n s)) j .run .state
-  pub put : take at hash ≡ squeezed R (begun (take n s)) j .hash
+  pub state : take n t ≡ squeezed R (from (take n s)) j .run .state
+  pub put : take at hash ≡ squeezed R (from (take n s)) j .hash
 
 pub given-none : {n R k : ℕ} (s : List ℕ) → length s ≡ LARGEST → Fits n R → k * R ≡ DIGEST → Given n R k s (replicate DIGEST 0) s 0 0
 unfolding squeezed
@@ -92,8 +93,8 @@ given-more {n} {R} {k} {s} {hash} {t} {u} {at} {j} g h l p w e =
     let long : length (take R u) ≡ R = length-take-le R u (omega arith) in
     let ends : at + R ≤ DIGEST = given-room g h in
     let v : w ≡ copied (take R u) (take (DIGEST - at) (drop at hash)) = rw z at e in
-    let st : take n u ≡ permute ROUNDS (squeezed R (begun (take n s)) j .run .state) = rw (g .state) at p in
-    let first : take R u ≡ take R (permute ROUNDS (squeezed R (begun (take n s)) j .run .state)) =
+    let st : take n u ≡ permute ROUNDS (squeezed R (from (take n s)) j .run .state) = rw (g .state) at p in
+    let first : take R u ≡ take R (permute ROUNDS (squeezed R (from (take n s)) j .run .state)) =
     sym (take-take R n u (size .0)) ∙ ap (take R) st in
     record {
       fits = g .fits;
@@ -107,11 +108,11 @@ given-more {n} {R} {k} {s} {hash} {t} {u} {at} {j} g h l p w e =
     }
 
 pub given-all : {n R k : ℕ} {s hash t : List ℕ} {at j : ℕ} → Given n R k s hash t at j → k ≤ j
-    → hash ≡ squeezed R (begun (take n s)) k .hash
+    → hash ≡ squeezed R (from (take n s)) k .hash
 given-all {n} {R} {k} {s} {hash} {t} {at} {j} g h =
     let turns : j ≤ k = g .turns in
     let room : length hash ≡ DIGEST = g .room in
     let place : at ≡ j * R = g .place in
     let e : j ≡ k = omega arith in
     let full : at ≡ DIGEST = place ∙ rw e (g .makes) in
-    sym (take-all at hash (omega arith)) ∙ g .put ∙ ap (λ (i : ℕ). squeezed R (begun (take n s)) i .hash) e
+    sym (take-all at hash (omega arith)) ∙ g .put ∙ ap (λ (i : ℕ). squeezed R (from (take n s)) i .hash) e

@@ -8,18 +8,14 @@ use native.Mathlib.Numerals.{add-one}
 use native.Mathlib.Omega.{arith}
 use lib.ListN.{length, take, drop, replicate, length-drop}
 use lib.Seq.{take-all}
-use Rattle.gage.specs.Permutation.{ROUNDS, permute}
+use Rattle.gage.specs.Permutation.{LARGEST, ROUNDS, permute}
 use Rattle.gage.specs.Tables.{permitted-size}
 use Rattle.sponge.specs.Padding.{block, blockCount, lastBlock}
 use Rattle.sponge.specs.Absorbing.{xored}
 use Rattle.sponge.specs.Blocks.{blocks-suc, whole-ends, whole-rest, block-whole, length-block, last-block-cut, take-replicate}
-use Rattle.sponge.specs.Xor.{take-xored}
+use Rattle.sponge.specs.Xor.{xored-front}
 use Rattle.digest.specs.Shapes.{Fits}
 use Rattle.digest.specs.Hashing.{absorbed}
-
--- the bytes that a state by value holds, as many as the largest permitted size
-abbrev pub LARGEST : ℕ
-LARGEST = 72
 
 -- after i whole blocks, at bytes of the message
 pub record Taken (n R : ℕ) (m s : List ℕ) (at i : ℕ) : Type 0 where
@@ -46,7 +42,7 @@ stepped : {n R : ℕ} {u : List ℕ} (m s v : List ℕ) (i : ℕ) → Fits n R �
     → u ≡ xored (block R m i) s → take n v ≡ permute ROUNDS (take n u) → take n v ≡ absorbed n R m (i + 1) .state
 unfolding absorbed
 stepped {n} {R} {u} m s v i f e l x p =
-    p ∙ rw (x, take-xored n (block R m i) s (rw l (size-room f .0)), e, add-one i)
+    p ∙ rw (x, xored-front n (block R m i) s (rw l (size-room f .0)), e, add-one i)
 
 -- a whole block ends inside the message
 pub taken-room : {n R : ℕ} {m s : List ℕ} {at i : ℕ} → Taken n R m s at i → i < length m / R → at + R ≤ length m

@@ -5,16 +5,12 @@ use mathlib.Core.List.{List, [], _++_}
 use lib.ListN.{take, replicate}
 use Rattle.gage.specs.Permutation.{ROUNDS, permute}
 use Rattle.sponge.specs.Padding.{block, blockCount}
-use Rattle.sponge.specs.Absorbing.{xored, Run, changed, called}
+use Rattle.sponge.specs.Absorbing.{xored, Run, from, changed, called}
 use Rattle.digest.specs.Instances.{sizeOf, rateOf, outputsOf}
-
--- a state before any call
-abbrev pub begun : List ℕ → Run
-begun s = record { state = s; calls = 0 }
 
 -- initialization and absorbing: from a state of zeros, after i blocks of the padded message m
 unfoldable pub absorbed : ℕ → ℕ → List ℕ → ℕ → Run
-absorbed n R m zero = begun (replicate n 0)
+absorbed n R m zero = from (replicate n 0)
 absorbed n R m (suc i) = called (permute ROUNDS) (changed (xored (block R m i)) (absorbed n R m i))
 
 -- squeezing: a run of the sponge, and what it gave out

@@ -9,6 +9,7 @@ use borrow.Author.Tests.{ltb-false}
 use lib.ListN.{length, replicate}
 use Rattle.lists.specs.Table.{at, both, both-left, both-right}
 use Rattle.gage.specs.Permutation.{permitted, among}
+use Rattle.gage.specs.Tables.{is-true}
 use Rattle.sponge.specs.Padding.{LARGEST-RATE}
 use Rattle.digest.specs.Instances.{BYTE, DIGEST, instances, unknown, bitSize, bitRate, sizeOf, rateOf, outputsOf}
 
@@ -33,10 +34,6 @@ whole i =
     (both (ltb 0 (rateOf i))
     (both (leb (rateOf i) LARGEST-RATE)
     (eqb (outputsOf i * rateOf i) DIGEST)))))
-
-is-true : (b : Bool) → T b → b ≡ true
-is-true true t = refl
-is-true false t = absurd t
 
 -- an instance that is not unknown is one of the table's rows, counted from 1
 pub known-row : (i : ℕ) → unknown i ≡ false → (1 ≤ i) × (i ≤ length instances)

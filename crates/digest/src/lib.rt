@@ -7,9 +7,10 @@ ghost use Prim.Native.Nat.{_*_};
 ghost use lib.ListN.{take};
 ghost use Rattle.gage.specs.Permutation.{ROUNDS, permitted, permute};
 ghost use Rattle.sponge.specs.Padding.{blockCount};
+ghost use Rattle.sponge.specs.Absorbing.{from};
 ghost use Rattle.digest.specs.Instances.{DIGEST, unknown, sizeOf, rateOf, outputsOf};
 ghost use Rattle.digest.specs.Shapes.{Fits};
-ghost use Rattle.digest.specs.Hashing.{begun, absorbed, squeezed};
+ghost use Rattle.digest.specs.Hashing.{absorbed, squeezed};
 ghost use Rattle.digest.specs.Answers.{digestAnswer, digestOut};
 
 // The bits of a byte, and of a digest.
@@ -108,7 +109,7 @@ fn absorb(message: &[u8], size: usize, rate: usize) -> [u8; LARGEST]
 // The digest given out of a state: before each output the permutation.
 fn squeeze(s: [u8; LARGEST], size: usize, rate: usize, outputs: usize) -> [u8; DIGEST]
     requires { ⌜ Fits size rate × (outputs * rate ≡ DIGEST) ⌝ }
-    ensures { λ r. ⌜ r ≡ squeezed rate (begun (take size s)) outputs .hash ⌝ }
+    ensures { λ r. ⌜ r ≡ squeezed rate (from (take size s)) outputs .hash ⌝ }
 {
     let mut hash = [0u8; DIGEST];
     let mut t = s;

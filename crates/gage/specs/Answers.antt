@@ -1,11 +1,13 @@
--- What the public calls answer at a permitted size and at another: the two laws that callers cite. Assumes nothing.
-use mathlib.Core.Path.{_≡_}
+-- What the public calls answer at a permitted size and at another: the laws that callers cite. Assumes nothing.
+use mathlib.Core.Path.{_≡_, _∙_}
 use mathlib.Core.Bool.{true, false}
 use mathlib.Core.List.{List, _++_}
-use Prim.Native.Nat.{ℕ}
-use lib.ListN.{take, drop}
+use Prim.Native.Nat.{ℕ, _≤_}
+use lib.ListN.{length, take, drop}
+use lib.Seq.{length-take-le, take-at}
 use Rattle.gage.specs.Permutation.{permitted, answered}
 use Rattle.gage.specs.declared.Answer.the-variants.{Done, Size}
+use Rattle.gage.specs.declared.Permuted.{Permuted}
 
 module _ (f : List ℕ → List ℕ) (s : List ℕ) (n : ℕ) where
   pub answered-done : permitted n ≡ true → answered f s n ≡ record { answer = Done; state = f (take n s) ++ drop n s }
@@ -15,3 +17,8 @@ module _ (f : List ℕ → List ℕ) (s : List ℕ) (n : ℕ) where
   pub answered-size : permitted n ≡ false → answered f s n ≡ record { answer = Size; state = s }
   unfolding answered
   answered-size h = rw h
+
+  -- at a permitted size f, which keeps lengths, has changed the first n bytes
+  pub answered-first : {p : Permuted} → ((x : List ℕ) → length (f x) ≡ length x) → permitted n ≡ true → n ≤ length s → p ≡ answered f s n
+      → take n (p .state) ≡ f (take n s)
+  answered-first same h l e = rw (e, answered-done h) (take-at (f (take n s)) (drop n s) n (same (take n s) ∙ length-take-le n s l))

@@ -5,6 +5,7 @@ use mathlib.Core.Bool.{Bool, true, false, cond}
 use mathlib.Core.List.{List, [], _∷_, _++_}
 use lib.Dec.{eqb}
 use lib.ListN.{take, drop}
+pub use Rattle.cells.specs.Sizes.{LARGEST}
 use Rattle.cells.specs.Cells.{table, substitute, restore}
 use Rattle.shuffling.specs.Shuffling.{shuffle, unshuffle}
 use Rattle.gage.specs.declared.Answer.{Answer}

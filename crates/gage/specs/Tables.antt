@@ -13,6 +13,11 @@ use Rattle.lists.specs.Below.{Below, below-all, below-take}
 use Rattle.cells.specs.Sizes.{LARGEST}
 use Rattle.gage.specs.Permutation.{ROUNDS, leaders, sizes, among, permitted}
 
+-- a test passed
+pub is-true : (b : Bool) → T b → b ≡ true
+is-true true t = refl
+is-true false t = absurd t
+
 cell : ℕ → ℕ → Bool
 cell k l = ltb l 4
 

@@ -1,28 +1,20 @@
--- The first bytes of an array after the permutation, after a byte XORed in, and after bytes copied in, as the
--- nonce and the key are at the start. Assumes nothing.
+-- The first bytes of an array after a byte XORed in, and after bytes copied in, as the nonce and the key are at the start.
+-- Assumes nothing.
 use mathlib.Core.Path.{_≡_, refl, sym, ap, ap₂, _∙_}
-use mathlib.Core.Bool.{true}
 use mathlib.Core.List.{List, [], _∷_, _++_, append-nil}
 use Prim.Native.Nat.{ℕ, zero, suc, _+_, _-_, _≤_, _<_}
 use native.Mathlib.Nat.{not-suc-le-zero, le-of-suc-le-suc}
 use native.Mathlib.Omega.{arith}
 use lib.Bits.{bitXor}
 use lib.ListN.{length, getD, set, take, drop, replicate, length-drop, length-replicate, drop-of-length-le}
-use lib.Seq.{take-at, take-length, length-take-le, take-set-lt, getD-take, drop-at, drop-drop, take-append-add}
-use Rattle.gage.specs.Permutation.{permitted, answered}
-use Rattle.gage.specs.declared.Permuted.{Permuted}
+use lib.Seq.{take-length, length-take-le, take-set-lt, getD-take, drop-at, drop-drop, take-append-add}
 use Rattle.sponge.specs.Absorbing.{xored}
+use Rattle.sponge.specs.Blocks.{take-replicate}
+use Rattle.sponge.specs.Xor.{xored-take}
 use Rattle.lists.specs.Buffers.{copied}
 use Rattle.cipher.specs.declared.Instance.{Instance}
 use Rattle.cipher.specs.Instances.{Fitting}
 use Rattle.cipher.specs.Cipher.{whole, marked, keyed, started}
-use Rattle.cipher.specs.Masking.{xored-take}
-
--- the permutation answers with the first n bytes permuted
-pub permuted : (f : List ℕ → List ℕ) → ((s : List ℕ) → length (f s) ≡ length s) → (s : List ℕ) (n : ℕ) (p : Permuted)
-    → n ≤ length s → permitted n ≡ true → p ≡ answered f s n → take n (p .state) ≡ f (take n s)
-unfolding answered
-permuted f same s n p h a e = rw (e, a) (take-at (f (take n s)) (drop n s) n (same (take n s) ∙ length-take-le n s h))
 
 marked-at : (v n : ℕ) (s : List ℕ) → n < length s → set s n (bitXor v (getD s n 0)) ≡ xored (replicate n 0 ++ (v ∷ [])) s
 unfolding xored
@@ -51,11 +43,6 @@ drop-zeros zero n h = ap (λ (x : ℕ). replicate x 0) (let e : n ≡ n - 0 = om
 drop-zeros (suc k) zero h = absurd (not-suc-le-zero h)
 drop-zeros (suc k) (suc n) h = drop-zeros k n (le-of-suc-le-suc h) ∙ ap (λ (x : ℕ). replicate x 0) (let e : n - k ≡ suc n - suc k = omega arith in e)
 
-take-zeros : (k n : ℕ) → k ≤ n → take {A = ℕ} k (replicate n 0) ≡ replicate k 0
-take-zeros zero n h = refl
-take-zeros (suc k) zero h = absurd (not-suc-le-zero h)
-take-zeros (suc k) (suc n) h = ap (λ (l : List ℕ). 0 ∷ l) (take-zeros k n (le-of-suc-le-suc h))
-
 -- nonce and key have their places in the array
 pub key-place : (z : Instance) (key : List ℕ) → Fitting z → length key ≡ z .key → z .nonce + length key ≤ 72
 key-place z key fits k = let b = fits .begins in let h = fits .held in omega arith
@@ -75,7 +62,7 @@ keyed-front z front key fits f k =
     let i : z .state ≡ length front + (length key + rest) = omega arith in
     ap (λ (n : ℕ). take n (front ++ (key ++ zeros))) i ∙ take-append-add front (key ++ zeros) (length key + rest)
     ∙ ap (λ (l : List ℕ). front ++ l) (take-append-add key zeros rest
-    ∙ ap (λ (l : List ℕ). key ++ l) (take-zeros rest (72 - (z .nonce + length key)) (omega arith)))
+    ∙ ap (λ (l : List ℕ). key ++ l) (take-replicate rest (72 - (z .nonce + length key)) 0 (omega arith)))
 
 -- k has the key put into zeros, and n is k with the nonce in front: n permuted, and k XORed in
 pub started-mix : (z : Instance) (key nonce k n s r : List ℕ) → Fitting z → length key ≡ z .key → length nonce ≡ z .nonce
@@ -88,7 +75,7 @@ started-mix z key nonce k n s r fits kl nl e f g h =
     let front : List ℕ = replicate (z .nonce) 0 in
     let behind : List ℕ = key ++ replicate (72 - (z .nonce + length key)) 0 in
     let k-is : k ≡ front ++ behind =
-    e ∙ ap₂ (λ (x y : List ℕ). x ++ (key ++ y)) (take-zeros (z .nonce) 72 (omega arith)) (drop-zeros (z .nonce + length key) 72 (omega arith)) in
+    e ∙ ap₂ (λ (x y : List ℕ). x ++ (key ++ y)) (take-replicate (z .nonce) 72 0 (omega arith)) (drop-zeros (z .nonce + length key) 72 (omega arith)) in
     let at : length front ≡ 0 + length nonce = rw length-replicate (omega arith) in
     let n-is : n ≡ nonce ++ behind = f ∙ ap (λ (x : List ℕ). nonce ++ x) (rw k-is (drop-at front behind (0 + length nonce) at)) in
     rw h (xored-take (z .state) k s

@@ -10,18 +10,18 @@ use lib.ListN.{length, take, drop, length-replicate, drop-of-length-le}
 use lib.Seq.{take-all, drop-at, length-take-le, take-take, take-add}
 use borrow.Author.Tests.{eqb-true, ltb-false, lt-ltb}
 use Rattle.lists.specs.Buffers.{over, copied, cleared, same}
+use Rattle.lists.specs.Over.{over-length}
 use Rattle.sponge.specs.Padding.{blockCount}
-use Rattle.sponge.specs.Absorbing.{Run}
+use Rattle.sponge.specs.Absorbing.{Run, from}
 use Rattle.cipher.specs.declared.Instance.{Instance}
 use Rattle.ingage.specs.declared.Sealed.the-variants as sealed
 use Rattle.ingage.specs.declared.Opened.the-variants as opened
 use Rattle.cipher.specs.Instances.{Fitting, first, first-fits}
-use Rattle.cipher.specs.Cipher.{from, begun, encrypting, decrypting, finished, sealOf, encrypted, decrypted, accepted}
+use Rattle.cipher.specs.Cipher.{begun, encrypting, decrypting, finished, sealOf, encrypted, decrypted, accepted}
 use Rattle.ingage.specs.Answers.{LONGEST-ASSOCIATED, LONGEST-TEXT, sized, tooLong, SealCall, sealCall, OpenCall, openCall}
 use Rattle.cipher.specs.Runs.{encrypting-from, decrypting-from}
 use Rattle.cipher.specs.Results.{seal-calls, open-calls, length-seal, length-decrypted}
 use Rattle.ingage.specs.Exactly.{Within, sealed-within, opened-within}
-use Rattle.ingage.proofs.Writing.{length-over}
 
 never : {P : Type 0} → _≡_ {A = Bool} true false → P
 never e = absurd (let z : _≡_ {A = ℕ} 0 1 = cc e in omega arith)
@@ -111,7 +111,7 @@ filled x o e = rw (take-all (length o) x (omega arith), drop-of-length-le o {i =
 -- zeros over a text that was written are zeros over what stood there before
 pub cleared-over : (w o : List ℕ) (k : ℕ) → length w ≡ k → k ≤ length o → cleared k (over w o) ≡ cleared k o
 cleared-over w o k l h =
-    rw (length-over w o (omega arith), min-eq-left h, length-replicate, drop-at w (drop (length w) o) k l, l)
+    rw (over-length w o (omega arith), min-eq-left h, length-replicate, drop-at w (drop (length w) o) k l, l)
 
 module _ (z : Instance) (fits : Fitting z) (key nonce A text seal out : List ℕ) (w : Within z key nonce A text seal out) (s : List ℕ) (begins : take (z .state) s ≡ begun z key nonce A .state) where
   abbrev R : ℕ

@@ -9,23 +9,24 @@ use native.Mathlib.Omega.{arith}
 use lib.ListN.{length, take, drop, length-take, length-append}
 use lib.Seq.{take-all, take-at, take-take, take-nil, drop-at, length-take-le}
 use Rattle.lists.specs.Buffers.{over, copied}
+use Rattle.lists.specs.Over.{over-length}
 use Rattle.sponge.specs.Padding.{padded, block, blockCount, lastBlock, LARGEST-RATE}
 use Rattle.sponge.specs.Blocks.{length-last-block}
-use Rattle.sponge.specs.Absorbing.{xored}
+use Rattle.sponge.specs.Absorbing.{xored, from}
+use Rattle.sponge.specs.Xor.{xored-front}
 use Rattle.cipher.specs.declared.Instance.{Instance}
 use Rattle.cipher.specs.Instances.{Fitting}
-use Rattle.cipher.specs.Cipher.{AFTER-ASSOCIATED, half, marked, from, associatedBlock, absorbing, absorbed, encrypting, piece, masked, decrypting}
-use Rattle.cipher.specs.Masking.{xored-take, masked-take, length-masked}
+use Rattle.cipher.specs.Cipher.{AFTER-ASSOCIATED, half, marked, associatedBlock, absorbing, absorbed, encrypting, piece, masked, decrypting}
+use Rattle.cipher.specs.Masking.{masked-take, length-masked}
 use Rattle.cipher.specs.Pieces.{piece-starts, length-piece}
 use Rattle.cipher.specs.Runs.{length-encrypting, length-decrypting}
 use Rattle.cipher.specs.Flows.{sealing-grows, opening-grows, length-found}
 use Rattle.ingage.proofs.Pads.{block-of, piece-part}
-use Rattle.ingage.proofs.Writing.{length-over, copied-in, written}
+use Rattle.ingage.proofs.Writing.{copied-in, written}
 
 -- a block of R bytes mixed into an array whose first n bytes count
 mixed : (n R : ℕ) (b r : List ℕ) → R ≤ n → take n (xored (take R b) r) ≡ xored (take R b) (take n r)
-mixed n R b r h =
-    xored-take n (take R b) r ∙ ap (λ (l : List ℕ). xored l (take n r)) (take-all n (take R b) (omega (arith, length-take R b)))
+mixed n R b r h = xored-front n (take R b) r (omega (arith, length-take R b))
 
 -- k bytes of a mixed array, no more than count
 in-front : (k n : ℕ) (x c : List ℕ) → k ≤ n → take n x ≡ c → take k x ≡ take k c
@@ -76,7 +77,7 @@ module _ (z : Instance) (fits : Fitting z) (p s : List ℕ) (size : length s ≡
   piece-opened m b x r f g e y q =
       let d = fits .ends in
       let mix : take (z .state) m ≡ xored p (take (z .state) s) =
-      rw f (xored-take (z .state) p s ∙ ap (λ (c : List ℕ). xored c (take (z .state) s)) (take-all (z .state) p (omega arith))) in
+      rw f (xored-front (z .state) p s (omega arith)) in
       let found : part ≡ given = filled-by m (in-front (length p) (z .state) m (xored p (take (z .state) s)) (omega arith) mix) g in
       (passed-on z fits given s b x r (e ∙ ap lastBlock found) y q, found)
 
@@ -209,11 +210,11 @@ module _ (z : Instance) (fits : Fitting z) (P s o : List ℕ) (size : length s �
   pub length-sealing : {r out : List ℕ} {i : ℕ} → Sealing n R P s o r out i → length out ≡ length o
   length-sealing {r} {out} {i} w =
       let t : List ℕ = encrypting R (from (take n s)) P i .text in
-      ap length (w .text) ∙ length-over (take (length P) t) o (omega (arith, length-take (length P) t))
+      ap length (w .text) ∙ over-length (take (length P) t) o (omega (arith, length-take (length P) t))
 
   pub length-opening : {r out : List ℕ} {i : ℕ} → Opening n R P s o r out i → length out ≡ length o
   length-opening {r} {out} {i} w =
-      ap length (w .text) ∙ length-over (decrypting R (from (take n s)) P i .text) o (omega (arith, length-found R (fits .moves) (from (take n s)) wide P i))
+      ap length (w .text) ∙ over-length (decrypting R (from (take n s)) P i .text) o (omega (arith, length-found R (fits .moves) (from (take n s)) wide P i))
 
 -- after the last block
 module _ {n R : ℕ} {P s o r out : List ℕ} {i : ℕ} (h : blockCount R P ≤ i) where

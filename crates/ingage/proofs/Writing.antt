@@ -1,19 +1,15 @@
 -- A text written over a buffer piece by piece, and what a copy into a part of just a piece's length leaves there. Assumes nothing.
 use mathlib.Core.Path.{_≡_, sym, ap, _∙_}
 use mathlib.Core.List.{List, _++_, append-assoc, append-nil}
-use Prim.Native.Nat.{ℕ, _+_, _-_, _≤_}
+use Prim.Native.Nat.{ℕ, _+_, _-_}
 use native.Mathlib.Omega.{arith}
-use lib.ListN.{length, take, drop, length-append, length-drop, drop-of-length-le}
+use lib.ListN.{length, take, drop, length-append, drop-of-length-le}
 use lib.Seq.{take-at, drop-at, drop-drop}
 use Rattle.lists.specs.Buffers.{over, copied}
 
--- what was written keeps the buffer's length
-pub length-over : (w o : List ℕ) → length w ≤ length o → length (over w o) ≡ length o
-length-over w o h = length-append w (drop (length w) o) ∙ omega (arith, length-drop (length w) o)
-
 -- one piece x more, behind what was written
-pub over-more : (w x o : List ℕ) → over (w ++ x) o ≡ w ++ (x ++ drop (length x) (drop (length w) o))
-over-more w x o =
+over-split : (w x o : List ℕ) → over (w ++ x) o ≡ w ++ (x ++ drop (length x) (drop (length w) o))
+over-split w x o =
     ap (λ (l : List ℕ). (w ++ x) ++ l) (rw (length-append w x, sym (drop-drop (length x) (length w) o))) ∙ append-assoc w x (drop (length x) (drop (length w) o))
 
 -- the first bytes of y, copied into a part of just x's length
@@ -29,4 +25,4 @@ written w x o out at end e l k =
     let front : take at out ≡ w = ap (λ (b : List ℕ). take at b) e ∙ take-at w rest at l in
     let behind : drop at out ≡ rest = ap (λ (b : List ℕ). drop at b) e ∙ drop-at w rest at l in
     let size : end - at ≡ length x = omega arith in
-    rw (front, behind, size) (sym (over-more w x o))
+    rw (front, behind, size) (sym (over-split w x o))

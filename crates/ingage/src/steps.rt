@@ -11,10 +11,10 @@ ghost use lib.ListN.{length, take, drop};
 ghost use Rattle.gage.specs.Permutation.{permitted};
 ghost use Rattle.lists.specs.Buffers.{over};
 ghost use Rattle.sponge.specs.Padding.{blockCount, lastBlock};
-ghost use Rattle.sponge.specs.Absorbing.{xored};
+ghost use Rattle.sponge.specs.Absorbing.{xored, from};
 ghost use Rattle.cipher.specs.Instances.{Fitting};
 ghost use Rattle.ingage.specs.Answers.{LONGEST-ASSOCIATED, LONGEST-TEXT};
-ghost use Rattle.cipher.specs.Cipher.{whole, half, marked, from, passed, associatedBlock, absorbed, begun, encrypting, masked, decrypting, finished, sealOf};
+ghost use Rattle.cipher.specs.Cipher.{whole, half, marked, passed, associatedBlock, absorbed, begun, encrypting, masked, decrypting, finished, sealOf};
 
 // What is XORed into the last block of the associated data, into the state after it, and into the state after the message (document 000,
 // section 2.1).

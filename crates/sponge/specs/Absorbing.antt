@@ -15,6 +15,10 @@ pub record Run : Type 0 where
   pub state : List ℕ
   pub calls : ℕ
 
+-- a run that starts in the state s
+abbrev pub from : List ℕ → Run
+from s = record { state = s; calls = 0 }
+
 -- the state changed, with no call
 abbrev pub changed : (List ℕ → List ℕ) → Run → Run
 changed f r = record { state = f (r .state); calls = r .calls }

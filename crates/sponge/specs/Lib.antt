@@ -2,4 +2,3 @@ pub mod Padding
 pub mod Blocks
 pub mod Absorbing
 pub mod Xor
-pub mod Turns

@@ -1,10 +1,11 @@
 -- Laws of bytes XORed into a state: its length and bytes, one byte more, and no more bytes than the state has. Assumes nothing.
-use mathlib.Core.Path.{_≡_, refl, ap}
+use mathlib.Core.Path.{_≡_, refl, ap, _∙_}
 use mathlib.Core.List.{List, [], _∷_}
 use Prim.Native.Nat.{ℕ, zero, suc, _≤_, _<_}
 use native.Mathlib.Nat.{not-suc-le-zero, le-of-suc-le-suc}
 use lib.Bits.{bitXor, xor-lt}
 use lib.ListN.{length, getD, take, set}
+use lib.Seq.{take-all}
 use Rattle.lists.specs.Below.{Below}
 use Rattle.sponge.specs.Absorbing.{xored}
 
@@ -39,10 +40,14 @@ xored-past (x ∷ b) [] (suc i) h = refl
 xored-past (x ∷ b) (y ∷ s) zero h = absurd (not-suc-le-zero h)
 xored-past (x ∷ b) (y ∷ s) (suc i) h = ap (λ (l : List ℕ). bitXor x y ∷ l) (xored-past b s i (le-of-suc-le-suc h))
 
--- a block XORed into a state, seen in the state's first n bytes
-pub take-xored : (n : ℕ) (b s : List ℕ) → length b ≤ n → take n (xored b s) ≡ xored b (take n s)
+-- the first n bytes of the state, with the first n of b
+pub xored-take : (n : ℕ) (b s : List ℕ) → take n (xored b s) ≡ xored (take n b) (take n s)
 unfolding xored
-take-xored n [] s h = refl
-take-xored zero (x ∷ b) s h = absurd (not-suc-le-zero h)
-take-xored (suc n) (x ∷ b) [] h = refl
-take-xored (suc n) (x ∷ b) (y ∷ s) h = ap (λ (l : List ℕ). bitXor x y ∷ l) (take-xored n b s (le-of-suc-le-suc h))
+xored-take zero b s = refl
+xored-take (suc n) [] s = refl
+xored-take (suc n) (x ∷ b) [] = refl
+xored-take (suc n) (x ∷ b) (y ∷ s) = ap (λ (l : List ℕ). bitXor x y ∷ l) (xored-take n b s)
+
+-- and with all of b, where it is no longer
+pub xored-front : (n : ℕ) (b s : List ℕ) → length b ≤ n → take n (xored b s) ≡ xored b (take n s)
+xored-front n b s h = xored-take n b s ∙ ap (λ (l : List ℕ). xored l (take n s)) (take-all n b h)

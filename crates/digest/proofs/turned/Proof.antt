@@ -1,10 +1,8 @@
 -- `turned` meets its promise: at a permitted size the permutation's answer is done. Assumes nothing.
-use Rattle.gage.specs.declared.Permuted.{Permuted}
-use mathlib.Core.Path.{ap, _∙_}
-use lib.ListN.{take}
-use Rattle.gage.specs.Permutation.{ROUNDS}
+use Rattle.gage.specs.Permutation.{ROUNDS, permute}
+use Rattle.gage.specs.States.{length-permute}
 use Rattle.gage.specs.Tables.{permitted-size}
-use Rattle.sponge.specs.Turns.{answered-first}
+use Rattle.gage.specs.Answers.{answered-first}
 use borrow.Author.Needs.{needs}
 use Rattle.digest.proofs.turned.Statement.{statement}
 use Rattle.digest.proofs.turned.Tie as tie
@@ -17,7 +15,7 @@ returns c =
     let n = c .before .before .args .n in
     let s = c .before .before .args .s in
     let size = permitted-size n (c .before .before .pre) in
-    ap (λ (p : Permuted). take n (p .state)) (c .before .permute .ensures) ∙ answered-first ROUNDS s n (c .before .before .pre) (search needs)
+    answered-first (permute ROUNDS) s n (length-permute ROUNDS) (c .before .before .pre) (search needs) (c .before .permute .ensures)
 
 pub turned-spec : {M : Type 1} → statement M
 turned-spec = tie.close (tie.spec permute-requires returns)

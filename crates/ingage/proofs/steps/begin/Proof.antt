@@ -1,7 +1,8 @@
 -- `begin` meets its promise: N||K||0* permuted, 0||K||0* XORed in, and the associated data absorbed from there. Assumes nothing.
 use Rattle.ingage.proofs.Arrays.{key-place, nonce-place, started-mix}
+use Rattle.sponge.specs.Absorbing.{from}
 use Rattle.cipher.specs.Runs.{absorbed-from}
-use Rattle.cipher.specs.Cipher.{from, started, absorbed, begun}
+use Rattle.cipher.specs.Cipher.{started, absorbed, begun}
 use Prim.Native.Nat.{ℕ}
 use mathlib.Core.List.{List}
 use mathlib.Core.Path.{ap, _∙_}

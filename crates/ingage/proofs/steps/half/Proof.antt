@@ -1,10 +1,9 @@
 -- `half` meets its promise: at a permitted size the permutation's answer is the state permuted. Assumes nothing.
 use Rattle.gage.specs.Tables.{permitted-size}
-use Rattle.ingage.proofs.Arrays.{permuted}
+use Rattle.gage.specs.Answers.{answered-first}
 use Rattle.gage.specs.States.{length-permute}
 use Rattle.gage.specs.Permutation.{ROUNDS, permute}
 use Prim.Native.Nat.{_/_}
-use native.Mathlib.Omega.{arith}
 use borrow.Author.Needs.{needs}
 use Rattle.ingage.proofs.steps.half.Statement.{statement}
 use Rattle.ingage.proofs.steps.half.Tie as tie
@@ -13,7 +12,10 @@ permute-half-requires : tie.Need-permute-half-requires
 permute-half-requires c κs = search needs
 
 returns : tie.Need-returns
-returns c = permuted (permute (ROUNDS / 2)) (length-permute (ROUNDS / 2)) (c .before .before .args .s) (c .before .before .args .n) (c .before .permute-half .result) (omega (arith, permitted-size (c .before .before .args .n) (c .before .before .pre))) (c .before .before .pre) (c .before .permute-half .ensures)
+returns c =
+    let n = c .before .before .args .n in
+    let size = permitted-size n (c .before .before .pre) in
+    answered-first (permute (ROUNDS / 2)) (c .before .before .args .s) n (length-permute (ROUNDS / 2)) (c .before .before .pre) (search needs) (c .before .permute-half .ensures)
 
 pub half-spec : {M : Type 1} → statement M
 half-spec = tie.close (tie.spec permute-half-requires returns)

@@ -1,9 +1,8 @@
 -- `whole` meets its promise: at a permitted size the permutation's answer is the state permuted. Assumes nothing.
 use Rattle.gage.specs.Tables.{permitted-size}
-use Rattle.ingage.proofs.Arrays.{permuted}
+use Rattle.gage.specs.Answers.{answered-first}
 use Rattle.gage.specs.States.{length-permute}
 use Rattle.gage.specs.Permutation.{ROUNDS, permute}
-use native.Mathlib.Omega.{arith}
 use borrow.Author.Needs.{needs}
 use Rattle.ingage.proofs.steps.whole.Statement.{statement}
 use Rattle.ingage.proofs.steps.whole.Tie as tie
@@ -12,7 +11,10 @@ permute-requires : tie.Need-permute-requires
 permute-requires c κs = search needs
 
 returns : tie.Need-returns
-returns c = permuted (permute (ROUNDS)) (length-permute (ROUNDS)) (c .before .before .args .s) (c .before .before .args .n) (c .before .permute .result) (omega (arith, permitted-size (c .before .before .args .n) (c .before .before .pre))) (c .before .before .pre) (c .before .permute .ensures)
+returns c =
+    let n = c .before .before .args .n in
+    let size = permitted-size n (c .before .before .pre) in
+    answered-first (permute ROUNDS) (c .before .before .args .s) n (length-permute ROUNDS) (c .before .before .pre) (search needs) (c .before .permute .ensures)
 
 pub whole-spec : {M : Type 1} → statement M
 whole-spec = tie.close (tie.spec permute-requires returns)
