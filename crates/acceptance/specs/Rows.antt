@@ -1,11 +1,11 @@
--- Document 01, 'Acceptance table': the rows about substitution, shuffle, padding and counts, from the definitions. Assumes nothing.
+-- Document 01, 'Acceptance table': the rows that hold at every size, about substitution, padding and counts; specs/Table.antt computes the others.
+-- Assumes nothing.
 use mathlib.Core.Path.{_≡_, refl, ap, _∙_}
-use mathlib.Core.List.{List, [], _∷_}
+use mathlib.Core.List.{List, _∷_}
 use Prim.Native.Nat.{ℕ, zero, suc, _+_, _*_, _/_}
 use native.Mathlib.Omega.{arith}
-use lib.ListN.{length, replicate, set, take}
+use lib.ListN.{length, replicate}
 use Rattle.cells.specs.Cells.{table, cells, bytes, follow, substitute}
-use Rattle.shuffling.specs.Shuffling.{listed, weighed, shuffledByte, shuffle}
 use Rattle.sponge.specs.Padding.{padded, blockCount}
 use Rattle.sponge.specs.Blocks.{length-padded}
 use Rattle.digest.specs.Instances.{HASH, bitRate, rateOf}
@@ -32,26 +32,6 @@ ones-by-three (suc n) = ap (λ (r : List ℕ). 0x00 ∷ r) (ones-by-three n)
 pub ones-by-zero : (n : ℕ) → substitute table 0 (replicate (suc n) 0xFF) ≡ 0x80 ∷ replicate n 0x00
 unfolding substitute cells bytes follow
 ones-by-zero n = ap (λ (r : List ℕ). 0x80 ∷ r) (ones-by-three n)
-
--- cells of 1B first in the state, leader 2, give 85
-pub first-by-two : (r : List ℕ) → take 1 (substitute table 2 (0x1B ∷ r)) ≡ 0x85 ∷ []
-unfolding substitute cells bytes follow
-first-by-two r = refl
-
--- shuffle at 29 bytes with only byte 0 = 80 gives only byte 22 = 10
-pub leftmost-bit : shuffle (0x80 ∷ replicate 28 0x00) ≡ set (replicate 29 0x00) 22 0x10
-unfolding shuffle shuffledByte weighed listed
-leftmost-bit = refl
-
--- with byte 0 = 01, byte 0 = 80
-pub rightmost-bit : shuffle (0x01 ∷ replicate 28 0x00) ≡ 0x80 ∷ replicate 28 0x00
-unfolding shuffle shuffledByte weighed listed
-rightmost-bit = refl
-
--- with byte 0 = 02, byte 28 = 20
-pub next-bit : shuffle (0x02 ∷ replicate 28 0x00) ≡ set (replicate 29 0x00) 28 0x20
-unfolding shuffle shuffledByte weighed listed
-next-bit = refl
 
 -- a message of n bytes, padded at the rate R, makes k blocks
 abbrev pub Padding : ℕ → ℕ → ℕ → Type 0

@@ -3,8 +3,8 @@ use mathlib.Core.Path.{_≡_, refl}
 use mathlib.Core.List.{List, [], _∷_}
 use Prim.Native.Nat.{ℕ, suc}
 use lib.ListN.{replicate, set, take}
-use Rattle.cells.specs.Cells.{star, table, substitute}
-use Rattle.shuffling.specs.Shuffling.{shuffle}
+use Rattle.cells.specs.Cells.{star, table, cells, bytes, follow, substitute}
+use Rattle.shuffling.specs.Shuffling.{listed, weighed, shuffledByte, shuffle}
 use Rattle.digest.specs.Instances.{bitRate, rateOf}
 use Rattle.acceptance.specs.Rows as rows
 use Rattle.acceptance.specs.Rows.{Padding, Calls, padding, calls}
@@ -33,16 +33,16 @@ pub record Accepted : Type 0 where
   pub calls-8-16 : Calls 8 16 4
 
 pub acceptance : Accepted
-unfolding rateOf bitRate
+unfolding substitute cells bytes follow shuffle shuffledByte weighed listed rateOf bitRate
 acceptance = record {
   one-by-two = refl;
   zeros-by-zero = rows.zeros-by-zero;
   zeros-by-three = rows.zeros-by-three;
   ones-by-zero = rows.ones-by-zero;
-  first-by-two = rows.first-by-two;
-  leftmost-bit = rows.leftmost-bit;
-  rightmost-bit = rows.rightmost-bit;
-  next-bit = rows.next-bit;
+  first-by-two = λ r. refl;
+  leftmost-bit = refl;
+  rightmost-bit = refl;
+  next-bit = refl;
   padding-0 = padding 0;
   padding-3 = padding 3;
   padding-4 = padding 4;
