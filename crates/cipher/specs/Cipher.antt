@@ -29,8 +29,8 @@ abbrev pub AFTER-MESSAGE : ℕ
 AFTER-MESSAGE = 0x02
 
 -- s XOR (0* || v): v into the last byte
-unfoldable pub marked : ℕ → List ℕ → List ℕ
-marked v s = xored (replicate (length s - 1) 0 ++ (v ∷ [])) s
+unfoldable pub lastXored : ℕ → List ℕ → List ℕ
+lastXored v s = xored (replicate (length s - 1) 0 ++ (v ∷ [])) s
 
 -- a block b XORed into the state, and the permutation after it
 abbrev pub passed : List ℕ → Run → Run
@@ -48,7 +48,7 @@ module _ (z : Instance) where
   -- 'Absorb associated data A', step 2: block i of the padded A, the last one with its last bit set
   unfoldable pub associatedBlock : List ℕ → ℕ → List ℕ
   associatedBlock A i =
-      cond (eqb (i + 1) (blockCount (z .rate) A)) (marked LAST-BLOCK (block (z .rate) A i)) (block (z .rate) A i)
+      cond (eqb (i + 1) (blockCount (z .rate) A)) (lastXored LAST-BLOCK (block (z .rate) A i)) (block (z .rate) A i)
 
   -- steps 3 to 6, after i blocks
   unfoldable pub absorbing : Run → List ℕ → ℕ → Run
@@ -57,7 +57,7 @@ module _ (z : Instance) where
 
   -- 'Absorb associated data A'
   unfoldable pub absorbed : Run → List ℕ → Run
-  absorbed r A = changed (marked AFTER-ASSOCIATED) (absorbing r A (blockCount (z .rate) A))
+  absorbed r A = changed (lastXored AFTER-ASSOCIATED) (absorbing r A (blockCount (z .rate) A))
 
   -- the run when the message comes
   unfoldable pub begun : List ℕ → List ℕ → List ℕ → Run
@@ -98,7 +98,7 @@ decrypting R r C (suc i) =
 
 -- the step before 'Finalization', and its step 1
 unfoldable pub finished : Run → Run
-finished r = called whole (changed (marked AFTER-MESSAGE) r)
+finished r = called whole (changed (lastXored AFTER-MESSAGE) r)
 
 -- what an algorithm works out: its text, the seal, and how often the permutation was called
 pub record Work : Type 0 where

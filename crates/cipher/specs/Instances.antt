@@ -8,7 +8,7 @@ use mathlib.Core.Bool.{true}
 use mathlib.Core.List.{List, [], _∷_}
 use lib.Dec.{T, leb, leb→le, ltb, ltb→lt}
 use lib.ListN.{length, getD}
-use Rattle.gage.specs.Permutation.{among, permitted}
+use Rattle.gage.specs.Permutation.{LARGEST, among, permitted}
 use Rattle.gage.specs.Tables.{is-true, permitted-size}
 use Rattle.sponge.specs.Padding.{LARGEST-RATE}
 use Rattle.cipher.specs.declared.Instance.{Instance}
@@ -24,7 +24,7 @@ instances = first ∷ []
 -- largest that `last_block` pads; and behind the rate there is room for the seal
 pub record Fitting (z : Instance) : Type 0 where
   pub allowed : permitted (z .state) ≡ true
-  pub held : z .state ≤ 72
+  pub held : z .state ≤ LARGEST
   pub begins : z .nonce + z .key ≤ z .state
   pub moves : 1 ≤ z .rate
   pub small : z .rate < LARGEST-RATE

@@ -12,7 +12,7 @@ use Rattle.gage.specs.Permutation.{leaders, turns, permuteBy, permute}
 use Rattle.sponge.specs.Padding.{padded, block}
 use Rattle.sponge.specs.Absorbing.{xored}
 use Rattle.cipher.specs.Instances.{first}
-use Rattle.cipher.specs.Cipher.{Work, marked, keyed, started, associatedBlock, absorbing, absorbed, begun, encrypting, finished, sealOf, encrypted}
+use Rattle.cipher.specs.Cipher.{Work, lastXored, keyed, started, associatedBlock, absorbing, absorbed, begun, encrypting, finished, sealOf, encrypted}
 
 abbrev pub key : List ℕ
 key = 0x00 ∷ 0x01 ∷ 0x02 ∷ 0x03 ∷ 0x04 ∷ 0x05 ∷ 0x06 ∷ 0x07 ∷ 0x08 ∷ 0x09 ∷ 0x0A ∷ 0x0B ∷ 0x0C ∷ 0x0D ∷ 0x0E ∷ 0x0F ∷ []
@@ -29,7 +29,7 @@ known = 0xF3 ∷ 0x12 ∷ 0x44 ∷ 0x7D ∷ 0xDD ∷ 0xCF ∷ 0x17 ∷ 0x5A ∷ 
 
 -- compared byte by byte, so that a wrong definition is found out at its first wrong byte
 tested : same (answer .text ++ answer .seal) known ≡ true
-unfolding same encrypted sealOf finished encrypting begun absorbed absorbing associatedBlock started keyed marked block padded xored permute permuteBy turns leaders substitute cells bytes follow shuffle shuffledByte weighed listed
+unfolding same encrypted sealOf finished encrypting begun absorbed absorbing associatedBlock started keyed lastXored block padded xored permute permuteBy turns leaders substitute cells bytes follow shuffle shuffledByte weighed listed
 tested = refl
 
 -- the ciphertext and the seal behind it

@@ -10,7 +10,7 @@ use lib.ListN.{length, take, replicate, length-take}
 use Rattle.lists.specs.Below.{Below, below-take, below-append, below-replicate}
 use Rattle.sponge.specs.Absorbing.{xored}
 use Rattle.sponge.specs.Xor.{length-xored, xored-below}
-use Rattle.cipher.specs.Cipher.{masked, marked}
+use Rattle.cipher.specs.Cipher.{masked, lastXored}
 
 -- two bits
 bit-back : (a b : ℕ) → a < 2 → b < 2 → differ (bitXor a b) b ≡ a
@@ -51,16 +51,16 @@ masked-back [] s h = refl
 masked-back (x ∷ c) [] h = absurd (not-suc-le-zero h)
 masked-back (x ∷ c) (y ∷ s) h = ap₂ _∷_ (xor-back x y) (masked-back c s (le-of-suc-le-suc h))
 
-pub length-marked : (v : ℕ) (s : List ℕ) → length (marked v s) ≡ length s
-unfolding marked
-length-marked v s = length-xored (replicate (length s - 1) 0 ++ (v ∷ [])) s
+pub length-last-xored : (v : ℕ) (s : List ℕ) → length (lastXored v s) ≡ length s
+unfolding lastXored
+length-last-xored v s = length-xored (replicate (length s - 1) 0 ++ (v ∷ [])) s
 
 pub masked-below : (c s : List ℕ) → Below 256 c → Below 256 s → Below 256 (masked c s)
 unfolding masked
 masked-below c s b d = below-take 256 (length c) (xored c s) (xored-below c s b d)
 
-pub marked-below : (v : ℕ) (s : List ℕ) → v < 256 → Below 256 s → Below 256 (marked v s)
-unfolding marked
-marked-below v s h b =
+pub last-xored-below : (v : ℕ) (s : List ℕ) → v < 256 → Below 256 s → Below 256 (lastXored v s)
+unfolding lastXored
+last-xored-below v s h b =
     xored-below (replicate (length s - 1) 0 ++ (v ∷ [])) s
     (below-append 256 (replicate (length s - 1) 0) (v ∷ []) (below-replicate 256 (length s - 1) 0 (omega arith)) (h, tt)) b

@@ -17,8 +17,8 @@ use Rattle.sponge.specs.Absorbing.{xored, Run}
 use Rattle.sponge.specs.Xor.{xored-below}
 use Rattle.cipher.specs.declared.Instance.{Instance}
 use Rattle.cipher.specs.Instances.{Fitting, first}
-use Rattle.cipher.specs.Cipher.{passed, marked, LAST-BLOCK, AFTER-ASSOCIATED, AFTER-MESSAGE, keyed, started, associatedBlock, absorbing, absorbed, begun, encrypting, piece, masked, decrypting, finished, sealOf, encrypted, decrypted}
-use Rattle.cipher.specs.Masking.{masked-below, marked-below}
+use Rattle.cipher.specs.Cipher.{passed, lastXored, LAST-BLOCK, AFTER-ASSOCIATED, AFTER-MESSAGE, keyed, started, associatedBlock, absorbing, absorbed, begun, encrypting, piece, masked, decrypting, finished, sealOf, encrypted, decrypted}
+use Rattle.cipher.specs.Masking.{masked-below, last-xored-below}
 use Rattle.cipher.specs.Runs.{encrypting-calls, decrypting-calls, begun-calls, length-begun, length-encrypting, length-finished}
 use Rattle.cipher.specs.Flows.{length-ciphertext, opened-follows}
 use Rattle.cipher.specs.RoundTrip.{wide}
@@ -80,7 +80,7 @@ module _ (z : Instance) (key nonce A : List ℕ) (k : Below 256 key) (n : Below 
   associated-below : (i : ℕ) → Below 256 (associatedBlock z A i)
   unfolding associatedBlock
   associated-below i =
-      either (eqb (i + 1) (blockCount (z .rate) A)) _ _ (marked-below LAST-BLOCK (block (z .rate) A i) (omega arith) (block-below (z .rate) A i a))
+      either (eqb (i + 1) (blockCount (z .rate) A)) _ _ (last-xored-below LAST-BLOCK (block (z .rate) A i) (omega arith) (block-below (z .rate) A i a))
       (block-below (z .rate) A i a)
     where
       either : (t : Bool) (x y : List ℕ) → Below 256 x → Below 256 y → Below 256 (cond t x y)
@@ -95,7 +95,7 @@ module _ (z : Instance) (key nonce A : List ℕ) (k : Below 256 key) (n : Below 
   pub begun-below : Below 256 (begun z key nonce A .state)
   unfolding begun absorbed
   begun-below =
-      marked-below AFTER-ASSOCIATED (absorbing z (started z key nonce) A (blockCount (z .rate) A) .state) (omega arith)
+      last-xored-below AFTER-ASSOCIATED (absorbing z (started z key nonce) A (blockCount (z .rate) A) .state) (omega arith)
       (absorbing-below (blockCount (z .rate) A))
 
   sealing-below : (P : List ℕ) → Below 256 P → (i : ℕ) → Below 256 (encrypting (z .rate) (begun z key nonce A) P i .run .state)
@@ -120,8 +120,8 @@ module _ (z : Instance) (key nonce A : List ℕ) (k : Below 256 key) (n : Below 
       let w = encrypting R (begun z key nonce A) P (blockCount R P) in
       let b = sealing-below P p (blockCount R P) in (
         below-take 256 (length P) (w .text) (b .1),
-        below-take 256 (z .seal) _ (below-drop 256 (z .rate) _ (permute-below ROUNDS (marked AFTER-MESSAGE (w .run .state))
-            (marked-below AFTER-MESSAGE (w .run .state) (omega arith) (b .0)))),
+        below-take 256 (z .seal) _ (below-drop 256 (z .rate) _ (permute-below ROUNDS (lastXored AFTER-MESSAGE (w .run .state))
+            (last-xored-below AFTER-MESSAGE (w .run .state) (omega arith) (b .0)))),
       )
 
   opening-below : (C : List ℕ) → Below 256 C → (i : ℕ) → Below 256 (decrypting (z .rate) (begun z key nonce A) C i .run .state)

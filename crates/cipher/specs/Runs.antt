@@ -10,8 +10,8 @@ use Rattle.gage.specs.States.{length-permute}
 use Rattle.sponge.specs.Padding.{block, blockCount}
 use Rattle.sponge.specs.Absorbing.{xored, Run, from}
 use Rattle.sponge.specs.Xor.{length-xored}
-use Rattle.cipher.specs.Cipher.{passed, keyed, started, associatedBlock, absorbing, absorbed, begun, encrypting, decrypting, finished, marked, AFTER-ASSOCIATED, AFTER-MESSAGE}
-use Rattle.cipher.specs.Masking.{length-marked}
+use Rattle.cipher.specs.Cipher.{passed, keyed, started, associatedBlock, absorbing, absorbed, begun, encrypting, decrypting, finished, lastXored, AFTER-ASSOCIATED, AFTER-MESSAGE}
+use Rattle.cipher.specs.Masking.{length-last-xored}
 use Rattle.cipher.specs.declared.Instance.{Instance}
 
 -- a state keeps its length
@@ -49,7 +49,7 @@ module _ (z : Instance) where
   pub length-absorbed : (r : Run) (A : List ℕ) → length (absorbed z r A .state) ≡ length (r .state)
   unfolding absorbed
   length-absorbed r A =
-      length-marked AFTER-ASSOCIATED (absorbing z r A (blockCount (z .rate) A) .state) ∙ length-absorbing r A (blockCount (z .rate) A)
+      length-last-xored AFTER-ASSOCIATED (absorbing z r A (blockCount (z .rate) A) .state) ∙ length-absorbing r A (blockCount (z .rate) A)
 
   absorbing-calls : (r : Run) (A : List ℕ) (i : ℕ) → absorbing z r A i .calls ≡ r .calls + i
   unfolding absorbing
@@ -79,7 +79,7 @@ module _ (z : Instance) where
 
 pub length-finished : (r : Run) → length (finished r .state) ≡ length (r .state)
 unfolding finished
-length-finished r = length-permute ROUNDS (marked AFTER-MESSAGE (r .state)) ∙ length-marked AFTER-MESSAGE (r .state)
+length-finished r = length-permute ROUNDS (lastXored AFTER-MESSAGE (r .state)) ∙ length-last-xored AFTER-MESSAGE (r .state)
 
 -- what is worked out depends on the state a run starts in, not on its count
 pub encrypting-from : (R : ℕ) (r : Run) (P : List ℕ) (i : ℕ)

@@ -11,6 +11,7 @@ use lib.Seq.{take-all, drop-at, length-take-le, take-take, take-add}
 use borrow.Author.Tests.{eqb-true, ltb-false, lt-ltb}
 use Rattle.lists.specs.Buffers.{over, copied, cleared, same}
 use Rattle.lists.specs.Over.{over-length}
+use Rattle.gage.specs.Permutation.{LARGEST}
 use Rattle.sponge.specs.Padding.{blockCount}
 use Rattle.sponge.specs.Absorbing.{Run, from}
 use Rattle.cipher.specs.declared.Instance.{Instance}
@@ -89,7 +90,7 @@ module _ (z : Instance) (key nonce A text out seal : List ℕ) where
           }
 
 -- the array holds the state
-pub held-in : (z : Instance) (f : List ℕ) → Fitting z → length f ≡ 72 → z .state ≤ length f
+pub held-in : (z : Instance) (f : List ℕ) → Fitting z → length f ≡ LARGEST → z .state ≤ length f
 held-in z f fits l = let h = fits .held in omega arith
 
 -- the seal's place in the state

@@ -13,7 +13,7 @@ use Rattle.sponge.specs.Blocks.{blocks-suc, whole-rest, block-whole, last-block
 use borrow.Author.Tests.{eq-eqb, ne-eqb}
 use Rattle.cipher.specs.declared.Instance.{Instance}
 use Rattle.cipher.specs.Instances.{Fitting}
-use Rattle.cipher.specs.Cipher.{piece, marked, LAST-BLOCK, associatedBlock}
+use Rattle.cipher.specs.Cipher.{piece, lastXored, LAST-BLOCK, associatedBlock}
 use Rattle.cipher.specs.Pieces.{piece-starts, cut}
 
 -- the part of a text that the code takes for piece i
@@ -69,7 +69,7 @@ part-block z m i end b fits h e g =
     ap (λ (l : List ℕ). take (z .rate) l) (g ∙ ap lastBlock (piece-part (z .rate) m i end (piece-starts (z .rate) m i h) e))
     ∙ block-of (z .rate) m i (fits .moves) (fits .small) h
 
-pub associated-last : (z : Instance) (A : List ℕ) (i : ℕ) → i ≡ length A / z .rate → associatedBlock z A i ≡ marked LAST-BLOCK (block (z .rate) A i)
+pub associated-last : (z : Instance) (A : List ℕ) (i : ℕ) → i ≡ length A / z .rate → associatedBlock z A i ≡ lastXored LAST-BLOCK (block (z .rate) A i)
 unfolding associatedBlock
 associated-last z A i e = rw (eq-eqb (i + 1) (length A / z .rate + 1) (omega arith))
 

@@ -10,13 +10,14 @@ use lib.ListN.{length, take, drop, length-take, length-append}
 use lib.Seq.{take-all, take-at, take-take, take-nil, drop-at, length-take-le}
 use Rattle.lists.specs.Buffers.{over, copied}
 use Rattle.lists.specs.Over.{over-length}
+use Rattle.gage.specs.Permutation.{LARGEST}
 use Rattle.sponge.specs.Padding.{padded, block, blockCount, lastBlock, LARGEST-RATE}
 use Rattle.sponge.specs.Blocks.{length-last-block}
 use Rattle.sponge.specs.Absorbing.{xored, from}
 use Rattle.sponge.specs.Xor.{xored-front}
 use Rattle.cipher.specs.declared.Instance.{Instance}
 use Rattle.cipher.specs.Instances.{Fitting}
-use Rattle.cipher.specs.Cipher.{AFTER-ASSOCIATED, half, marked, associatedBlock, absorbing, absorbed, encrypting, piece, masked, decrypting}
+use Rattle.cipher.specs.Cipher.{AFTER-ASSOCIATED, half, lastXored, associatedBlock, absorbing, absorbed, encrypting, piece, masked, decrypting}
 use Rattle.cipher.specs.Masking.{masked-take, length-masked}
 use Rattle.cipher.specs.Pieces.{piece-starts, length-piece}
 use Rattle.cipher.specs.Runs.{length-encrypting, length-decrypting}
@@ -40,7 +41,7 @@ passed-on z fits p s b x r e f g =
     g ∙ ap half (rw (f, e) (mixed (z .state) (z .rate) (lastBlock p) s (omega arith)))
 
 -- one piece p of a text, over a buffer o of its length: what was copied there, and the state that follows
-module _ (z : Instance) (fits : Fitting z) (p s : List ℕ) (size : length s ≡ 72) (short : length p ≤ z .rate) (o part : List ℕ) (fills : length o ≡ length p) where
+module _ (z : Instance) (fits : Fitting z) (p s : List ℕ) (size : length s ≡ LARGEST) (short : length p ≤ z .rate) (o part : List ℕ) (fills : length o ≡ length p) where
   abbrev given : List ℕ
   given = masked p (take (z .state) s)
 
@@ -84,16 +85,16 @@ module _ (z : Instance) (fits : Fitting z) (p s : List ℕ) (size : length s ≡
 -- the associated data
 pub record Absorbing (z : Instance) (A s r : List ℕ) (i : ℕ) : Type 0 where
   pub turns : i ≤ blockCount (z .rate) A
-  pub long : length r ≡ 72
+  pub long : length r ≡ LARGEST
   pub state : take (z .state) r ≡ absorbing z (from (take (z .state) s)) A i .state
 
 module _ (z : Instance) (A s : List ℕ) where
-  pub absorbing-none : length s ≡ 72 → Absorbing z A s s 0
+  pub absorbing-none : length s ≡ LARGEST → Absorbing z A s s 0
   unfolding absorbing
   absorbing-none l = record { turns = omega arith; long = l; state = refl }
 
   pub absorbing-more : {r : List ℕ} {i : ℕ} (b x r′ : List ℕ) → Fitting z → Absorbing z A s r i → i < blockCount (z .rate) A
-      → take (z .rate) b ≡ associatedBlock z A i → x ≡ xored (take (z .rate) b) r → take (z .state) r′ ≡ half (take (z .state) x) → length r′ ≡ 72
+      → take (z .rate) b ≡ associatedBlock z A i → x ≡ xored (take (z .rate) b) r → take (z .state) r′ ≡ half (take (z .state) x) → length r′ ≡ LARGEST
       → Absorbing z A s r′ (i + 1)
   unfolding absorbing
   absorbing-more {r} {i} b x r′ fits w h e f g l =
@@ -105,36 +106,36 @@ module _ (z : Instance) (A s : List ℕ) where
       }
 
   pub absorbing-all : {r : List ℕ} {i : ℕ} (r′ : List ℕ) → Absorbing z A s r i → blockCount (z .rate) A ≤ i
-      → take (z .state) r′ ≡ marked AFTER-ASSOCIATED (take (z .state) r) → take (z .state) r′ ≡ absorbed z (from (take (z .state) s)) A .state
+      → take (z .state) r′ ≡ lastXored AFTER-ASSOCIATED (take (z .state) r) → take (z .state) r′ ≡ absorbed z (from (take (z .state) s)) A .state
   unfolding absorbed
   absorbing-all {r} {i} r′ w h e =
       let t = w .turns in
       let k : i ≡ blockCount (z .rate) A = omega arith in
-      e ∙ ap (marked AFTER-ASSOCIATED) (w .state ∙ ap (λ (j : ℕ). absorbing z (from (take (z .state) s)) A j .state) k)
+      e ∙ ap (lastXored AFTER-ASSOCIATED) (w .state ∙ ap (λ (j : ℕ). absorbing z (from (take (z .state) s)) A j .state) k)
 
 -- the message: n bytes of the state count, and a block has R
 pub record Sealing (n R : ℕ) (P s o r out : List ℕ) (i : ℕ) : Type 0 where
   pub turns : i ≤ blockCount R P
-  pub long : length r ≡ 72
+  pub long : length r ≡ LARGEST
   pub state : take n r ≡ encrypting R (from (take n s)) P i .run .state
   pub text : out ≡ over (take (length P) (encrypting R (from (take n s)) P i .text)) o
 
 pub record Opening (n R : ℕ) (C s o r out : List ℕ) (i : ℕ) : Type 0 where
   pub turns : i ≤ blockCount R C
-  pub long : length r ≡ 72
+  pub long : length r ≡ LARGEST
   pub state : take n r ≡ decrypting R (from (take n s)) C i .run .state
   pub text : out ≡ over (decrypting R (from (take n s)) C i .text) o
 
 module _ (n R : ℕ) (P s o : List ℕ) where
-  pub sealing-none : length s ≡ 72 → Sealing n R P s o s o 0
+  pub sealing-none : length s ≡ LARGEST → Sealing n R P s o s o 0
   unfolding encrypting
   sealing-none l = record { turns = omega arith; long = l; state = refl; text = rw (take-nil (length P)) }
 
-  pub opening-none : length s ≡ 72 → Opening n R P s o s o 0
+  pub opening-none : length s ≡ LARGEST → Opening n R P s o s o 0
   unfolding decrypting
   opening-none l = record { turns = omega arith; long = l; state = refl; text = refl }
 
-module _ (z : Instance) (fits : Fitting z) (P s o : List ℕ) (size : length s ≡ 72) (room : length P ≤ length o) where
+module _ (z : Instance) (fits : Fitting z) (P s o : List ℕ) (size : length s ≡ LARGEST) (room : length P ≤ length o) where
   abbrev R : ℕ
   R = z .rate
 
@@ -155,7 +156,7 @@ module _ (z : Instance) (fits : Fitting z) (P s o : List ℕ) (size : length s �
 
   pub sealing-more : {r out : List ℕ} {i : ℕ} (end : ℕ) (part r′ : List ℕ) → Sealing n R P s o r out i → i < blockCount R P
       → end ≡ min (i * R + R) (length P) → take n r′ ≡ half (xored (take R (lastBlock (take (end - i * R) (drop (i * R) P)))) (take n r))
-      → part ≡ masked (take (end - i * R) (drop (i * R) P)) (take n r) → length r′ ≡ 72
+      → part ≡ masked (take (end - i * R) (drop (i * R) P)) (take n r) → length r′ ≡ LARGEST
       → Sealing n R P s o r′ (take (i * R) out ++ (part ++ drop (end - i * R) (drop (i * R) out))) (i + 1)
   unfolding encrypting
   sealing-more {r} {out} {i} end part r′ w h e q p l =
@@ -186,7 +187,7 @@ module _ (z : Instance) (fits : Fitting z) (P s o : List ℕ) (size : length s �
   pub opening-more : {r out : List ℕ} {i : ℕ} (end : ℕ) (part r′ : List ℕ) → Opening n R P s o r out i → i < blockCount R P
       → end ≡ min (i * R + R) (length P)
       → take n r′ ≡ half (xored (take R (lastBlock (masked (take (end - i * R) (drop (i * R) P)) (take n r)))) (take n r))
-      → part ≡ masked (take (end - i * R) (drop (i * R) P)) (take n r) → length r′ ≡ 72
+      → part ≡ masked (take (end - i * R) (drop (i * R) P)) (take n r) → length r′ ≡ LARGEST
       → Opening n R P s o r′ (take (i * R) out ++ (part ++ drop (end - i * R) (drop (i * R) out))) (i + 1)
   unfolding decrypting
   opening-more {r} {out} {i} end part r′ w h e q p l =

@@ -8,13 +8,13 @@ ghost use mathlib.Core.Bool.{true};
 ghost use Prim.Native.Nat.{_+_, _/_, _<_, _≤_, min};
 ghost use mathlib.Core.List.{_++_};
 ghost use lib.ListN.{length, take, drop};
-ghost use Rattle.gage.specs.Permutation.{permitted};
+ghost use Rattle.gage.specs.Permutation.{LARGEST, permitted};
 ghost use Rattle.lists.specs.Buffers.{over};
 ghost use Rattle.sponge.specs.Padding.{blockCount, lastBlock};
 ghost use Rattle.sponge.specs.Absorbing.{xored, from};
 ghost use Rattle.cipher.specs.Instances.{Fitting};
 ghost use Rattle.ingage.specs.Answers.{LONGEST-ASSOCIATED, LONGEST-TEXT};
-ghost use Rattle.cipher.specs.Cipher.{whole, half, marked, passed, associatedBlock, absorbed, begun, encrypting, masked, decrypting, finished, sealOf};
+ghost use Rattle.cipher.specs.Cipher.{whole, half, lastXored, passed, associatedBlock, absorbed, begun, encrypting, masked, decrypting, finished, sealOf};
 
 // What is XORed into the last block of the associated data, into the state after it, and into the state after the message (document 000,
 // section 2.1).
@@ -43,9 +43,9 @@ fn half(s: [u8; LARGEST], n: usize) -> [u8; LARGEST]
 }
 
 // v XORed into the last of the first n bytes of s.
-fn mark(s: [u8; LARGEST], n: usize, v: u8) -> [u8; LARGEST]
-    requires { ⌜ (1 ≤ n) × (n ≤ 72) ⌝ }
-    ensures { λ r. ⌜ take n r ≡ marked v (take n s) ⌝ }
+fn xor_last(s: [u8; LARGEST], n: usize, v: u8) -> [u8; LARGEST]
+    requires { ⌜ (1 ≤ n) × (n ≤ LARGEST) ⌝ }
+    ensures { λ r. ⌜ take n r ≡ lastXored v (take n s) ⌝ }
 {
     let mut r = s;
     r[n - 1] = v ^ r[n - 1];
@@ -54,7 +54,7 @@ fn mark(s: [u8; LARGEST], n: usize, v: u8) -> [u8; LARGEST]
 
 // s with bytes put at a place.
 fn put(s: [u8; LARGEST], at: usize, b: &[u8]) -> [u8; LARGEST]
-    requires { ⌜ at + length (now b) ≤ 72 ⌝ }
+    requires { ⌜ at + length (now b) ≤ LARGEST ⌝ }
     ensures { λ r. ⌜ r ≡ take at s ++ (now (b .entry) ++ drop (at + length (now (b .entry))) s) ⌝ }
 {
     let end = at + b.len();
@@ -112,7 +112,7 @@ fn absorb(z: Instance, s: [u8; LARGEST], assoc: &[u8]) -> [u8; LARGEST]
         r = half(mix_block(z, r, associated_block(z, assoc, i)), n);
         i += 1;
     }
-    mark(r, n, AFTER_ASSOCIATED)
+    xor_last(r, n, AFTER_ASSOCIATED)
 }
 
 // The state when the message comes: 'Initialize state S', then the associated data. N||K||0* is 0||K||0*, which is needed again after
@@ -196,7 +196,7 @@ pub fn finish(z: Instance, s: [u8; LARGEST]) -> [u8; LARGEST]
     ensures { λ r. ⌜ take (z .state) r ≡ finished (from (take (z .state) s)) .state ⌝ }
 {
     let n = z.state;
-    whole(mark(s, n, AFTER_MESSAGE), n)
+    whole(xor_last(s, n, AFTER_MESSAGE), n)
 }
 
 // 'Finalization', step 2: the part of a finished state that is the seal.

@@ -1,5 +1,6 @@
 -- `mix` meets its promise. The invariant: the first i bytes of the block are XORed into the state; the measure is what is left of
 -- the block. Assumes nothing.
+use Rattle.gage.specs.Permutation.{LARGEST}
 use Rattle.sponge.specs.Xor.{xored-more, xored-past}
 use Rattle.sponge.specs.Absorbing.{xored}
 use lib.Seq.{take-all}
@@ -12,7 +13,7 @@ use Rattle.sponge.proofs.mix.Statement.{statement}
 use Rattle.sponge.proofs.mix.Tie as tie
 
 abbrev Inv-loop : tie.InvT-loop
-Inv-loop block out₀ i₀ out i = (i ≤ length block) × (i ≤ 72) × (out ≡ xored (take i block) out₀)
+Inv-loop block out₀ i₀ out i = (i ≤ length block) × (i ≤ LARGEST) × (out ≡ xored (take i block) out₀)
 
 abbrev μ-loop : tie.MeasureT-loop
 μ-loop block out₀ i₀ out i = length block - i

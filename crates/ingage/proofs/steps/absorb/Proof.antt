@@ -1,4 +1,5 @@
 -- `absorb` meets its promise. The invariant: the state after i blocks (`Absorbing`); the measure is the blocks left. Assumes nothing.
+use Rattle.gage.specs.Permutation.{LARGEST}
 use mathlib.Core.Path.{_≡_}
 use lib.ListN.{length}
 use Rattle.ingage.proofs.Pads.{most-blocks, most-turns, fewer-turns}
@@ -18,7 +19,7 @@ abbrev μ-loop : tie.MeasureT-loop
 μ-loop z assoc n rate count r₀ i₀ r i = count - i
 
 -- the array of the state is as long as its type says
-size : (c : tie.Start Inv-loop μ-loop) → length (c .args .s) ≡ 72
+size : (c : tie.Start Inv-loop μ-loop) → length (c .args .s) ≡ LARGEST
 size c = c .good .1 .0 .1 .0 .1
 
 -- one more than the length is a number of the machine
@@ -52,11 +53,11 @@ loop-less c = fewer-turns (length (c .before .before .before .before .before .be
 loop-again : tie.Need-loop-again Inv-loop μ-loop
 loop-again c = absorbing-more (c .before .before .before .before .before .before .args .z) (c .before .before .before .before .before .before .args .assoc .now) (c .before .before .before .before .before .before .args .s) (c .before .before .associated-block .result) (c .before .mix-block .result) (c .half .result) (c .before .before .before .before .before .before .pre) (c .before .before .before .before .loop .inv) (c .before .before .before .loop-test .taken) (c .before .before .associated-block .ensures) (c .before .mix-block .ensures) (c .half .ensures) (c .half .ok .1 .0 .1)
 
-mark-requires : tie.Need-mark-requires Inv-loop μ-loop
-mark-requires c κs = let e = c .before .before .before .pre .ends in let m = c .before .before .before .pre .moves in (omega arith, c .before .before .before .pre .held)
+xor-last-requires : tie.Need-xor-last-requires Inv-loop μ-loop
+xor-last-requires c κs = let e = c .before .before .before .pre .ends in let m = c .before .before .before .pre .moves in (omega arith, c .before .before .before .pre .held)
 
 returns : tie.Need-returns Inv-loop μ-loop
-returns c = absorbing-all (c .before .before .before .before .args .z) (c .before .before .before .before .args .assoc .now) (c .before .before .before .before .args .s) (c .mark .result) (c .before .before .loop .inv) (c .before .loop-test .left) (c .mark .ensures)
+returns c = absorbing-all (c .before .before .before .before .args .z) (c .before .before .before .before .args .assoc .now) (c .before .before .before .before .args .s) (c .xor-last .result) (c .before .before .loop .inv) (c .before .loop-test .left) (c .xor-last .ensures)
 
 pub absorb-spec : {M : Type 1} → statement M
 absorb-spec =
@@ -73,5 +74,5 @@ absorb-spec =
     add-i
     loop-less
     loop-again
-    mark-requires
+    xor-last-requires
     returns)

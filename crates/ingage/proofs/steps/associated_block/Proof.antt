@@ -1,9 +1,9 @@
 -- `associated_block` meets its promise: the part taken, padded, is the block, and the store sets the last one's last bit. Assumes
 -- nothing.
 use Rattle.ingage.proofs.Pads.{end-between, part-block, associated-last, associated-before}
-use Rattle.ingage.proofs.Arrays.{marked-take}
+use Rattle.ingage.proofs.Arrays.{last-xored-take}
 use Rattle.cipher.specs.Pieces.{piece-starts}
-use Rattle.cipher.specs.Cipher.{marked, LAST-BLOCK}
+use Rattle.cipher.specs.Cipher.{lastXored, LAST-BLOCK}
 use mathlib.Core.Path.{sym, ap, _∙_}
 use Prim.Native.Nat.{_-_, _*_, _≤_}
 use lib.ListN.{length}
@@ -60,7 +60,7 @@ array-write-b : tie.Need-array-write-b
 array-write-b c = search needs
 
 returns : tie.Need-returns
-returns c = let m = c .before .before .before .before .before .pre .0 .moves in let s = c .before .before .before .before .before .pre .0 .small in marked-take LAST-BLOCK (c .before .before .before .before .before .args .z .rate) (c .before .last-block .result) (omega arith) (omega arith) ∙ ap (marked LAST-BLOCK) (part-block (c .before .before .before .before .before .args .z) (c .before .before .before .before .before .args .assoc .now) (c .before .before .before .before .before .args .i) (c .before .before .before .end-of .result) (c .before .last-block .result) (c .before .before .before .before .before .pre .0) (c .before .before .before .before .before .pre .1) (c .before .before .before .end-of .ensures) (c .before .last-block .ensures)) ∙ sym (associated-last (c .before .before .before .before .before .args .z) (c .before .before .before .before .before .args .assoc .now) (c .before .before .before .before .before .args .i) (c .if1 .taken))
+returns c = let m = c .before .before .before .before .before .pre .0 .moves in let s = c .before .before .before .before .before .pre .0 .small in last-xored-take LAST-BLOCK (c .before .before .before .before .before .args .z .rate) (c .before .last-block .result) (omega arith) (omega arith) ∙ ap (lastXored LAST-BLOCK) (part-block (c .before .before .before .before .before .args .z) (c .before .before .before .before .before .args .assoc .now) (c .before .before .before .before .before .args .i) (c .before .before .before .end-of .result) (c .before .last-block .result) (c .before .before .before .before .before .pre .0) (c .before .before .before .before .before .pre .1) (c .before .before .before .end-of .ensures) (c .before .last-block .ensures)) ∙ sym (associated-last (c .before .before .before .before .before .args .z) (c .before .before .before .before .before .args .assoc .now) (c .before .before .before .before .before .args .i) (c .if1 .taken))
 
 returns-2 : tie.Need-returns-2
 returns-2 c = part-block (c .before .before .before .before .before .args .z) (c .before .before .before .before .before .args .assoc .now) (c .before .before .before .before .before .args .i) (c .before .before .before .end-of .result) (c .before .last-block .result) (c .before .before .before .before .before .pre .0) (c .before .before .before .before .before .pre .1) (c .before .before .before .end-of .ensures) (c .before .last-block .ensures) ∙ sym (associated-before (c .before .before .before .before .before .args .z) (c .before .before .before .before .before .args .assoc .now) (c .before .before .before .before .before .args .i) (c .if1 .left))

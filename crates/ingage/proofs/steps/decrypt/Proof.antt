@@ -1,5 +1,6 @@
 -- `decrypt` meets its promise. The invariant: the state after i blocks, and the message found so far over the buffer (`Opening`); the measure is
 -- the blocks left. Assumes nothing.
+use Rattle.gage.specs.Permutation.{LARGEST}
 use Rattle.ingage.proofs.Passing.{Opening, opening-none, opening-more, opening-all, length-opening}
 use Rattle.ingage.proofs.Pads.{end-between, same-part, most-blocks, most-turns, fewer-turns}
 use Rattle.cipher.specs.Pieces.{piece-starts}
@@ -21,7 +22,7 @@ abbrev μ-loop : tie.MeasureT-loop
 μ-loop z cipher out₀ rate count r₀ i₀ out r i = count - i
 
 -- the array of the state is as long as its type says
-size : (c : tie.Start Inv-loop μ-loop) → length (c .args .s) ≡ 72
+size : (c : tie.Start Inv-loop μ-loop) → length (c .args .s) ≡ LARGEST
 size c = c .good .1 .0 .1 .0 .1
 
 -- one more than the text's length is a number of the machine

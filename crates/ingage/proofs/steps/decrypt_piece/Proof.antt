@@ -1,4 +1,5 @@
 -- `decrypt_piece` meets its promise: the message's piece is found first, then padded and mixed in. Assumes nothing.
+use Rattle.gage.specs.Permutation.{LARGEST}
 use Rattle.ingage.proofs.Passing.{piece-opened}
 use mathlib.Core.Path.{_≡_, sym}
 use lib.ListN.{length}
@@ -6,7 +7,7 @@ use Rattle.ingage.proofs.steps.decrypt_piece.Statement.{statement}
 use Rattle.ingage.proofs.steps.decrypt_piece.Tie as tie
 
 -- the array of the state is as long as its type says
-size : (c : tie.Start) → length (c .args .s) ≡ 72
+size : (c : tie.Start) → length (c .args .s) ≡ LARGEST
 size c = c .good .1 .0 .1 .0 .1
 
 mix-requires : tie.Need-mix-requires

@@ -1,4 +1,5 @@
 -- `encrypt_piece` meets its promise: the piece, padded, is mixed in, and its first bytes are the ciphertext. Assumes nothing.
+use Rattle.gage.specs.Permutation.{LARGEST}
 use Rattle.ingage.proofs.Passing.{piece-sealed}
 use mathlib.Core.Path.{_≡_, sym}
 use lib.ListN.{length}
@@ -6,7 +7,7 @@ use Rattle.ingage.proofs.steps.encrypt_piece.Statement.{statement}
 use Rattle.ingage.proofs.steps.encrypt_piece.Tie as tie
 
 -- the array of the state is as long as its type says
-size : (c : tie.Start) → length (c .args .s) ≡ 72
+size : (c : tie.Start) → length (c .args .s) ≡ LARGEST
 size c = c .good .1 .0 .1 .0 .1
 
 last-block-requires : tie.Need-last-block-requires
