@@ -9,6 +9,7 @@ use Rattle.cells.specs.Cells.{table, substitute, restore}
 use Rattle.cells.specs.Quasigroup.{table-closed}
 use Rattle.cells.specs.States.{length-substitute, length-restore, substitute-below, restore-below}
 use Rattle.cells.specs.Inverse.{restore-substitute, substitute-restore}
+use Rattle.shuffling.specs.Sizes.{SMALLEST}
 use Rattle.shuffling.specs.Shuffling.{shuffle}
 use Rattle.shuffling.specs.States.{length-shuffle, shuffle-below}
 use Rattle.shuffling.specs.Inverse.{unshuffle-shuffle, shuffle-unshuffle}
@@ -17,7 +18,7 @@ use Rattle.gage.specs.Permutation.{leaders, turns, permuteBy, permute, u
 use Rattle.gage.specs.States.{length-unturns, unturns-below}
 
 -- the turns of the permutation
-unturns-turns : (ls s : List ℕ) → 8 ≤ length s → Below 4 ls → Below 256 s → unturns ls (turns ls s) ≡ s
+unturns-turns : (ls s : List ℕ) → SMALLEST ≤ length s → Below 4 ls → Below 256 s → unturns ls (turns ls s) ≡ s
 unfolding unturns turns
 unturns-turns [] s w h b = refl
 unturns-turns (l ∷ ls) s w h b =
@@ -28,7 +29,7 @@ unturns-turns (l ∷ ls) s w h b =
     )
     (unshuffle-shuffle s w b)
 
-turns-unturns : (ls s : List ℕ) → 8 ≤ length s → Below 4 ls → Below 256 s → turns ls (unturns ls s) ≡ s
+turns-unturns : (ls s : List ℕ) → SMALLEST ≤ length s → Below 4 ls → Below 256 s → turns ls (unturns ls s) ≡ s
 unfolding unturns turns
 turns-unturns [] s w h b = refl
 turns-unturns (l ∷ ls) s w h b =
@@ -40,24 +41,24 @@ turns-unturns (l ∷ ls) s w h b =
     (turns-unturns ls s w (h .1) b)
 
 -- with any leaders
-pub unpermute-permute : (ls s : List ℕ) → 8 ≤ length s → Below 4 ls → Below 256 s → unpermuteBy ls (permuteBy ls s) ≡ s
+pub unpermute-permute : (ls s : List ℕ) → SMALLEST ≤ length s → Below 4 ls → Below 256 s → unpermuteBy ls (permuteBy ls s) ≡ s
 unfolding unpermuteBy permuteBy
 unpermute-permute [] s w h b = refl
 unpermute-permute (l ∷ ls) s w h b =
     rw (unturns-turns ls (substitute table l s) (rw length-substitute w) (h .1) (substitute-below table table-closed l s))
     (restore-substitute l s (h .0) b)
 
-pub permute-unpermute : (ls s : List ℕ) → 8 ≤ length s → Below 4 ls → Below 256 s → permuteBy ls (unpermuteBy ls s) ≡ s
+pub permute-unpermute : (ls s : List ℕ) → SMALLEST ≤ length s → Below 4 ls → Below 256 s → permuteBy ls (unpermuteBy ls s) ≡ s
 unfolding unpermuteBy permuteBy
 permute-unpermute [] s w h b = refl
 permute-unpermute (l ∷ ls) s w h b =
     rw (substitute-restore l (unturns ls s) (h .0) (unturns-below ls s b)) (turns-unturns ls s w (h .1) b)
 
 -- with k rounds
-pub rounds-undone : (k : ℕ) (s : List ℕ) → 8 ≤ length s → Below 256 s → unpermute k (permute k s) ≡ s
+pub rounds-undone : (k : ℕ) (s : List ℕ) → SMALLEST ≤ length s → Below 256 s → unpermute k (permute k s) ≡ s
 unfolding unpermute permute
 rounds-undone k s w b = unpermute-permute (take k leaders) s w (leaders-below k) b
 
-pub rounds-redone : (k : ℕ) (s : List ℕ) → 8 ≤ length s → Below 256 s → permute k (unpermute k s) ≡ s
+pub rounds-redone : (k : ℕ) (s : List ℕ) → SMALLEST ≤ length s → Below 256 s → permute k (unpermute k s) ≡ s
 unfolding unpermute permute
 rounds-redone k s w b = permute-unpermute (take k leaders) s w (leaders-below k) b

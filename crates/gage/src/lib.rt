@@ -5,6 +5,7 @@ ghost use mathlib.Core.List.{_++_};
 ghost use Prim.Native.Nat.{_/_, _<_, _≤_};
 ghost use lib.ListN.{getD, take, drop};
 ghost use Rattle.cells.specs.Sizes.{LARGEST};
+ghost use Rattle.shuffling.specs.Sizes.{SMALLEST};
 ghost use Rattle.gage.specs.Permutation.{ROUNDS, leaders, numberOf, permitted, permute, unpermute, answered};
 
 // The largest permitted state, in bytes.
@@ -99,7 +100,7 @@ fn is_permitted(n: usize) -> bool
 
 // The first k rounds of the permutation on the first n bytes of s.
 fn turned(s: [u8; LARGEST], n: usize, k: usize) -> [u8; LARGEST]
-    requires { ⌜ (8 ≤ n) × (n ≤ LARGEST) × (1 ≤ k) × (k ≤ ROUNDS) ⌝ }
+    requires { ⌜ (SMALLEST ≤ n) × (n ≤ LARGEST) × (1 ≤ k) × (k ≤ ROUNDS) ⌝ }
     ensures { λ r. ⌜ r ≡ permute k (take n s) ++ drop n s ⌝ }
 {
     let mut a = cells::substitute(s, n, leader(0));
@@ -114,7 +115,7 @@ fn turned(s: [u8; LARGEST], n: usize, k: usize) -> [u8; LARGEST]
 
 // The first n bytes of s before k rounds of the permutation.
 fn unturned(s: [u8; LARGEST], n: usize, k: usize) -> [u8; LARGEST]
-    requires { ⌜ (8 ≤ n) × (n ≤ LARGEST) × (1 ≤ k) × (k ≤ ROUNDS) ⌝ }
+    requires { ⌜ (SMALLEST ≤ n) × (n ≤ LARGEST) × (1 ≤ k) × (k ≤ ROUNDS) ⌝ }
     ensures { λ r. ⌜ r ≡ unpermute k (take n s) ++ drop n s ⌝ }
 {
     let mut a = s;

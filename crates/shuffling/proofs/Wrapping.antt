@@ -84,7 +84,7 @@ readable h l = lt-of-lt-of-le h (le-trans l (lit≤ tt))
 pub less : {i n : ℕ} → i < n → n - (i + 1) < n - i
 less h = omega arith
 
-module _ (s : List ℕ) (n : ℕ) (fits : n ≤ length s) (wide : 8 ≤ n) where
+module _ (s : List ℕ) (n : ℕ) (fits : n ≤ length s) (wide : SMALLEST ≤ n) where
   long : length (take n s) ≡ n
   long = length-take-le n s fits
 

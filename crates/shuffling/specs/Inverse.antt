@@ -7,6 +7,7 @@ use native.Mathlib.Omega.{arith}
 use lib.ListN.{length, getD}
 use lib.Seq.{ext-getD}
 use Rattle.lists.specs.Below.{Below, below-at}
+use Rattle.shuffling.specs.Sizes.{SMALLEST}
 use Rattle.shuffling.specs.Shuffling.{element, source, weights, origins, shuffledByte, shuffle, unshuffledByte, unshuffle}
 use Rattle.shuffling.specs.Bits.{origin-weight, weighed-by, placed-back, origin-back, placed-whole, origin-whole}
 use Rattle.shuffling.specs.States.{length-shuffle, length-unshuffle, shuffle-at, unshuffle-at}
@@ -22,7 +23,7 @@ back n k j h g =
     mod-add-mod (k + j) n (n - j) ∙ ap (λ (x : ℕ). x % n) (let e : k + j + (n - j) ≡ k + n = omega arith in e)
     ∙ add-mod-right k n ∙ mod-eq-of-lt h
 
-module _ (s : List ℕ) (wide : 8 ≤ length s) (b : Below 256 s) where
+module _ (s : List ℕ) (wide : SMALLEST ≤ length s) (b : Below 256 s) where
   -- element j + 1 of byte k - j, read back at its place, is bit 7 - j of byte k
   source-shuffled : (k j : ℕ) → k < length s → j < 8 → source (shuffle s) k j ≡ getD s k 0 / getD origins j 1 % 2
   unfolding shuffledByte

@@ -5,7 +5,7 @@ use Prim.Native.Nat.{ℕ}
 abbrev pub AHEAD : ℕ
 AHEAD = 7
 
--- the room for a state with those wrapped around
+-- the room for a state with those wrapped around, and one byte that stays unused, so that it is whole words of 16 bytes
 abbrev pub WRAPPED : ℕ
 WRAPPED = 80
 

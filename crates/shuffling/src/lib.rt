@@ -7,7 +7,7 @@ ghost use Prim.Native.Nat.{_+_, _-_, _<_, _≤_, _%_};
 ghost use lib.ListN.{getD, take, drop};
 ghost use Rattle.lists.specs.Upto.{Upto};
 ghost use Rattle.cells.specs.Sizes.{LARGEST};
-ghost use Rattle.shuffling.specs.Sizes.{AHEAD, WRAPPED};
+ghost use Rattle.shuffling.specs.Sizes.{AHEAD, WRAPPED, SMALLEST};
 ghost use Rattle.shuffling.specs.Shuffling.{gathered, returned, Joined, shuffle, unshuffle};
 ghost use Rattle.cells.specs.Cells.{onFirst};
 ghost use Rattle.shuffling.specs.Widths.{wide, whereWide};
@@ -34,9 +34,10 @@ const WEIGHT_7: u8 = LEFTMOST >> (PLACES[6] - 1);
 
 const WEIGHT_8: u8 = LEFTMOST >> (PLACES[7] - 1);
 
-// A byte's elements come from it and from seven more; the room for a state with those wrapped around.
+// A byte's elements come from it and from seven more.
 const AHEAD: usize = 7;
 
+// The room for a state with those wrapped around, and one byte that stays unused: 80 bytes are five words of 16, as the machine moves them.
 const WRAPPED: usize = LARGEST + AHEAD + 1;
 
 // The smallest state whose elements all come from different bytes.
@@ -95,7 +96,7 @@ fn wrapped(s: [u8; LARGEST], n: usize, from: usize) -> [u8; WRAPPED]
 
 // The first n bytes of s shuffled.
 fn shuffle_wrapped(s: [u8; LARGEST], n: usize) -> [u8; LARGEST]
-    requires { ⌜ (8 ≤ n) × (n ≤ LARGEST) ⌝ }
+    requires { ⌜ (SMALLEST ≤ n) × (n ≤ LARGEST) ⌝ }
     ensures { λ r. ⌜ r ≡ shuffle (take n s) ++ drop n s ⌝ }
 {
     let e = wrapped(s, n, 0);
@@ -119,7 +120,7 @@ fn shuffle_wrapped(s: [u8; LARGEST], n: usize) -> [u8; LARGEST]
 
 // The first n bytes of s before a shuffle.
 fn unshuffle_wrapped(s: [u8; LARGEST], n: usize) -> [u8; LARGEST]
-    requires { ⌜ (8 ≤ n) × (n ≤ LARGEST) ⌝ }
+    requires { ⌜ (SMALLEST ≤ n) × (n ≤ LARGEST) ⌝ }
     ensures { λ r. ⌜ r ≡ unshuffle (take n s) ++ drop n s ⌝ }
 {
     let e = wrapped(s, n, n - AHEAD);
