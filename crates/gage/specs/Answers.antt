@@ -14,6 +14,10 @@ module _ (f : List ℕ → List ℕ) (s : List ℕ) (n : ℕ) where
   unfolding answered
   answered-done h = rw h
 
+  -- a state x with the first n bytes changed, given with done, is the answer
+  pub done-answered : {x : List ℕ} → permitted n ≡ true → x ≡ f (take n s) ++ drop n s → _≡_ {A = Permuted} (record { answer = Done; state = x }) (answered f s n)
+  done-answered h e = rw (e, answered-done h)
+
   pub answered-size : permitted n ≡ false → answered f s n ≡ record { answer = Size; state = s }
   unfolding answered
   answered-size h = rw h

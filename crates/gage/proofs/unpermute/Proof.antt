@@ -1,8 +1,8 @@
 -- `unpermute` meets its promise: a permitted size is one that `unturned` takes. Assumes nothing.
 use Rattle.gage.specs.Tables.{permitted-size}
-use Rattle.gage.specs.Permutation.{permitted, answered}
-use mathlib.Core.Bool.{true, false}
-use mathlib.Core.Path.{_≡_, sym, _∙_}
+use Rattle.gage.specs.Permutation.{ROUNDS, unpermute}
+use Rattle.gage.specs.Answers.{done-answered, answered-size}
+use mathlib.Core.Path.{sym, _∙_}
 use native.Mathlib.Omega.{arith}
 use borrow.Author.Needs.{needs}
 use Rattle.gage.proofs.unpermute.Statement.{statement}
@@ -17,16 +17,12 @@ unturned-requires c κs =
     (omega arith, size .1, search needs, search needs)
 
 returns : tie.Need-returns
-unfolding answered
 returns c =
-    let p : permitted (c .before .before .before .args .n) ≡ true = sym (c .before .before .is-permitted .ensures) ∙ c .before .if1 .taken in
-    rw (p, c .unturned .ensures)
+    done-answered (unpermute ROUNDS) (c .before .before .before .args .s) (c .before .before .before .args .n)
+    (sym (c .before .before .is-permitted .ensures) ∙ c .before .if1 .taken) (c .unturned .ensures)
 
 returns-2 : tie.Need-returns-2
-unfolding answered
-returns-2 c =
-    let p : permitted (c .before .before .args .n) ≡ false = sym (c .before .is-permitted .ensures) ∙ c .if1 .left in
-    rw p
+returns-2 c = sym (answered-size _ _ _ (sym (c .before .is-permitted .ensures) ∙ c .if1 .left))
 
 pub unpermute-spec : {M : Type 1} → statement M
 unpermute-spec = tie.close (tie.spec is-permitted-requires unturned-requires returns returns-2)
