@@ -34,10 +34,10 @@ star-requires-2 : tie.Need-star-requires-2 Inv-loop μ-loop
 star-requires-2 c κs = (search needs, cell _, c .before .before .before .pre .2)
 
 star-requires-3 : tie.Need-star-requires-3 Inv-loop μ-loop
-star-requires-3 c κs = (search needs, cell _, c .before .before .before .before .pre .2)
+star-requires-3 c κs = (c .star2 .ensures .1, cell _, c .before .before .before .before .pre .2)
 
 star-requires-4 : tie.Need-star-requires-4 Inv-loop μ-loop
-star-requires-4 c κs = (search needs, cell _, c .before .before .before .before .before .pre .2)
+star-requires-4 c κs = (c .star3 .ensures .1, cell _, c .before .before .before .before .before .pre .2)
 
 mul-out : tie.Need-mul-out Inv-loop μ-loop
 mul-out c = record { fits = lt-of-le-of-lt (one 64 (c .before .before .before .star .ensures .1)) (lit< tt) }
