@@ -2,10 +2,10 @@
 //! rarely, so that many calls have none wrong and some have several.
 
 use crate::calls::{Buffer, Call, Case};
-use crate::chance::Chance;
 use crate::memory::{Stand, SHIFTS, VAST, VAST_BYTES};
-use crate::stock::{flip, line, spoil, stuffy, Stock};
+use crate::stock::{line, spoil, stuffy, Stock};
 use crate::streams::{near_place, place, stream};
+use second::chance::Chance;
 use second::digest::{instances, sizes};
 use second::numbers::{
     ASSOCIATED_LIMIT, CIPHER_LIMIT, DIGEST, FRAME_ROOM, KEY, LINE_MOST, MESSAGE_LIMIT, NONCE, SEAL,
@@ -45,7 +45,7 @@ pub fn case(chance: &mut Chance, stock: &Stock) -> Case {
         call,
         number,
         buffers,
-        before: chance.next() as usize,
+        before: chance.word() as usize,
     };
     match chance.below(200) {
         0 => make_vast(chance, &mut case),
@@ -88,7 +88,7 @@ fn digest(chance: &mut Chance) -> (Call, usize, Vec<Vec<u8>>) {
             0 => 0,
             1 => instances().end() + 1,
             2 => chance.one_of(&[usize::MAX, 1 << 63, 257, 65_537, VAST + 1, VAST + 10]),
-            _ => chance.next() as usize,
+            _ => chance.word() as usize,
         };
     }
     let (message, out) = (filled(chance, length), room(chance, DIGEST));
@@ -120,12 +120,12 @@ fn open(chance: &mut Chance, stock: &Stock) -> Vec<Vec<u8>> {
     let mut seal = text.seal.clone();
     // One bit of one of the five, or another number of bytes.
     match chance.below(24) {
-        0 | 1 => flip(chance, &mut seal),
+        0 | 1 => chance.flip(&mut seal),
         2 => seal = chance.bytes(SEAL),
-        3 => flip(chance, &mut key),
-        4 => flip(chance, &mut nonce),
-        5 if !associated.is_empty() => flip(chance, &mut associated),
-        6 if !ciphertext.is_empty() => flip(chance, &mut ciphertext),
+        3 => chance.flip(&mut key),
+        4 => chance.flip(&mut nonce),
+        5 if !associated.is_empty() => chance.flip(&mut associated),
+        6 if !ciphertext.is_empty() => chance.flip(&mut ciphertext),
         7 => drop(ciphertext.pop()),
         8 => ciphertext.push(chance.byte()),
         9 => associated = long_or_short(chance, ASSOCIATED_LIMIT),

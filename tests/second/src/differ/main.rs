@@ -3,7 +3,6 @@
 
 mod calls;
 mod cases;
-mod chance;
 mod library;
 mod memory;
 mod reference;
@@ -15,9 +14,9 @@ use std::env;
 use std::process::exit;
 
 use calls::{Answer, Buffer, Call, Case, CALLS};
-use chance::Chance;
 use library::Grounds;
 use memory::{Ground, Stand, CANARY, SHIFTS, VAST, VAST_BYTES};
+use second::chance::Chance;
 use second::numbers::STREAM_LIMIT;
 use second::text::value;
 use stock::{Stock, SERVES};

@@ -1,7 +1,7 @@
 //! Sealed texts and frames to choose from. Sealing takes longer than most calls, so
 //! a stock is made once for every `SERVES` calls, from the seed and its own number alone.
 
-use crate::chance::Chance;
+use second::chance::Chance;
 use second::cipher::{encrypt, INSTANCE_1};
 use second::frame::{
     field, framed, framed_escaping, Fields, TAG_DIGEST, TAG_LINE, TAG_NONCE, TAG_SEAL,
@@ -44,8 +44,8 @@ impl Stock {
         let chance = &mut Chance::of(!seed, number);
         let (key, font) = (chance.bytes(KEY), stuffy(chance, DIGEST));
         let (mut other_key, mut other_font) = (key.clone(), font.clone());
-        flip(chance, &mut other_key);
-        flip(chance, &mut other_font);
+        chance.flip(&mut other_key);
+        chance.flip(&mut other_font);
         let mut stock = Stock {
             key,
             font,
@@ -129,27 +129,27 @@ impl Stock {
             // 5 comes before 9, and 8 before 5.
             5 => {
                 let mut fields = self.fields_unlisted(chance);
-                flip(chance, &mut fields.seal);
+                chance.flip(&mut fields.seal);
                 framed(&fields.body())
             }
             6 => {
                 let mut fields = self.fields_other_font(chance);
-                flip(chance, &mut fields.seal);
+                chance.flip(&mut fields.seal);
                 framed(&fields.body())
             }
             7 => {
                 let mut fields = self.fields(chance);
-                flip(chance, &mut fields.seal);
+                chance.flip(&mut fields.seal);
                 framed(&fields.body())
             }
             8 => {
                 let mut fields = self.fields(chance);
-                flip(chance, &mut fields.nonce);
+                chance.flip(&mut fields.nonce);
                 framed(&fields.body())
             }
             9 => {
                 let mut fields = self.fields(chance);
-                flip(chance, &mut fields.ciphertext);
+                chance.flip(&mut fields.ciphertext);
                 framed(&fields.body())
             }
             // Fields exchanged, doubled, left out.
@@ -251,9 +251,4 @@ pub fn stuffy(chance: &mut Chance, length: usize) -> Vec<u8> {
             }
         })
         .collect()
-}
-
-pub fn flip(chance: &mut Chance, bytes: &mut [u8]) {
-    let at = chance.below(bytes.len());
-    bytes[at] ^= 1 << chance.below(8);
 }

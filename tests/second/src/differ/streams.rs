@@ -1,9 +1,9 @@
 //! Streams by chance: frames of the stock one after another, noise between
 //! them, damaged, sometimes as long as a stream may be; and places to read from.
 
-use crate::chance::Chance;
 use crate::memory::VAST;
-use crate::stock::{flip, Stock, STUFFING};
+use crate::stock::{Stock, STUFFING};
+use second::chance::Chance;
 use second::numbers::{STREAM_LIMIT, STRETCH_MOST};
 use second::stream::next_stretch;
 use second::stuffing::{ESCAPE, MARK};
@@ -71,7 +71,7 @@ fn damage(chance: &mut Chance, stream: &mut Vec<u8>) {
     }
     let at = chance.below(stream.len());
     match chance.below(12) {
-        0 | 1 => flip(chance, stream),
+        0 | 1 => chance.flip(stream),
         2 => drop(stream.remove(at)),
         3 => stream.insert(at, stream[at]),
         4 => stream[at] = chance.one_of(&STUFFING),
@@ -139,7 +139,7 @@ pub fn place(chance: &mut Chance, stream: &[u8]) -> usize {
         28 => length + 1,
         29 => chance.one_of(&[usize::MAX, usize::MAX - 1, 1 << 63, (1 << 63) - 1, VAST]),
         30 => VAST + chance.below(length + 1),
-        _ => chance.next() as usize,
+        _ => chance.word() as usize,
     }
 }
 

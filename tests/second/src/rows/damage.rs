@@ -1,13 +1,13 @@
 //! Damaged streams: a piece damaged in one named way, with good frames before
 //! and after it, since what matters is also that the good ones are still read.
 
-use super::chance::Chance;
 use super::stream::Case;
 use super::told;
+use crate::chance::Chance;
 use crate::frame::{
     field, framed, framed_escaping, Fields, TAG_DIGEST, TAG_LINE, TAG_NONCE, TAG_SEAL,
 };
-use crate::numbers::{DIGEST, KEY, LINE_MOST, NONCE};
+use crate::numbers::{LINE_MOST, NONCE};
 use crate::stuffing::{ESCAPE, MARK};
 
 const SEED: u64 = 0x4c75_6264_6876_616e;
@@ -47,21 +47,21 @@ const PIECES: [Piece; 28] = [
 ];
 
 pub fn cases() -> Vec<Case> {
-    let mut chance = Chance::from_seed(SEED);
-    (0..STREAMS)
-        .map(|index| {
-            let mut stream = good_frames(&mut chance);
-            stream.extend(PIECES[index % PIECES.len()](&mut chance));
-            stream.extend(good_frames(&mut chance));
-            // Most readings start at 0; some inside the stream.
-            let place = match chance.below(4) {
-                0 => chance.below(stream.len() + 1),
-                _ => 0,
-            };
-            let room = chance.one_of(&[LINE_MOST, LINE_MOST, LINE_MOST + 1, 200]);
-            Case::of(&stream).place(place).room(room)
-        })
-        .collect()
+    (0..STREAMS).map(case).collect()
+}
+
+fn case(index: usize) -> Case {
+    let chance = &mut Chance::of(SEED, index as u64);
+    let mut stream = good_frames(chance);
+    stream.extend(PIECES[index % PIECES.len()](chance));
+    stream.extend(good_frames(chance));
+    // Most readings start at 0; some inside the stream.
+    let place = match chance.below(4) {
+        0 => chance.below(stream.len() + 1),
+        _ => 0,
+    };
+    let room = chance.one_of(&[LINE_MOST, LINE_MOST, LINE_MOST + 1, 200]);
+    Case::of(&stream).place(place).room(room)
 }
 
 fn line(chance: &mut Chance) -> Vec<u8> {
@@ -106,14 +106,9 @@ fn fields_of(chance: &mut Chance, line: &[u8]) -> Fields {
     Fields::sealing(&told::key(), &nonce, &told::digest(), line).0
 }
 
-fn flip(chance: &mut Chance, bytes: &mut [u8]) {
-    let at = chance.below(bytes.len());
-    bytes[at] ^= 1 << chance.below(8);
-}
-
 fn bit_flipped(chance: &mut Chance) -> Vec<u8> {
     let mut frame = good_frame(chance);
-    flip(chance, &mut frame);
+    chance.flip(&mut frame);
     frame
 }
 
@@ -172,7 +167,7 @@ fn marks_and_escapes(chance: &mut Chance) -> Vec<u8> {
 
 fn other_key(chance: &mut Chance) -> Vec<u8> {
     let mut key = told::key();
-    key[chance.below(KEY)] ^= 1 << chance.below(8);
+    chance.flip(&mut key);
     let (nonce, line) = (nonce(chance), line(chance));
     let (fields, _) = Fields::sealing(&key, &nonce, &told::digest(), &line);
     framed(&fields.body())
@@ -181,7 +176,7 @@ fn other_key(chance: &mut Chance) -> Vec<u8> {
 /// Sealed as it should be, but to the digest of another font.
 fn fields_of_other_font(chance: &mut Chance) -> Fields {
     let mut digest = told::digest();
-    digest[chance.below(DIGEST)] ^= 1 << chance.below(8);
+    chance.flip(&mut digest);
     let (nonce, line) = (nonce(chance), line(chance));
     Fields::sealing(&told::key(), &nonce, &digest, &line).0
 }
@@ -297,33 +292,33 @@ fn needless_escape(chance: &mut Chance) -> Vec<u8> {
 
 fn seal_changed(chance: &mut Chance) -> Vec<u8> {
     let mut fields = good_fields(chance);
-    flip(chance, &mut fields.seal);
+    chance.flip(&mut fields.seal);
     framed(&fields.body())
 }
 
 fn nonce_changed(chance: &mut Chance) -> Vec<u8> {
     let mut fields = good_fields(chance);
-    flip(chance, &mut fields.nonce);
+    chance.flip(&mut fields.nonce);
     framed(&fields.body())
 }
 
 fn ciphertext_changed(chance: &mut Chance) -> Vec<u8> {
     let mut fields = good_fields(chance);
-    flip(chance, &mut fields.ciphertext);
+    chance.flip(&mut fields.ciphertext);
     framed(&fields.body())
 }
 
 /// 5 comes before 9.
 fn not_listed_and_seal_changed(chance: &mut Chance) -> Vec<u8> {
     let mut fields = fields_not_listed(chance);
-    flip(chance, &mut fields.seal);
+    chance.flip(&mut fields.seal);
     framed(&fields.body())
 }
 
 /// 8 comes before 5.
 fn other_font_and_seal_changed(chance: &mut Chance) -> Vec<u8> {
     let mut fields = fields_of_other_font(chance);
-    flip(chance, &mut fields.seal);
+    chance.flip(&mut fields.seal);
     framed(&fields.body())
 }
 

@@ -2,7 +2,6 @@
 //! Where a test program reads cases, its standard input is made here too.
 
 mod call;
-mod chance;
 mod damage;
 mod digest;
 mod frame;

@@ -1,15 +1,16 @@
-//! Numbers by chance (splitmix64): the same for the same seed and index, so
-//! that one call of many can be made again alone.
+//! Numbers by chance (splitmix64): the same for the same seed and index on
+//! every run and every machine, so that one case of many can be made again
+//! alone.
 
 pub struct Chance(u64);
 
 impl Chance {
     pub fn of(seed: u64, index: u64) -> Chance {
-        let mixed = Chance(seed).next() ^ index;
-        Chance(Chance(mixed).next())
+        let mixed = Chance(seed).word() ^ index;
+        Chance(Chance(mixed).word())
     }
 
-    pub fn next(&mut self) -> u64 {
+    pub fn word(&mut self) -> u64 {
         self.0 = self.0.wrapping_add(0x9e37_79b9_7f4a_7c15);
         let mut z = self.0;
         z = (z ^ (z >> 30)).wrapping_mul(0xbf58_476d_1ce4_e5b9);
@@ -19,7 +20,7 @@ impl Chance {
 
     /// A number from 0 to bound - 1.
     pub fn below(&mut self, bound: usize) -> usize {
-        (self.next() % bound as u64) as usize
+        (self.word() % bound as u64) as usize
     }
 
     /// A number from least to most.
@@ -37,13 +38,19 @@ impl Chance {
     }
 
     pub fn byte(&mut self) -> u8 {
-        self.next() as u8
+        self.word() as u8
     }
 
     pub fn bytes(&mut self, length: usize) -> Vec<u8> {
         let words = (length + 7) / 8;
-        let mut bytes: Vec<u8> = (0..words).flat_map(|_| self.next().to_le_bytes()).collect();
+        let mut bytes: Vec<u8> = (0..words).flat_map(|_| self.word().to_le_bytes()).collect();
         bytes.truncate(length);
         bytes
+    }
+
+    /// Flips one bit of one byte.
+    pub fn flip(&mut self, bytes: &mut [u8]) {
+        let at = self.below(bytes.len());
+        bytes[at] ^= 1 << self.below(8);
     }
 }
