@@ -1,6 +1,7 @@
 //! A frame: four fields make a body, the stuffed body between two marks makes
 //! the frame. Here are the fields taken apart, and the writer.
 
+use crate::chance::Chance;
 use crate::cipher::{encrypt, INSTANCE_1};
 use crate::line::all_listed;
 use crate::numbers::{
@@ -23,6 +24,9 @@ pub struct Fields {
     pub ciphertext: Vec<u8>,
     pub seal: Vec<u8>,
 }
+
+/// Which of the four values is meant.
+pub type Value = fn(&mut Fields) -> &mut Vec<u8>;
 
 /// A field: tag, length (high byte first), value.
 pub fn field(tag: u8, value: &[u8]) -> Vec<u8> {
@@ -51,12 +55,27 @@ impl Fields {
         (fields, count)
     }
 
+    /// The four fields whole, in their order.
+    pub fn whole(&self) -> [Vec<u8>; 4] {
+        [
+            field(TAG_NONCE, &self.nonce),
+            field(TAG_DIGEST, &self.digest),
+            field(TAG_LINE, &self.ciphertext),
+            field(TAG_SEAL, &self.seal),
+        ]
+    }
+
     pub fn body(&self) -> Vec<u8> {
-        let mut body = field(TAG_NONCE, &self.nonce);
-        body.extend(field(TAG_DIGEST, &self.digest));
-        body.extend(field(TAG_LINE, &self.ciphertext));
-        body.extend(field(TAG_SEAL, &self.seal));
-        body
+        self.whole().concat()
+    }
+
+    /// Where the four tags stand in the body.
+    pub fn tag_places(&self) -> [usize; 4] {
+        let mut next = 0;
+        self.whole().map(|field| {
+            next += field.len();
+            next - field.len()
+        })
     }
 
     /// The four fields in their order and once each, with nothing after them;
@@ -115,6 +134,12 @@ pub fn framed_escaping(body: &[u8], at: usize) -> Vec<u8> {
     frame.extend(stuff(&body[at + 1..]));
     frame.push(MARK);
     frame
+}
+
+/// The frame of these fields with one bit of one value flipped after sealing.
+pub fn framed_flipping(mut fields: Fields, chance: &mut Chance, value: Value) -> Vec<u8> {
+    chance.flip(value(&mut fields));
+    framed(&fields.body())
 }
 
 /// What the writer answers: number, the frame's length, calls counted.

@@ -3,9 +3,7 @@
 
 use second::chance::Chance;
 use second::cipher::{encrypt, INSTANCE_1};
-use second::frame::{
-    field, framed, framed_escaping, Fields, TAG_DIGEST, TAG_LINE, TAG_NONCE, TAG_SEAL,
-};
+use second::frame::{framed, framed_escaping, framed_flipping, Fields};
 use second::numbers::{DIGEST, KEY, LINE_MOST, NONCE};
 use second::readings::PRODUCT;
 use second::stuffing::{ESCAPE, MARK};
@@ -127,34 +125,14 @@ impl Stock {
             1 => framed(&self.fields_other_font(chance).body()),
             2..=4 => framed(&self.fields_unlisted(chance).body()),
             // 5 comes before 9, and 8 before 5.
-            5 => {
-                let mut fields = self.fields_unlisted(chance);
-                chance.flip(&mut fields.seal);
-                framed(&fields.body())
-            }
-            6 => {
-                let mut fields = self.fields_other_font(chance);
-                chance.flip(&mut fields.seal);
-                framed(&fields.body())
-            }
-            7 => {
-                let mut fields = self.fields(chance);
-                chance.flip(&mut fields.seal);
-                framed(&fields.body())
-            }
-            8 => {
-                let mut fields = self.fields(chance);
-                chance.flip(&mut fields.nonce);
-                framed(&fields.body())
-            }
-            9 => {
-                let mut fields = self.fields(chance);
-                chance.flip(&mut fields.ciphertext);
-                framed(&fields.body())
-            }
+            5 => framed_flipping(self.fields_unlisted(chance), chance, |its| &mut its.seal),
+            6 => framed_flipping(self.fields_other_font(chance), chance, |its| &mut its.seal),
+            7 => framed_flipping(self.fields(chance), chance, |its| &mut its.seal),
+            8 => framed_flipping(self.fields(chance), chance, |its| &mut its.nonce),
+            9 => framed_flipping(self.fields(chance), chance, |its| &mut its.ciphertext),
             // Fields exchanged, doubled, left out.
             10 | 11 => {
-                let mut whole = whole_fields(&self.fields(chance)).to_vec();
+                let mut whole = self.fields(chance).whole().to_vec();
                 let one = chance.below(4);
                 match chance.below(3) {
                     0 => whole.swap(one, (one + 1) % 4),
@@ -167,14 +145,7 @@ impl Stock {
             12 | 13 => {
                 let fields = self.fields(chance);
                 let mut body = fields.body();
-                let places: Vec<usize> = whole_fields(&fields)
-                    .iter()
-                    .scan(0, |place, field| {
-                        *place += field.len();
-                        Some(*place - field.len())
-                    })
-                    .collect();
-                let tag = chance.one_of(&places);
+                let tag = chance.one_of(&fields.tag_places());
                 body[tag + chance.below(3)] ^= chance.one_of(&[1, 2, 3, 4, 0x10, 0x80]);
                 framed(&body)
             }
@@ -202,15 +173,6 @@ impl Stock {
             }
         }
     }
-}
-
-fn whole_fields(fields: &Fields) -> [Vec<u8>; 4] {
-    [
-        field(TAG_NONCE, &fields.nonce),
-        field(TAG_DIGEST, &fields.digest),
-        field(TAG_LINE, &fields.ciphertext),
-        field(TAG_SEAL, &fields.seal),
-    ]
 }
 
 /// A line of listed bytes, mostly short.

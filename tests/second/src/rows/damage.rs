@@ -4,9 +4,7 @@
 use super::stream::Case;
 use super::told;
 use crate::chance::Chance;
-use crate::frame::{
-    field, framed, framed_escaping, Fields, TAG_DIGEST, TAG_LINE, TAG_NONCE, TAG_SEAL,
-};
+use crate::frame::{framed, framed_escaping, framed_flipping, Fields};
 use crate::numbers::{LINE_MOST, NONCE};
 use crate::stuffing::{ESCAPE, MARK};
 
@@ -199,41 +197,24 @@ fn not_listed(chance: &mut Chance) -> Vec<u8> {
     framed(&fields_not_listed(chance).body())
 }
 
-/// Places of the four tags in the body of these fields.
-fn tag_places(fields: &Fields) -> [usize; 4] {
-    let after = |place: usize, value: &[u8]| place + field(0, value).len();
-    let digest = after(0, &fields.nonce);
-    let line = after(digest, &fields.digest);
-    [0, digest, line, after(line, &fields.ciphertext)]
-}
-
 fn tags_exchanged(chance: &mut Chance) -> Vec<u8> {
     let fields = good_fields(chance);
     let mut body = fields.body();
     let one = chance.below(4);
     let other = (one + 1 + chance.below(3)) % 4;
-    body.swap(tag_places(&fields)[one], tag_places(&fields)[other]);
+    body.swap(fields.tag_places()[one], fields.tag_places()[other]);
     framed(&body)
 }
 
-fn whole_fields(fields: &Fields) -> [Vec<u8>; 4] {
-    [
-        field(TAG_NONCE, &fields.nonce),
-        field(TAG_DIGEST, &fields.digest),
-        field(TAG_LINE, &fields.ciphertext),
-        field(TAG_SEAL, &fields.seal),
-    ]
-}
-
 fn fields_exchanged(chance: &mut Chance) -> Vec<u8> {
-    let mut whole = whole_fields(&good_fields(chance));
+    let mut whole = good_fields(chance).whole();
     let one = chance.below(4);
     whole.swap(one, (one + 1 + chance.below(3)) % 4);
     framed(&whole.concat())
 }
 
 fn field_doubled(chance: &mut Chance) -> Vec<u8> {
-    let mut whole = whole_fields(&good_fields(chance)).to_vec();
+    let mut whole = good_fields(chance).whole().to_vec();
     let one = chance.below(4);
     whole.insert(one, whole[one].clone());
     framed(&whole.concat())
@@ -242,7 +223,7 @@ fn field_doubled(chance: &mut Chance) -> Vec<u8> {
 fn length_changed(chance: &mut Chance) -> Vec<u8> {
     let fields = good_fields(chance);
     let mut body = fields.body();
-    let tag = chance.one_of(&tag_places(&fields));
+    let tag = chance.one_of(&fields.tag_places());
     let change = chance.one_of(&[1, 2, 3, 0x10, 0x80]);
     body[tag + chance.one_of(&[1, 2, 2])] ^= change;
     framed(&body)
@@ -291,35 +272,25 @@ fn needless_escape(chance: &mut Chance) -> Vec<u8> {
 }
 
 fn seal_changed(chance: &mut Chance) -> Vec<u8> {
-    let mut fields = good_fields(chance);
-    chance.flip(&mut fields.seal);
-    framed(&fields.body())
+    framed_flipping(good_fields(chance), chance, |its| &mut its.seal)
 }
 
 fn nonce_changed(chance: &mut Chance) -> Vec<u8> {
-    let mut fields = good_fields(chance);
-    chance.flip(&mut fields.nonce);
-    framed(&fields.body())
+    framed_flipping(good_fields(chance), chance, |its| &mut its.nonce)
 }
 
 fn ciphertext_changed(chance: &mut Chance) -> Vec<u8> {
-    let mut fields = good_fields(chance);
-    chance.flip(&mut fields.ciphertext);
-    framed(&fields.body())
+    framed_flipping(good_fields(chance), chance, |its| &mut its.ciphertext)
 }
 
 /// 5 comes before 9.
 fn not_listed_and_seal_changed(chance: &mut Chance) -> Vec<u8> {
-    let mut fields = fields_not_listed(chance);
-    chance.flip(&mut fields.seal);
-    framed(&fields.body())
+    framed_flipping(fields_not_listed(chance), chance, |its| &mut its.seal)
 }
 
 /// 8 comes before 5.
 fn other_font_and_seal_changed(chance: &mut Chance) -> Vec<u8> {
-    let mut fields = fields_of_other_font(chance);
-    chance.flip(&mut fields.seal);
-    framed(&fields.body())
+    framed_flipping(fields_of_other_font(chance), chance, |its| &mut its.seal)
 }
 
 /// Three frames with a few bytes of the whole dropped, doubled or exchanged.
