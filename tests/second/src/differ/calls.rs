@@ -15,20 +15,10 @@ pub enum Call {
     Read,
 }
 
-pub const CALLS: [Call; 8] = [
-    Call::Permute,
-    Call::Unpermute,
-    Call::Digest,
-    Call::Seal,
-    Call::Open,
-    Call::Write,
-    Call::NextStretch,
-    Call::Read,
-];
-
 /// What the header says of a call. Buffers stand in the header's order; the
 /// last `written` of them are the ones it may write.
 pub struct Signature {
+    pub call: Call,
     pub name: &'static str,
     /// The argument that is a plain number.
     pub number: Option<&'static str>,
@@ -40,74 +30,85 @@ pub struct Signature {
     pub outcomes: &'static [&'static str],
 }
 
+pub static SIGNATURES: [Signature; 8] = [
+    Signature {
+        call: Call::Permute,
+        name: "lubdhvani_permute",
+        number: None,
+        buffers: &["state"],
+        written: 1,
+        outs: &[],
+        outcomes: &["0", "1"],
+    },
+    Signature {
+        call: Call::Unpermute,
+        name: "lubdhvani_unpermute",
+        number: None,
+        buffers: &["state"],
+        written: 1,
+        outs: &[],
+        outcomes: &["0", "1"],
+    },
+    Signature {
+        call: Call::Digest,
+        name: "lubdhvani_digest",
+        number: Some("instance"),
+        buffers: &["message", "out"],
+        written: 1,
+        outs: &["calls"],
+        outcomes: &["0", "1", "3", "4"],
+    },
+    Signature {
+        call: Call::Seal,
+        name: "lubdhvani_seal",
+        number: None,
+        buffers: &["key", "nonce", "associated", "message", "out", "seal"],
+        written: 2,
+        outs: &["calls"],
+        outcomes: &["0", "2", "3", "4"],
+    },
+    Signature {
+        call: Call::Open,
+        name: "lubdhvani_open",
+        number: None,
+        buffers: &["key", "nonce", "associated", "cipher", "seal", "out"],
+        written: 1,
+        outs: &["calls"],
+        outcomes: &["0", "2", "3", "4", "5"],
+    },
+    Signature {
+        call: Call::Write,
+        name: "lubdhvani_write",
+        number: None,
+        buffers: &["key", "nonce", "font", "line", "frame"],
+        written: 1,
+        outs: &["length", "calls"],
+        outcomes: &["0", "2", "3", "9", "4"],
+    },
+    Signature {
+        call: Call::NextStretch,
+        name: "lubdhvani_next_stretch",
+        number: Some("from"),
+        buffers: &["stream"],
+        written: 0,
+        outs: &["first", "closing"],
+        outcomes: &["stretch", "none"],
+    },
+    Signature {
+        call: Call::Read,
+        name: "lubdhvani_read",
+        number: Some("from"),
+        buffers: &["stream", "key", "font", "line"],
+        written: 1,
+        outs: &["first", "closing", "length", "calls"],
+        outcomes: &["line", "end", "2", "3", "4", "10", "7", "6", "8", "5", "9"],
+    },
+];
+
 impl Call {
     pub fn signature(self) -> &'static Signature {
-        match self {
-            Call::Permute => &Signature {
-                name: "lubdhvani_permute",
-                number: None,
-                buffers: &["state"],
-                written: 1,
-                outs: &[],
-                outcomes: &["0", "1"],
-            },
-            Call::Unpermute => &Signature {
-                name: "lubdhvani_unpermute",
-                number: None,
-                buffers: &["state"],
-                written: 1,
-                outs: &[],
-                outcomes: &["0", "1"],
-            },
-            Call::Digest => &Signature {
-                name: "lubdhvani_digest",
-                number: Some("instance"),
-                buffers: &["message", "out"],
-                written: 1,
-                outs: &["calls"],
-                outcomes: &["0", "1", "3", "4"],
-            },
-            Call::Seal => &Signature {
-                name: "lubdhvani_seal",
-                number: None,
-                buffers: &["key", "nonce", "associated", "message", "out", "seal"],
-                written: 2,
-                outs: &["calls"],
-                outcomes: &["0", "2", "3", "4"],
-            },
-            Call::Open => &Signature {
-                name: "lubdhvani_open",
-                number: None,
-                buffers: &["key", "nonce", "associated", "cipher", "seal", "out"],
-                written: 1,
-                outs: &["calls"],
-                outcomes: &["0", "2", "3", "4", "5"],
-            },
-            Call::Write => &Signature {
-                name: "lubdhvani_write",
-                number: None,
-                buffers: &["key", "nonce", "font", "line", "frame"],
-                written: 1,
-                outs: &["length", "calls"],
-                outcomes: &["0", "2", "3", "9", "4"],
-            },
-            Call::NextStretch => &Signature {
-                name: "lubdhvani_next_stretch",
-                number: Some("from"),
-                buffers: &["stream"],
-                written: 0,
-                outs: &["first", "closing"],
-                outcomes: &["stretch", "none"],
-            },
-            Call::Read => &Signature {
-                name: "lubdhvani_read",
-                number: Some("from"),
-                buffers: &["stream", "key", "font", "line"],
-                written: 1,
-                outs: &["first", "closing", "length", "calls"],
-                outcomes: &["line", "end", "2", "3", "4", "10", "7", "6", "8", "5", "9"],
-            },
-        }
+        let its_own = SIGNATURES.iter().find(|signature| signature.call == self);
+        its_own.expect("every call has its signature")
     }
 }
 

@@ -91,7 +91,33 @@ pub struct Grounds {
 
 /// Puts every buffer of the case into memory, calls, and looks at all of it.
 pub fn answer(case: &Case, grounds: &mut Grounds) -> Answer {
-    let signature = case.call.signature();
+    let puts = put_all(case, grounds);
+    let outs = case.call.signature().outs;
+    let mut slots: Vec<Slot> = outs.iter().map(|_| Slot::new(case.before)).collect();
+    let pointers: Vec<*mut usize> = slots.iter_mut().map(Slot::pointer).collect();
+
+    // SAFETY: what the header asks for. Each pointer is to as many bytes as are
+    // said, the written ones to memory of their own.
+    let number = unsafe { called(case, &puts, &pointers) };
+
+    let (after, mut strayed) = left_all(case, &puts, grounds);
+    let mut numbers = Vec::new();
+    for (slot, name) in slots.iter().zip(outs) {
+        let (number, kept) = slot.left();
+        numbers.push(number);
+        if !kept {
+            strayed.push(name);
+        }
+    }
+    Answer {
+        number,
+        outs: numbers,
+        after,
+        strayed,
+    }
+}
+
+fn put_all(case: &Case, grounds: &mut Grounds) -> Vec<Put> {
     let mut puts: Vec<Put> = Vec::new();
     for (buffer, ground) in case.buffers.iter().zip(&mut grounds.each) {
         let put = match buffer.stand {
@@ -102,19 +128,14 @@ pub fn answer(case: &Case, grounds: &mut Grounds) -> Answer {
         };
         puts.push(put);
     }
-    let mut slots: Vec<Slot> = signature
-        .outs
-        .iter()
-        .map(|_| Slot::new(case.before))
-        .collect();
-    let pointers: Vec<*mut usize> = slots.iter_mut().map(Slot::pointer).collect();
+    puts
+}
 
-    // SAFETY: what the header asks for. Each pointer is to as many bytes as are
-    // said, the written ones to memory of their own.
-    let number = unsafe { called(case, &puts, &pointers) };
-
-    let mut strayed = Vec::new();
-    let mut after = Vec::new();
+/// The bytes of every buffer now, and the names of those beside which something
+/// was written.
+fn left_all(case: &Case, puts: &[Put], grounds: &mut Grounds) -> (Vec<Vec<u8>>, Vec<&'static str>) {
+    let names = case.call.signature().buffers;
+    let (mut after, mut strayed) = (Vec::new(), Vec::new());
     for (index, (buffer, ground)) in case.buffers.iter().zip(&mut grounds.each).enumerate() {
         let (bytes, kept) = match buffer.stand {
             _ if buffer.more > 0 => grounds.vast.left_vast(buffer.bytes.len()),
@@ -125,101 +146,42 @@ pub fn answer(case: &Case, grounds: &mut Grounds) -> Answer {
         };
         after.push(bytes);
         if !kept {
-            strayed.push(signature.buffers[index]);
+            strayed.push(names[index]);
         }
     }
-    let mut outs = Vec::new();
-    for (slot, name) in slots.iter().zip(signature.outs) {
-        let (number, kept) = slot.left();
-        outs.push(number);
-        if !kept {
-            strayed.push(name);
-        }
-    }
-    Answer {
-        number,
-        outs,
-        after,
-        strayed,
-    }
+    (after, strayed)
+}
+
+/// A call with its arguments in the header's order: of each buffer in square
+/// brackets the address and the length, and what is in round ones as it is.
+macro_rules! call {
+    ($name:ident: $([$($buffer:ident),*] ($($plain:expr),*))+) => {
+        $name($($($buffer.at, $buffer.length,)* $($plain,)*)+)
+    };
 }
 
 unsafe fn called(case: &Case, puts: &[Put], outs: &[*mut usize]) -> u32 {
     match (case.call, puts, outs) {
-        (Call::Permute, [state], []) => lubdhvani_permute(state.at, state.length),
-        (Call::Unpermute, [state], []) => lubdhvani_unpermute(state.at, state.length),
-        (Call::Digest, [message, out], &[calls]) => lubdhvani_digest(
-            case.number,
-            message.at,
-            message.length,
-            out.at,
-            out.length,
-            calls,
-        ),
-        (Call::Seal, [key, nonce, associated, message, out, seal], &[calls]) => lubdhvani_seal(
-            key.at,
-            key.length,
-            nonce.at,
-            nonce.length,
-            associated.at,
-            associated.length,
-            message.at,
-            message.length,
-            out.at,
-            out.length,
-            seal.at,
-            seal.length,
-            calls,
-        ),
-        (Call::Open, [key, nonce, associated, cipher, seal, out], &[calls]) => lubdhvani_open(
-            key.at,
-            key.length,
-            nonce.at,
-            nonce.length,
-            associated.at,
-            associated.length,
-            cipher.at,
-            cipher.length,
-            seal.at,
-            seal.length,
-            out.at,
-            out.length,
-            calls,
-        ),
-        (Call::Write, [key, nonce, font, line, frame], &[length, calls]) => lubdhvani_write(
-            key.at,
-            key.length,
-            nonce.at,
-            nonce.length,
-            font.at,
-            font.length,
-            line.at,
-            line.length,
-            frame.at,
-            frame.length,
-            length,
-            calls,
-        ),
+        (Call::Permute, [state], []) => call!(lubdhvani_permute: [state] ()),
+        (Call::Unpermute, [state], []) => call!(lubdhvani_unpermute: [state] ()),
+        (Call::Digest, [message, out], &[calls]) => {
+            call!(lubdhvani_digest: [] (case.number) [message, out] (calls))
+        }
+        (Call::Seal, [key, nonce, associated, message, out, seal], &[calls]) => {
+            call!(lubdhvani_seal: [key, nonce, associated, message, out, seal] (calls))
+        }
+        (Call::Open, [key, nonce, associated, cipher, seal, out], &[calls]) => {
+            call!(lubdhvani_open: [key, nonce, associated, cipher, seal, out] (calls))
+        }
+        (Call::Write, [key, nonce, font, line, frame], &[length, calls]) => {
+            call!(lubdhvani_write: [key, nonce, font, line, frame] (length, calls))
+        }
         (Call::NextStretch, [stream], &[first, closing]) => {
-            lubdhvani_next_stretch(stream.at, stream.length, case.number, first, closing);
+            call!(lubdhvani_next_stretch: [stream] (case.number, first, closing));
             0
         }
         (Call::Read, [stream, key, font, line], &[first, closing, length, calls]) => {
-            lubdhvani_read(
-                stream.at,
-                stream.length,
-                case.number,
-                key.at,
-                key.length,
-                font.at,
-                font.length,
-                line.at,
-                line.length,
-                first,
-                closing,
-                length,
-                calls,
-            )
+            call!(lubdhvani_read: [stream] (case.number) [key, font, line] (first, closing, length, calls))
         }
         _ => unreachable!("a case has its call's buffers"),
     }

@@ -13,7 +13,7 @@ mod watch;
 use std::env;
 use std::process::exit;
 
-use calls::{Answer, Buffer, Call, Case, CALLS};
+use calls::{Answer, Buffer, Call, Case, Signature, SIGNATURES};
 use library::Grounds;
 use memory::{Ground, Stand, CANARY, SHIFTS, VAST, VAST_BYTES};
 use second::chance::Chance;
@@ -62,9 +62,9 @@ struct Bench {
 
 impl Bench {
     fn new(seed: u64) -> Bench {
-        let most = CALLS
+        let most = SIGNATURES
             .iter()
-            .map(|call| call.signature().buffers.len())
+            .map(|signature| signature.buffers.len())
             .max();
         let room = 2 * STREAM_LIMIT + 2 * CANARY + SHIFTS;
         Bench {
@@ -95,15 +95,7 @@ impl Bench {
 fn differ(seed: u64, count: u64) -> bool {
     let mut bench = Bench::new(seed);
     watch::start(seed);
-    let mut met: Vec<(Call, &str, u64)> = Vec::new();
-    for call in CALLS {
-        met.extend(
-            call.signature()
-                .outcomes
-                .iter()
-                .map(|outcome| (call, *outcome, 0)),
-        );
-    }
+    let mut tally = Tally::new();
     let mut differing = 0;
     for index in 0..count {
         let case = bench.case(index);
@@ -115,24 +107,47 @@ fn differ(seed: u64, count: u64) -> bool {
                 print(seed, index, &case, &library, &reference);
             }
         }
-        let outcome = reference.outcome(case.call);
-        match met
+        tally.count(index, case.call, &reference.outcome(case.call));
+    }
+    let complete = tally.print();
+    println!("differ: {} calls, {} differ", count, differing);
+    differing == 0 && complete
+}
+
+/// How often each answer of each call was met.
+struct Tally(Vec<(&'static Signature, &'static str, u64)>);
+
+impl Tally {
+    fn new() -> Tally {
+        let mut met = Vec::new();
+        for signature in &SIGNATURES {
+            met.extend(signature.outcomes.iter().map(|&name| (signature, name, 0)));
+        }
+        Tally(met)
+    }
+
+    fn count(&mut self, index: u64, call: Call, outcome: &str) {
+        let met = self
+            .0
             .iter_mut()
-            .find(|(call, name, _)| *call == case.call && *name == outcome)
-        {
+            .find(|(signature, name, _)| signature.call == call && *name == outcome);
+        match met {
             Some((_, _, times)) => *times += 1,
             None => panic!("call {}: {} is no outcome of its call", index, outcome),
         }
     }
-    for (call, outcome, times) in &met {
-        println!("{:24}{:8}{:9}", call.signature().name, outcome, times);
+
+    /// Prints the table, then what was never met; says whether that is nothing.
+    fn print(&self) -> bool {
+        for (signature, outcome, times) in &self.0 {
+            println!("{:24}{:8}{:9}", signature.name, outcome, times);
+        }
+        let never: Vec<_> = self.0.iter().filter(|(_, _, times)| *times == 0).collect();
+        for (signature, outcome, _) in &never {
+            println!("differ: {} never gave {}", signature.name, outcome);
+        }
+        never.is_empty()
     }
-    let never: Vec<_> = met.iter().filter(|(_, _, times)| *times == 0).collect();
-    for (call, outcome, _) in &never {
-        println!("differ: {} never gave {}", call.signature().name, outcome);
-    }
-    println!("differ: {} calls, {} differ", count, differing);
-    differing == 0 && never.is_empty()
 }
 
 fn replay(seed: u64, index: u64) -> bool {

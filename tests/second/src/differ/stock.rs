@@ -99,11 +99,10 @@ impl Stock {
         Fields::sealing(&self.key, &nonce, &self.font, line).0
     }
 
-    /// Sealed as it should be, over a line that no writer takes.
-    fn fields_unlisted(&self, chance: &mut Chance) -> Fields {
-        let mut line = line(chance);
-        spoil(chance, &mut line);
-        self.fields_of(chance, &line)
+    /// Sealed as it should be, but under another key.
+    fn fields_other_key(&self, chance: &mut Chance) -> Fields {
+        let (nonce, line) = (stuffy(chance, NONCE), line(chance));
+        Fields::sealing(&self.other_key, &nonce, &self.font, &line).0
     }
 
     /// Sealed as it should be, but to the digest of another font.
@@ -112,16 +111,63 @@ impl Stock {
         Fields::sealing(&self.key, &nonce, &self.other_font, &line).0
     }
 
+    /// Sealed as it should be, over a line that no writer takes.
+    fn fields_unlisted(&self, chance: &mut Chance) -> Fields {
+        let mut line = line(chance);
+        spoil(chance, &mut line);
+        self.fields_of(chance, &line)
+    }
+
+    /// Field 03 of a length that no line has, sealed as it should be.
+    fn fields_no_line(&self, chance: &mut Chance) -> Fields {
+        let length = chance.one_of(&[0, LINE_MOST + 1, LINE_MOST + 2, 256]);
+        self.fields_of(chance, &vec![b'5'; length])
+    }
+
+    /// Fields exchanged, doubled, left out.
+    fn body_misordered(&self, chance: &mut Chance) -> Vec<u8> {
+        let mut whole = self.fields(chance).whole().to_vec();
+        let one = chance.below(4);
+        match chance.below(3) {
+            0 => whole.swap(one, (one + 1) % 4),
+            1 => whole.insert(one, whole[one].clone()),
+            _ => drop(whole.remove(one)),
+        }
+        whole.concat()
+    }
+
+    /// A tag or a length changed.
+    fn body_mistagged(&self, chance: &mut Chance) -> Vec<u8> {
+        let fields = self.fields(chance);
+        let mut body = fields.body();
+        let tag = chance.one_of(&fields.tag_places());
+        body[tag + chance.below(3)] ^= chance.one_of(&[1, 2, 3, 4, 0x10, 0x80]);
+        body
+    }
+
+    fn body_followed(&self, chance: &mut Chance) -> Vec<u8> {
+        let mut body = self.fields(chance).body();
+        let more = chance.between(1, 5);
+        body.extend(chance.bytes(more));
+        body
+    }
+
+    fn body_cut(&self, chance: &mut Chance) -> Vec<u8> {
+        let mut body = self.fields(chance).body();
+        body.truncate(chance.between(1, body.len() - 1));
+        body
+    }
+
+    /// A byte escaped that is no mark and no escape.
+    fn needless_escape(&self, chance: &mut Chance) -> Vec<u8> {
+        let body = self.fields(chance).body();
+        let at = chance.below(body.len());
+        framed_escaping(&body, at)
+    }
+
     fn wrong_frame(&self, chance: &mut Chance) -> Vec<u8> {
         match chance.below(18) {
-            0 => {
-                let (nonce, line) = (stuffy(chance, NONCE), line(chance));
-                framed(
-                    &Fields::sealing(&self.other_key, &nonce, &self.font, &line)
-                        .0
-                        .body(),
-                )
-            }
+            0 => framed(&self.fields_other_key(chance).body()),
             1 => framed(&self.fields_other_font(chance).body()),
             2..=4 => framed(&self.fields_unlisted(chance).body()),
             // 5 comes before 9, and 8 before 5.
@@ -130,47 +176,12 @@ impl Stock {
             7 => framed_flipping(self.fields(chance), chance, |its| &mut its.seal),
             8 => framed_flipping(self.fields(chance), chance, |its| &mut its.nonce),
             9 => framed_flipping(self.fields(chance), chance, |its| &mut its.ciphertext),
-            // Fields exchanged, doubled, left out.
-            10 | 11 => {
-                let mut whole = self.fields(chance).whole().to_vec();
-                let one = chance.below(4);
-                match chance.below(3) {
-                    0 => whole.swap(one, (one + 1) % 4),
-                    1 => whole.insert(one, whole[one].clone()),
-                    _ => drop(whole.remove(one)),
-                }
-                framed(&whole.concat())
-            }
-            // A tag or a length changed.
-            12 | 13 => {
-                let fields = self.fields(chance);
-                let mut body = fields.body();
-                let tag = chance.one_of(&fields.tag_places());
-                body[tag + chance.below(3)] ^= chance.one_of(&[1, 2, 3, 4, 0x10, 0x80]);
-                framed(&body)
-            }
-            // Field 03 of a length that no line has, sealed as it should be.
-            14 => {
-                let length = chance.one_of(&[0, 66, 67, 256]);
-                framed(&self.fields_of(chance, &vec![b'5'; length]).body())
-            }
-            15 => {
-                let mut body = self.fields(chance).body();
-                let more = chance.between(1, 5);
-                body.extend(chance.bytes(more));
-                framed(&body)
-            }
-            16 => {
-                let mut body = self.fields(chance).body();
-                body.truncate(chance.between(1, body.len() - 1));
-                framed(&body)
-            }
-            // A byte escaped that is no mark and no escape.
-            _ => {
-                let body = self.fields(chance).body();
-                let at = chance.below(body.len());
-                framed_escaping(&body, at)
-            }
+            10 | 11 => framed(&self.body_misordered(chance)),
+            12 | 13 => framed(&self.body_mistagged(chance)),
+            14 => framed(&self.fields_no_line(chance).body()),
+            15 => framed(&self.body_followed(chance)),
+            16 => framed(&self.body_cut(chance)),
+            _ => self.needless_escape(chance),
         }
     }
 }

@@ -51,29 +51,54 @@ fn filled(first: &[u8], last: &[u8]) -> Vec<u8> {
     [first, &filler, last].concat()
 }
 
+fn good() -> Vec<u8> {
+    told::frame(&by_rule(NONCE, |i| i), b"A123456789A")
+}
+
+/// One byte longer than a stream may be.
+fn too_long() -> Vec<u8> {
+    vec![MARK; STREAM_LIMIT + 1]
+}
+
 pub fn cases() -> Vec<Case> {
-    let good = told::frame(&by_rule(NONCE, |i| i), b"A123456789A");
-    let past = good.len() + 1;
-    let marks = vec![MARK; STREAM_LIMIT];
-    let too_long = vec![MARK; STREAM_LIMIT + 1];
+    let mut cases = longest_streams();
+    cases.extend(places());
+    cases.extend(sizes());
+    cases.extend(several_refusals());
+    cases
+}
+
+fn longest_streams() -> Vec<Case> {
     let long_stretch = filled(&[MARK], &[MARK]);
-    let frame_at_end = filled(&[MARK], &good);
+    let frame_at_end = filled(&[MARK], &good());
     let last = STREAM_LIMIT - 1;
     vec![
         limit("long-stretch", &long_stretch),
         limit("long-stretch-from-its-end", &long_stretch).place(last),
-        limit("all-marks", &marks),
-        limit("all-marks-too-long", &too_long),
+        limit("all-marks", &[MARK; STREAM_LIMIT]),
+        limit("all-marks-too-long", &too_long()),
         limit("no-mark", &filled(&[], &[])),
         limit("mark-first-only", &filled(&[MARK], &[])),
         limit("mark-last-only", &filled(&[], &[MARK])),
         limit("frame-at-end-filler", &frame_at_end),
-        limit("frame-at-end-line", &frame_at_end).place(STREAM_LIMIT - good.len()),
+        limit("frame-at-end-line", &frame_at_end).place(STREAM_LIMIT - good().len()),
         limit("frame-at-end-end", &frame_at_end).place(last),
+    ]
+}
+
+fn places() -> Vec<Case> {
+    let marks = [MARK; STREAM_LIMIT];
+    vec![
         limit("place-at-end", &marks).place(STREAM_LIMIT),
         limit("place-past-end", &marks).place(STREAM_LIMIT + 1),
-        limit("place-far-past-end", &good).place(u32::MAX as usize),
+        limit("place-far-past-end", &good()).place(u32::MAX as usize),
         limit("place-past-empty", &[]).place(1),
+    ]
+}
+
+fn sizes() -> Vec<Case> {
+    let good = good();
+    vec![
         limit("good", &good),
         limit("key-0", &good).key(0),
         limit("key-15", &good).key(15),
@@ -85,10 +110,19 @@ pub fn cases() -> Vec<Case> {
         limit("room-64", &good).room(64),
         limit("room-65", &good).room(65),
         limit("room-66", &good).room(66),
+    ]
+}
+
+/// Calls with more than one thing wrong: the first in the order is given.
+fn several_refusals() -> Vec<Case> {
+    let (good, too_long) = (good(), too_long());
+    let past = good.len() + 1;
+    let past_too_long = too_long.len() + 1;
+    vec![
         limit("bad-key-long-stream-short-room-past", &too_long)
             .key(15)
             .room(64)
-            .place(STREAM_LIMIT + 2),
+            .place(past_too_long),
         limit("bad-digest-long-stream-short-room", &too_long)
             .digest(33)
             .room(64),
@@ -96,9 +130,9 @@ pub fn cases() -> Vec<Case> {
         limit("bad-key-past", &good).key(15).place(past),
         limit("long-stream-short-room-past", &too_long)
             .room(64)
-            .place(STREAM_LIMIT + 2),
+            .place(past_too_long),
         limit("long-stream-short-room", &too_long).room(64),
-        limit("long-stream-past", &too_long).place(STREAM_LIMIT + 2),
+        limit("long-stream-past", &too_long).place(past_too_long),
         limit("short-room-past", &good).room(64).place(past),
     ]
 }

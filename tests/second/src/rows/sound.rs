@@ -5,7 +5,7 @@ use super::by_rule;
 use super::stream::Case;
 use super::told;
 use crate::frame::{framed, Fields};
-use crate::numbers::NONCE;
+use crate::numbers::{LINE_MOST, NONCE, STREAM_LIMIT, STRETCH_MOST};
 use crate::stuffing::{ESCAPE, MARK};
 
 /// A nonce that has a mark and an escape in it.
@@ -37,9 +37,23 @@ fn sealed(line: &[u8]) -> Vec<u8> {
     )
 }
 
+/// A good frame for the cases that need one.
+fn good() -> Vec<u8> {
+    told::frame(&nonce(), b"A123456789A 42C")
+}
+
 pub fn cases() -> Vec<Case> {
-    let good = told::frame(&nonce(), b"A123456789A 42C");
-    let mut cases = vec![
+    let mut cases = few_bytes();
+    cases.extend(long_stretches());
+    cases.extend(places_at_the_end());
+    cases.extend(line_buffers());
+    cases.extend(line_lengths());
+    cases.extend(places_around_marks());
+    cases
+}
+
+fn few_bytes() -> Vec<Case> {
+    vec![
         // no stretch
         case(&[]),
         case(&[0x7e]),
@@ -51,55 +65,70 @@ pub fn cases() -> Vec<Case> {
         case(&[0x7e, 0x7d, 0x5e, 0x7e]),
         // the listing program's sample
         case(&[0x7e, 0x41, 0x7e, 0x7e, 0x7d, 0x7e]),
-    ];
-    // stretches of 274 and 275 bytes: 7 for the length comes before 6, and 6
-    // before 7 for the fields
-    for length in [273, 274, 275, 276] {
+    ]
+}
+
+/// Stretches of 274 and 275 bytes: 7 for the length comes before 6, and 6
+/// before 7 for the fields.
+fn long_stretches() -> Vec<Case> {
+    let mut cases = Vec::new();
+    for length in STRETCH_MOST - 1..=STRETCH_MOST + 2 {
         cases.push(case(&stretch(length, &[], &[])));
         cases.push(case(&stretch(length, &[], &[ESCAPE])));
         cases.push(case(&stretch(length, &[ESCAPE, 0x41], &[])));
         cases.push(case(&stretch(length, &[ESCAPE, ESCAPE, 0x5d], &[])));
         cases.push(case(&stretch(length, &[ESCAPE, 0x5e], &[ESCAPE, 0x5d])));
     }
-    cases.push(case(&between_marks(&[ESCAPE, 0x5e].repeat(137))));
-    cases.push(case(&between_marks(&[ESCAPE, 0x5d].repeat(138))));
-    // a long stretch and a good frame after it
-    for length in [274, 275] {
-        cases.push(case(
-            &[stretch(length, &[], &[ESCAPE]), good.clone()].concat(),
-        ));
-    }
-    // a place at the stream's end, and past it
-    for stream in [&[][..], &[0x7e], &[0x7e, 0x41, 0x7e], &good] {
-        cases.push(case(stream).place(stream.len()));
-        cases.push(case(stream).place(stream.len() + 1));
-        cases.push(case(stream).place(65_535));
-    }
-    // line buffers
-    for room in [0, 1, 64, 65, 66, 255] {
-        cases.push(case(&good).room(room));
-    }
-    cases.push(case(&good).place(good.len() + 1).room(64));
-    cases.push(case(&[]).room(64));
-    // lines of 1 and 65 bytes, and field 03 of lengths 0 and 66
-    cases.push(case(&told::frame(&nonce(), b"7")));
-    cases.push(case(&told::frame(&nonce(), &[b'D'; 65])));
-    cases.push(case(&told::frame(&nonce(), &[b' '; 65])));
-    cases.push(case(&sealed(b"")));
-    cases.push(case(&sealed(&[b'7'; 66])));
-    cases.push(case(&sealed(&[b'7'; 256])));
-    // from every place around the marks of two frames
-    let two = [&[0x41][..], &good, &good].concat();
-    for place in [
-        0,
-        1,
-        2,
-        good.len(),
-        good.len() + 1,
-        good.len() + 2,
-        two.len(),
-    ] {
-        cases.push(case(&two).place(place));
+    let pairs = STRETCH_MOST / 2;
+    cases.push(case(&between_marks(&[ESCAPE, 0x5e].repeat(pairs))));
+    cases.push(case(&between_marks(&[ESCAPE, 0x5d].repeat(pairs + 1))));
+    // and a good frame after a long stretch
+    for length in [STRETCH_MOST, STRETCH_MOST + 1] {
+        let stream = [stretch(length, &[], &[ESCAPE]), good()].concat();
+        cases.push(case(&stream));
     }
     cases
+}
+
+/// A place at the stream's end, and past it.
+fn places_at_the_end() -> Vec<Case> {
+    let mut cases = Vec::new();
+    for stream in [&[][..], &[0x7e], &[0x7e, 0x41, 0x7e], &good()] {
+        cases.push(case(stream).place(stream.len()));
+        cases.push(case(stream).place(stream.len() + 1));
+        cases.push(case(stream).place(STREAM_LIMIT - 1));
+    }
+    cases
+}
+
+fn line_buffers() -> Vec<Case> {
+    let good = good();
+    let rooms = [0, 1, LINE_MOST - 1, LINE_MOST, LINE_MOST + 1, 255];
+    let mut cases: Vec<Case> = rooms.iter().map(|&room| case(&good).room(room)).collect();
+    cases.push(case(&good).place(good.len() + 1).room(LINE_MOST - 1));
+    cases.push(case(&[]).room(LINE_MOST - 1));
+    cases
+}
+
+/// Lines of 1 and 65 bytes, and field 03 of lengths 0, 66 and 256.
+fn line_lengths() -> Vec<Case> {
+    vec![
+        case(&told::frame(&nonce(), b"7")),
+        case(&told::frame(&nonce(), &[b'D'; LINE_MOST])),
+        case(&told::frame(&nonce(), &[b' '; LINE_MOST])),
+        case(&sealed(b"")),
+        case(&sealed(&[b'7'; LINE_MOST + 1])),
+        case(&sealed(&[b'7'; 256])),
+    ]
+}
+
+/// Every place around the marks of two frames.
+fn places_around_marks() -> Vec<Case> {
+    let good = good();
+    let two = [&[0x41][..], &good, &good].concat();
+    let between = good.len();
+    [0, 1, 2, between, between + 1, between + 2, two.len()]
+        .iter()
+        .map(|&place| case(&two).place(place))
+        .collect()
 }
