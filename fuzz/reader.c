@@ -9,9 +9,12 @@
 #include <string.h>
 #include <sys/mman.h>
 
-enum { MARK = 0x7E, ESCAPE = 0x7D, PAGE = 4096, CANARY = 64, MOST = LUBDHVANI_LONGEST_INPUT + 1 };
+/* MOST is the longest stream made here, MORE_ROOM what a line buffer has at most beyond the longest line. */
+enum { MARK = 0x7E, ESCAPE = 0x7D, PAGE = 4096, CANARY = 64, MOST = LUBDHVANI_LONGEST_INPUT + 1, MORE_ROOM = 8 };
 
-/* libFuzzer keeps an input that moves one of these: what the answers were, since the library itself has no counters. */
+/* libFuzzer keeps an input that moves one of these: what the answers were, since the library itself has no counters. First each number
+ * after each other number or none, then the lengths of lines, then those of stretches, the longest all as one. */
+enum { MET_NUMBERS = 16, MET_NONE = MET_NUMBERS - 1, MET_LINES = MET_NUMBERS * MET_NUMBERS, MET_STRETCHES = 512, MET_LONGEST = 300 };
 __attribute__((section("__libfuzzer_extra_counters"))) static uint8_t met[2048];
 
 /* How often each number was met, lines apart from the end of the stream; printed at the end. */
@@ -163,46 +166,83 @@ static void damage(void)
     }
 }
 
+static void take_nonce(uint8_t nonce[LUBDHVANI_NONCE])
+{
+    for (size_t i = 0; i < LUBDHVANI_NONCE; i++)
+        nonce[i] = take();
+}
+
+/* Any bytes, or listed ones only. */
+static void take_line(uint8_t *line, size_t n, int any)
+{
+    static const char all[] = "0123456789ABCD ";
+    for (size_t i = 0; i < n; i++) {
+        line[i] = take();
+        if (!any)
+            line[i] = (uint8_t)all[line[i] % (sizeof all - 1)];
+    }
+}
+
+/* What a recipe can ask for. The order says which, and in its other bits how. */
+
+/* The writer's frame of a line, which may be too long: as it should be, under another key or for another font. */
+static void append_written(uint8_t order)
+{
+    uint8_t nonce[LUBDHVANI_NONCE], line[LUBDHVANI_LONGEST_LINE + 3];
+    take_nonce(nonce);
+    size_t n = take() % sizeof line;
+    take_line(line, n, order >= 0xE0);
+    write_line(order % 8 == 1 ? other_key : key, order % 8 == 2 ? other_font : font, nonce, line, n);
+}
+
+/* A line sealed as it should be; perhaps with one byte of the body changed, or the body cut short. */
+static void append_sealed(uint8_t order)
+{
+    uint8_t nonce[LUBDHVANI_NONCE], line[LUBDHVANI_LONGEST_LINE], body[137];
+    take_nonce(nonce);
+    size_t n = 1 + take() % LUBDHVANI_LONGEST_LINE;
+    take_line(line, n, order & 0x10);
+    n = sealed_body(nonce, line, n, body);
+    if (order & 0x20) {
+        uint8_t change = take();
+        body[take() % n] ^= change;
+    }
+    append_framed(body, order & 0x40 ? take() % (n + 1) : n);
+}
+
+static void append_input(void)
+{
+    for (size_t n = take(); n > 0 && input_left > 0; n--) {
+        uint8_t byte = take();
+        append(&byte, 1);
+    }
+}
+
+static void append_run(uint8_t order)
+{
+    size_t n = order & 0x80 ? take_two() : take() + 100u;
+    for (uint8_t byte = order & 0x40 ? MARK : take(); n > 0; n--)
+        append(&byte, 1);
+}
+
 static void follow_recipe(void)
 {
     while (input_left > 0 && built < MOST) {
-        uint8_t op = take(), nonce[LUBDHVANI_NONCE], line[LUBDHVANI_LONGEST_LINE + 3], body[137];
-        size_t n;
-        switch (op % 8) {
-        case 0: /* a line of listed bytes, of any bytes, under another key, for another font */
+        uint8_t order = take();
+        switch (order % 8) {
+        case 0:
         case 1:
         case 2:
-            for (size_t i = 0; i < sizeof nonce; i++)
-                nonce[i] = take();
-            n = take() % sizeof line;
-            for (size_t i = 0; i < n; i++) {
-                line[i] = take();
-                if (op < 0xE0)
-                    line[i] = (uint8_t)"0123456789ABCD "[line[i] % 15];
-            }
-            write_line(op % 8 == 1 ? other_key : key, op % 8 == 2 ? other_font : font, nonce, line, n);
+            append_written(order);
             break;
-        case 3: /* any bytes, sealed as they should be; perhaps with one byte of the body changed */
-            for (size_t i = 0; i < sizeof nonce; i++)
-                nonce[i] = take();
-            n = 1 + take() % LUBDHVANI_LONGEST_LINE;
-            for (size_t i = 0; i < n; i++)
-                line[i] = op & 0x10 ? take() : (uint8_t)"0123456789ABCD "[take() % 15];
-            n = sealed_body(nonce, line, n, body);
-            if (op & 0x20)
-                body[take() % n] ^= take();
-            append_framed(body, op & 0x40 ? take() % (n + 1) : n);
+        case 3:
+            append_sealed(order);
             break;
-        case 4: /* bytes as they are */
-            for (n = take(); n > 0 && input_left > 0; n--) {
-                uint8_t byte = take();
-                append(&byte, 1);
-            }
+        case 4:
+            append_input();
             break;
-        case 5: /* many of one byte */
-            n = op & 0x80 ? take_two() : take() + 100u;
-            for (uint8_t byte = op & 0x40 ? MARK : take(); n > 0; n--)
-                append(&byte, 1);
+        case 5:
+            append_run(order);
             break;
         default:
             if (built > 0)
@@ -210,6 +250,13 @@ static void follow_recipe(void)
         }
     }
 }
+
+/* What the reader is told besides a stream and a place: whose lines it shall read, and the room for one. */
+
+struct told {
+    const uint8_t *key, *font;
+    size_t room;
+};
 
 /* What a stretch must be answered with: stuffing and fields are judged here, the seal by lubdhvani_open. */
 
@@ -219,39 +266,53 @@ struct judged {
     uint8_t nonce[LUBDHVANI_NONCE], line[LUBDHVANI_LONGEST_LINE];
 };
 
-static struct judged judge(const uint8_t *stretch, size_t length, const uint8_t *its_key, const uint8_t *its_font)
+/* The body without its stuffing, and its length; 0 where the stuffing is bad. */
+static int unstuffed(const uint8_t *stretch, size_t length, uint8_t body[LUBDHVANI_LONGEST_STRETCH], size_t *n)
+{
+    *n = 0;
+    for (size_t i = 0; i < length; i++) {
+        if (stretch[i] != ESCAPE)
+            body[(*n)++] = stretch[i];
+        else if (++i < length && (stretch[i] == (MARK ^ 0x20) || stretch[i] == (ESCAPE ^ 0x20)))
+            body[(*n)++] = stretch[i] ^ 0x20;
+        else
+            return 0;
+    }
+    return 1;
+}
+
+/* The four fields stand in the body with their tags and lengths, and nothing behind them. */
+static int has_fields(const uint8_t *body, size_t n)
+{
+    if (n < 73 || n > 137)
+        return 0;
+    const size_t line = n - 72;
+    return memcmp(body, (const uint8_t[]){1, 0, 12}, 3) == 0 && memcmp(body + 15, (const uint8_t[]){2, 0, 32}, 3) == 0 &&
+           memcmp(body + 50, (const uint8_t[]){3, 0, (uint8_t)line}, 3) == 0 &&
+           memcmp(body + 53 + line, (const uint8_t[]){4, 0, 16}, 3) == 0;
+}
+
+static struct judged judge(const uint8_t *stretch, size_t length, const struct told *told)
 {
     struct judged j = {LUBDHVANI_BAD_SHAPE, 0, 0, {0}, {0}};
     uint8_t body[LUBDHVANI_LONGEST_STRETCH];
-    size_t n = 0;
+    size_t n;
 
     if (length > LUBDHVANI_LONGEST_STRETCH)
         return j;
-    for (size_t i = 0; i < length; i++) {
-        if (stretch[i] != ESCAPE) {
-            body[n++] = stretch[i];
-        } else if (++i < length && (stretch[i] == (MARK ^ 0x20) || stretch[i] == (ESCAPE ^ 0x20))) {
-            body[n++] = stretch[i] ^ 0x20;
-        } else {
-            j.number = LUBDHVANI_BAD_STUFFING;
-            return j;
-        }
+    if (!unstuffed(stretch, length, body, &n)) {
+        j.number = LUBDHVANI_BAD_STUFFING;
+        return j;
     }
-    if (n < 73 || n > 137)
+    if (!has_fields(body, n))
         return j;
-    const size_t line = n - 72;
-    if (memcmp(body, (const uint8_t[]){1, 0, 12}, 3) != 0 || memcmp(body + 15, (const uint8_t[]){2, 0, 32}, 3) != 0)
-        return j;
-    if (memcmp(body + 50, (const uint8_t[]){3, 0, (uint8_t)line}, 3) != 0)
-        return j;
-    if (memcmp(body + 53 + line, (const uint8_t[]){4, 0, 16}, 3) != 0)
-        return j;
-    if (memcmp(body + 18, its_font, LUBDHVANI_DIGEST) != 0) {
+    if (memcmp(body + 18, told->font, LUBDHVANI_DIGEST) != 0) {
         j.number = LUBDHVANI_OTHER_FONT;
         return j;
     }
+    const size_t line = n - 72;
     memcpy(j.nonce, body + 3, sizeof j.nonce);
-    j.number = lubdhvani_open(its_key, 16, body + 3, 12, body + 15, 35, body + 53, line, body + 56 + line, 16, j.line, sizeof j.line,
+    j.number = lubdhvani_open(told->key, 16, body + 3, 12, body + 15, 35, body + 53, line, body + 56 + line, 16, j.line, sizeof j.line,
                               &j.calls);
     must(j.number == LUBDHVANI_DONE || j.number == LUBDHVANI_BAD_SEAL, "a ciphertext is opened or its seal is wrong");
     for (size_t i = j.number == LUBDHVANI_DONE ? line : 0; i < sizeof j.line; i++)
@@ -264,12 +325,11 @@ static struct judged judge(const uint8_t *stretch, size_t length, const uint8_t 
 }
 
 /* The bytes between the marks are the ones that the writer makes for this line. */
-static void check_rewritten(const struct judged *j, const uint8_t *its_key, const uint8_t *its_font, const uint8_t *stretch,
-                            size_t length)
+static void check_rewritten(const struct judged *j, const struct told *told, const uint8_t *stretch, size_t length)
 {
     uint8_t frame[LUBDHVANI_FRAME];
     size_t frame_length, calls;
-    must(lubdhvani_write(its_key, 16, j->nonce, 12, its_font, 32, j->line, j->length, frame, sizeof frame, &frame_length, &calls) ==
+    must(lubdhvani_write(told->key, 16, j->nonce, 12, told->font, 32, j->line, j->length, frame, sizeof frame, &frame_length, &calls) ==
              LUBDHVANI_DONE,
          "a line given out can be written");
     must(frame_length == length + 2 && memcmp(frame + 1, stretch, length) == 0, "a line is given out only for the writer's bytes");
@@ -289,69 +349,104 @@ static uint8_t *lent_stream(void)
     return stream;
 }
 
-static void read_all(const uint8_t *stream, size_t place, const uint8_t *its_key, const uint8_t *its_font, size_t room)
+/* One answer of the reader; the line stands in the middle of `around`. */
+struct reading {
+    uint32_t number;
+    size_t first, closing, length, calls;
+    uint8_t around[CANARY + LUBDHVANI_LONGEST_LINE + MORE_ROOM + CANARY];
+};
+
+static struct reading read_once(const uint8_t *stream, size_t place, const struct told *told)
 {
-    uint8_t around[CANARY + LUBDHVANI_LONGEST_LINE + 8 + CANARY], *line = around + CANARY;
-    uint32_t before = 15;
+    struct reading r;
+    memset(r.around, 0xA5, sizeof r.around);
+    r.number = lubdhvani_read(stream, built, place, told->key, 16, told->font, 32, r.around + CANARY, told->room, &r.first, &r.closing,
+                              &r.length, &r.calls);
+    for (size_t i = 0; i < sizeof r.around; i++)
+        must((i >= CANARY && i < CANARY + r.length) || r.around[i] == 0xA5, "the reader writes the line only");
+    must(memcmp(stream, building, built) == 0, "the stream stays");
+    must(r.number <= LUBDHVANI_BEYOND, "a number of the table");
+    *(r.length > 0 ? &lines_met : &numbers_met[r.number]) += 1;
+    return r;
+}
 
-    for (;;) {
-        size_t first, closing, length, calls, its_first, its_closing;
-        memset(around, 0xA5, sizeof around);
-        uint32_t number = lubdhvani_read(stream, built, place, its_key, 16, its_font, 32, line, room, &first, &closing, &length,
-                                         &calls);
-        for (size_t i = 0; i < sizeof around; i++)
-            must((i >= CANARY && i < CANARY + length) || around[i] == 0xA5, "the reader writes the line only");
-        must(memcmp(stream, building, built) == 0, "the stream stays");
-        must(number <= LUBDHVANI_BEYOND, "a number of the table");
-        *(length > 0 ? &lines_met : &numbers_met[number]) += 1;
-        met[before * 16 + number]++;
-        before = number;
+/* What the call must be refused with; 0 if it must not. */
+static uint32_t refusal(size_t place, size_t room)
+{
+    return built > LUBDHVANI_LONGEST_INPUT ? LUBDHVANI_TOO_LONG
+           : room < LUBDHVANI_LONGEST_LINE ? LUBDHVANI_NO_ROOM
+           : place > built                 ? LUBDHVANI_BEYOND
+                                           : 0;
+}
 
-        uint32_t refused = built > LUBDHVANI_LONGEST_INPUT  ? LUBDHVANI_TOO_LONG
-                           : room < LUBDHVANI_LONGEST_LINE ? LUBDHVANI_NO_ROOM
-                           : place > built                 ? LUBDHVANI_BEYOND
-                                                           : 0;
+static void check_end(const uint8_t *stream, size_t place, const struct reading *r)
+{
+    must(r->number == LUBDHVANI_DONE && r->closing == built && r->length == 0 && r->calls == 0, "the end of the stream");
+    for (size_t i = place, run = 0, opened = 0; i < built; i++) {
+        must(!(opened && run > 0 && stream[i] == MARK), "no stretch is passed over at the end");
+        run = stream[i] == MARK ? 0 : run + 1;
+        opened |= stream[i] == MARK;
+    }
+}
+
+static void check_places(const uint8_t *stream, size_t place, const struct reading *r)
+{
+    must(place < r->first && r->first < r->closing && r->closing < built, "places go up");
+    must(stream[r->first - 1] == MARK && stream[r->closing] == MARK, "a stretch stands between marks");
+    must(memchr(stream + r->first, MARK, r->closing - r->first) == NULL, "it holds none");
+    for (size_t i = place + 1, opened = stream[place] == MARK; i < r->first - 1; i++) {
+        must(!(opened && stream[i] != MARK), "no stretch is passed over");
+        opened |= stream[i] == MARK;
+    }
+}
+
+static void check_judged(const uint8_t *stream, const struct told *told, const struct reading *r)
+{
+    const size_t length = r->closing - r->first;
+    const struct judged j = judge(stream + r->first, length, told);
+    must(r->number == j.number && r->length == j.length && r->calls == j.calls, "the answer is the one its rules give");
+    must(memcmp(r->around + CANARY, j.line, r->length) == 0, "the line is the one that was sealed");
+    if (r->length > 0) {
+        check_rewritten(&j, told, stream + r->first, length);
+        met[MET_LINES + r->length]++;
+    }
+    met[MET_STRETCHES + (length > MET_LONGEST ? MET_LONGEST : length)]++;
+}
+
+/* Read alone, with nothing before its opening mark, a stretch is the same. */
+static void check_alone(const uint8_t *stream, const struct told *told, const struct reading *r)
+{
+    uint8_t line[LUBDHVANI_LONGEST_LINE];
+    size_t first, closing, length, calls;
+    uint32_t number = lubdhvani_read(stream + r->first - 1, built - r->first + 1, 0, told->key, 16, told->font, 32, line, sizeof line,
+                                     &first, &closing, &length, &calls);
+    must(number == r->number && first == 1 && closing == r->closing - r->first + 1 && length == r->length && calls == r->calls &&
+             memcmp(line, r->around + CANARY, length) == 0,
+         "what stands before a mark changes nothing behind it");
+}
+
+static void read_all(const uint8_t *stream, size_t place, const struct told *told)
+{
+    for (uint32_t before = MET_NONE;;) {
+        const struct reading r = read_once(stream, place, told);
+        met[MET_NUMBERS * before + r.number]++;
+        before = r.number;
+
+        const uint32_t refused = refusal(place, told->room);
         if (refused != 0) {
-            must(number == refused && first == place && closing == place && length == 0 && calls == 0, "the call is refused");
+            must(r.number == refused && r.first == place && r.closing == place && r.length == 0 && r.calls == 0, "the call is refused");
             return;
         }
-
-        lubdhvani_next_stretch(stream, built, place, &its_first, &its_closing);
-        must(first == its_first && closing == its_closing, "next_stretch finds the same");
+        size_t first, closing;
+        lubdhvani_next_stretch(stream, built, place, &first, &closing);
+        must(r.first == first && r.closing == closing, "next_stretch finds the same");
         if (first == built) {
-            must(number == LUBDHVANI_DONE && closing == built && length == 0 && calls == 0, "the end of the stream");
-            for (size_t i = place, run = 0, opened = 0; i < built; i++) {
-                must(!(opened && run > 0 && stream[i] == MARK), "no stretch is passed over at the end");
-                run = stream[i] == MARK ? 0 : run + 1;
-                opened |= stream[i] == MARK;
-            }
+            check_end(stream, place, &r);
             return;
         }
-        must(place < first && first < closing && closing < built, "places go up");
-        must(stream[first - 1] == MARK && stream[closing] == MARK, "a stretch stands between marks");
-        must(memchr(stream + first, MARK, closing - first) == NULL, "it holds none");
-        for (size_t i = place + 1, opened = stream[place] == MARK; i < first - 1; i++) {
-            must(!(opened && stream[i] != MARK), "no stretch is passed over");
-            opened |= stream[i] == MARK;
-        }
-
-        struct judged j = judge(stream + first, closing - first, its_key, its_font);
-        must(number == j.number && length == j.length && calls == j.calls, "the answer is the one its rules give");
-        must(memcmp(line, j.line, length) == 0, "the line is the one that was sealed");
-        if (length > 0) {
-            check_rewritten(&j, its_key, its_font, stream + first, closing - first);
-            met[256 + length]++;
-        }
-        met[512 + (closing - first > 300 ? 300 : closing - first)]++;
-
-        /* Read alone, with nothing before it, it is the same. */
-        uint8_t alone[LUBDHVANI_LONGEST_LINE];
-        size_t alone_first, alone_closing, alone_length, alone_calls;
-        uint32_t alone_number = lubdhvani_read(stream + first - 1, built - first + 1, 0, its_key, 16, its_font, 32, alone, sizeof alone,
-                                               &alone_first, &alone_closing, &alone_length, &alone_calls);
-        must(alone_number == number && alone_first == 1 && alone_closing == closing - first + 1 && alone_length == length &&
-                 alone_calls == calls && memcmp(alone, line, length) == 0,
-             "what stands before a mark changes nothing behind it");
+        check_places(stream, place, &r);
+        check_judged(stream, told, &r);
+        check_alone(stream, told, &r);
         place = closing;
     }
 }
@@ -376,14 +471,18 @@ int LLVMFuzzerTestOneInput(const uint8_t *data, size_t size)
     input_left = size;
     built = 0;
 
-    uint8_t told = take();
+    const uint8_t how = take();
     size_t place = take_two();
-    if (told & 0x01)
+    if (how & 0x01)
         append(input, input_left);
     else
         follow_recipe();
-    place = told & 0x02 ? place % (built + 2) : 0;
-    read_all(lent_stream(), place, (told & 0x0C) == 0x0C ? other_key : key, (told & 0x30) == 0x30 ? other_font : font,
-             LUBDHVANI_LONGEST_LINE + ((told & 0xC0) == 0xC0 ? (size_t)-1 : (told & 0xC0) >> 4));
+    place = how & 0x02 ? place % (built + 2) : 0;
+    const struct told told = {
+        (how & 0x0C) == 0x0C ? other_key : key,
+        (how & 0x30) == 0x30 ? other_font : font,
+        (how & 0xC0) == 0xC0 ? LUBDHVANI_LONGEST_LINE - 1 : LUBDHVANI_LONGEST_LINE + (how >> 6) * MORE_ROOM / 2u,
+    };
+    read_all(lent_stream(), place, &told);
     return 0;
 }
