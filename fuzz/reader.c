@@ -9,8 +9,34 @@
 #include <string.h>
 #include <sys/mman.h>
 
-/* MOST is the longest stream made here, MORE_ROOM what a line buffer has at most beyond the longest line. */
-enum { MARK = 0x7E, ESCAPE = 0x7D, PAGE = 4096, CANARY = 64, MOST = LUBDHVANI_LONGEST_INPUT + 1, MORE_ROOM = 8 };
+/* ESCAPED is what is XORed into a byte behind an escape, UNTOUCHED what stands in a buffer before a call, MOST the longest stream made
+ * here, MORE_ROOM what a line buffer has at most beyond the longest line. */
+enum {
+    MARK = 0x7E,
+    ESCAPE = 0x7D,
+    ESCAPED = 0x20,
+    UNTOUCHED = 0xA5,
+    PAGE = 4096,
+    CANARY = 64,
+    MOST = LUBDHVANI_LONGEST_INPUT + 1,
+    MORE_ROOM = 8
+};
+
+/* A body is four fields, each a head (tag, then length with the high byte first) and a value. Here are the places of fields 02 and 03
+ * and of what is in the first three. Field 02 whole is the associated data; a body has BESIDE_LINE bytes besides the line's; sealing and
+ * opening take CALLS calls and one for each byte of the line. */
+enum {
+    HEAD = 3,
+    NONCE_AT = HEAD,
+    FIELD_2 = NONCE_AT + LUBDHVANI_NONCE,
+    FONT_AT = FIELD_2 + HEAD,
+    FIELD_3 = FONT_AT + LUBDHVANI_DIGEST,
+    LINE_AT = FIELD_3 + HEAD,
+    ASSOCIATED = FIELD_3 - FIELD_2,
+    BESIDE_LINE = LINE_AT + HEAD + LUBDHVANI_SEAL,
+    LONGEST_BODY = BESIDE_LINE + LUBDHVANI_LONGEST_LINE,
+    CALLS = ASSOCIATED + 4
+};
 
 /* libFuzzer keeps an input that moves one of these: what the answers were, since the library itself has no counters. First each number
  * after each other number or none, then the lengths of lines, then those of stretches, the longest all as one. */
@@ -86,7 +112,7 @@ static void append_framed(const uint8_t *body, size_t length)
     static const uint8_t mark = MARK;
     append(&mark, 1);
     for (size_t i = 0; i < length; i++) {
-        const uint8_t pair[2] = {ESCAPE, body[i] ^ 0x20};
+        const uint8_t pair[2] = {ESCAPE, body[i] ^ ESCAPED};
         if (body[i] == MARK || body[i] == ESCAPE)
             append(pair, 2);
         else
@@ -95,20 +121,29 @@ static void append_framed(const uint8_t *body, size_t length)
     append(&mark, 1);
 }
 
+/* A field's tag and length. */
+static void put_head(uint8_t *at, uint8_t tag, size_t length)
+{
+    at[0] = tag;
+    at[1] = (uint8_t)(length >> 8);
+    at[2] = (uint8_t)length;
+}
+
 /* A body with everything as it must be but for its line, which may hold any bytes. */
-static size_t sealed_body(const uint8_t nonce[LUBDHVANI_NONCE], const uint8_t *line, size_t n, uint8_t body[137])
+static size_t sealed_body(const uint8_t nonce[LUBDHVANI_NONCE], const uint8_t *line, size_t n, uint8_t body[LONGEST_BODY])
 {
     size_t calls;
-    memcpy(body, (const uint8_t[]){1, 0, LUBDHVANI_NONCE}, 3);
-    memcpy(body + 3, nonce, LUBDHVANI_NONCE);
-    memcpy(body + 15, (const uint8_t[]){2, 0, LUBDHVANI_DIGEST}, 3);
-    memcpy(body + 18, font, LUBDHVANI_DIGEST);
-    memcpy(body + 50, (const uint8_t[]){3, 0, (uint8_t)n}, 3);
-    memcpy(body + 53 + n, (const uint8_t[]){4, 0, LUBDHVANI_SEAL}, 3);
-    must(lubdhvani_seal(key, 16, nonce, 12, body + 15, 35, line, n, body + 53, n, body + 56 + n, 16, &calls) == LUBDHVANI_DONE,
+    put_head(body, 1, LUBDHVANI_NONCE);
+    memcpy(body + NONCE_AT, nonce, LUBDHVANI_NONCE);
+    put_head(body + FIELD_2, 2, LUBDHVANI_DIGEST);
+    memcpy(body + FONT_AT, font, LUBDHVANI_DIGEST);
+    put_head(body + FIELD_3, 3, n);
+    put_head(body + LINE_AT + n, 4, LUBDHVANI_SEAL);
+    must(lubdhvani_seal(key, LUBDHVANI_KEY, nonce, LUBDHVANI_NONCE, body + FIELD_2, ASSOCIATED, line, n, body + LINE_AT, n,
+                        body + LINE_AT + n + HEAD, LUBDHVANI_SEAL, &calls) == LUBDHVANI_DONE,
          "a line is sealed");
-    must(calls == n + 39, "the calls of sealing a line");
-    return 72 + n;
+    must(calls == n + CALLS, "the calls of sealing a line");
+    return BESIDE_LINE + n;
 }
 
 /* The writer, with room just enough or more; what it wrote is read back alone. */
@@ -117,21 +152,23 @@ static void write_line(const uint8_t *its_key, const uint8_t *its_font, const ui
 {
     uint8_t frame[LUBDHVANI_FRAME + CANARY], back[LUBDHVANI_LONGEST_LINE];
     size_t length, calls, first, closing, line_length;
-    memset(frame, 0xA5, sizeof frame);
-    uint32_t number = lubdhvani_write(its_key, 16, nonce, 12, its_font, 32, line, n, frame, LUBDHVANI_FRAME, &length, &calls);
+    memset(frame, UNTOUCHED, sizeof frame);
+    uint32_t number = lubdhvani_write(its_key, LUBDHVANI_KEY, nonce, LUBDHVANI_NONCE, its_font, LUBDHVANI_DIGEST, line, n, frame,
+                                      LUBDHVANI_FRAME, &length, &calls);
 
     uint32_t expected = n < 1 || n > LUBDHVANI_LONGEST_LINE ? LUBDHVANI_TOO_LONG
                         : !all_listed(line, n)              ? LUBDHVANI_UNLISTED
                                                             : LUBDHVANI_DONE;
     must(number == expected, "the writer's number");
-    must(number == LUBDHVANI_DONE ? calls == n + 39 && length >= n + 74 && length <= LUBDHVANI_FRAME : calls == 0 && length == 0,
+    must(number == LUBDHVANI_DONE ? calls == n + CALLS && length >= BESIDE_LINE + n + 2 && length <= LUBDHVANI_FRAME
+                                  : calls == 0 && length == 0,
          "the writer's length and calls");
     for (size_t i = length; i < sizeof frame; i++)
-        must(frame[i] == 0xA5, "the writer writes the frame only");
+        must(frame[i] == UNTOUCHED, "the writer writes the frame only");
     if (number != LUBDHVANI_DONE)
         return;
-    must(lubdhvani_read(frame, length, 0, its_key, 16, its_font, 32, back, sizeof back, &first, &closing, &line_length, &calls) ==
-                 LUBDHVANI_DONE &&
+    must(lubdhvani_read(frame, length, 0, its_key, LUBDHVANI_KEY, its_font, LUBDHVANI_DIGEST, back, sizeof back, &first, &closing,
+                        &line_length, &calls) == LUBDHVANI_DONE &&
              first == 1 && closing == length - 1 && line_length == n && memcmp(back, line, n) == 0,
          "a line that was written is read");
     append(frame, length);
@@ -198,7 +235,7 @@ static void append_written(uint8_t order)
 /* A line sealed as it should be; perhaps with one byte of the body changed, or the body cut short. */
 static void append_sealed(uint8_t order)
 {
-    uint8_t nonce[LUBDHVANI_NONCE], line[LUBDHVANI_LONGEST_LINE], body[137];
+    uint8_t nonce[LUBDHVANI_NONCE], line[LUBDHVANI_LONGEST_LINE], body[LONGEST_BODY];
     take_nonce(nonce);
     size_t n = 1 + take() % LUBDHVANI_LONGEST_LINE;
     take_line(line, n, order & 0x10);
@@ -273,23 +310,29 @@ static int unstuffed(const uint8_t *stretch, size_t length, uint8_t body[LUBDHVA
     for (size_t i = 0; i < length; i++) {
         if (stretch[i] != ESCAPE)
             body[(*n)++] = stretch[i];
-        else if (++i < length && (stretch[i] == (MARK ^ 0x20) || stretch[i] == (ESCAPE ^ 0x20)))
-            body[(*n)++] = stretch[i] ^ 0x20;
+        else if (++i < length && (stretch[i] == (MARK ^ ESCAPED) || stretch[i] == (ESCAPE ^ ESCAPED)))
+            body[(*n)++] = stretch[i] ^ ESCAPED;
         else
             return 0;
     }
     return 1;
 }
 
+static int is_head(const uint8_t *at, uint8_t tag, size_t length)
+{
+    uint8_t head[HEAD];
+    put_head(head, tag, length);
+    return memcmp(at, head, sizeof head) == 0;
+}
+
 /* The four fields stand in the body with their tags and lengths, and nothing behind them. */
 static int has_fields(const uint8_t *body, size_t n)
 {
-    if (n < 73 || n > 137)
+    if (n <= BESIDE_LINE || n > LONGEST_BODY)
         return 0;
-    const size_t line = n - 72;
-    return memcmp(body, (const uint8_t[]){1, 0, 12}, 3) == 0 && memcmp(body + 15, (const uint8_t[]){2, 0, 32}, 3) == 0 &&
-           memcmp(body + 50, (const uint8_t[]){3, 0, (uint8_t)line}, 3) == 0 &&
-           memcmp(body + 53 + line, (const uint8_t[]){4, 0, 16}, 3) == 0;
+    const size_t line = n - BESIDE_LINE;
+    return is_head(body, 1, LUBDHVANI_NONCE) && is_head(body + FIELD_2, 2, LUBDHVANI_DIGEST) && is_head(body + FIELD_3, 3, line) &&
+           is_head(body + LINE_AT + line, 4, LUBDHVANI_SEAL);
 }
 
 static struct judged judge(const uint8_t *stretch, size_t length, const struct told *told)
@@ -306,14 +349,14 @@ static struct judged judge(const uint8_t *stretch, size_t length, const struct t
     }
     if (!has_fields(body, n))
         return j;
-    if (memcmp(body + 18, told->font, LUBDHVANI_DIGEST) != 0) {
+    if (memcmp(body + FONT_AT, told->font, LUBDHVANI_DIGEST) != 0) {
         j.number = LUBDHVANI_OTHER_FONT;
         return j;
     }
-    const size_t line = n - 72;
-    memcpy(j.nonce, body + 3, sizeof j.nonce);
-    j.number = lubdhvani_open(told->key, 16, body + 3, 12, body + 15, 35, body + 53, line, body + 56 + line, 16, j.line, sizeof j.line,
-                              &j.calls);
+    const size_t line = n - BESIDE_LINE;
+    memcpy(j.nonce, body + NONCE_AT, sizeof j.nonce);
+    j.number = lubdhvani_open(told->key, LUBDHVANI_KEY, body + NONCE_AT, LUBDHVANI_NONCE, body + FIELD_2, ASSOCIATED, body + LINE_AT, line,
+                              body + LINE_AT + line + HEAD, LUBDHVANI_SEAL, j.line, sizeof j.line, &j.calls);
     must(j.number == LUBDHVANI_DONE || j.number == LUBDHVANI_BAD_SEAL, "a ciphertext is opened or its seal is wrong");
     for (size_t i = j.number == LUBDHVANI_DONE ? line : 0; i < sizeof j.line; i++)
         must(j.line[i] == 0, "nothing is left of a message whose seal is wrong, and nothing stands behind one that was opened");
@@ -329,8 +372,8 @@ static void check_rewritten(const struct judged *j, const struct told *told, con
 {
     uint8_t frame[LUBDHVANI_FRAME];
     size_t frame_length, calls;
-    must(lubdhvani_write(told->key, 16, j->nonce, 12, told->font, 32, j->line, j->length, frame, sizeof frame, &frame_length, &calls) ==
-             LUBDHVANI_DONE,
+    must(lubdhvani_write(told->key, LUBDHVANI_KEY, j->nonce, LUBDHVANI_NONCE, told->font, LUBDHVANI_DIGEST, j->line, j->length, frame,
+                         sizeof frame, &frame_length, &calls) == LUBDHVANI_DONE,
          "a line given out can be written");
     must(frame_length == length + 2 && memcmp(frame + 1, stretch, length) == 0, "a line is given out only for the writer's bytes");
 }
@@ -359,11 +402,11 @@ struct reading {
 static struct reading read_once(const uint8_t *stream, size_t place, const struct told *told)
 {
     struct reading r;
-    memset(r.around, 0xA5, sizeof r.around);
-    r.number = lubdhvani_read(stream, built, place, told->key, 16, told->font, 32, r.around + CANARY, told->room, &r.first, &r.closing,
-                              &r.length, &r.calls);
+    memset(r.around, UNTOUCHED, sizeof r.around);
+    r.number = lubdhvani_read(stream, built, place, told->key, LUBDHVANI_KEY, told->font, LUBDHVANI_DIGEST, r.around + CANARY, told->room,
+                              &r.first, &r.closing, &r.length, &r.calls);
     for (size_t i = 0; i < sizeof r.around; i++)
-        must((i >= CANARY && i < CANARY + r.length) || r.around[i] == 0xA5, "the reader writes the line only");
+        must((i >= CANARY && i < CANARY + r.length) || r.around[i] == UNTOUCHED, "the reader writes the line only");
     must(memcmp(stream, building, built) == 0, "the stream stays");
     must(r.number <= LUBDHVANI_BEYOND, "a number of the table");
     *(r.length > 0 ? &lines_met : &numbers_met[r.number]) += 1;
@@ -418,8 +461,8 @@ static void check_alone(const uint8_t *stream, const struct told *told, const st
 {
     uint8_t line[LUBDHVANI_LONGEST_LINE];
     size_t first, closing, length, calls;
-    uint32_t number = lubdhvani_read(stream + r->first - 1, built - r->first + 1, 0, told->key, 16, told->font, 32, line, sizeof line,
-                                     &first, &closing, &length, &calls);
+    uint32_t number = lubdhvani_read(stream + r->first - 1, built - r->first + 1, 0, told->key, LUBDHVANI_KEY, told->font,
+                                     LUBDHVANI_DIGEST, line, sizeof line, &first, &closing, &length, &calls);
     must(number == r->number && first == 1 && closing == r->closing - r->first + 1 && length == r->length && calls == r->calls &&
              memcmp(line, r->around + CANARY, length) == 0,
          "what stands before a mark changes nothing behind it");
@@ -459,8 +502,8 @@ int LLVMFuzzerInitialize(int *argc, char ***argv)
         key[i] = other_key[i] = (uint8_t)(0x10 + i);
     for (size_t i = 0; i < sizeof font; i++)
         font[i] = other_font[i] = (uint8_t)(0x70 + i); /* 7D and 7E are among them */
-    other_key[15] ^= 0x01;
-    other_font[31] ^= 0x80;
+    other_key[sizeof key - 1] ^= 0x01;
+    other_font[sizeof font - 1] ^= 0x80;
     atexit(print_met);
     return 0;
 }
