@@ -12,52 +12,56 @@
 enum { OURS, MOD, WRAP, VERSIONS };
 static const char *const version_name[VERSIONS] = {"ours", "mod", "wrap"};
 
-static uint8_t message[65536], out[65536], stream[65536], tag[16], line[65], key[16], nonce[12], font[32];
+/* The smallest state is the cipher's and hash instance 1's. The associated data of a line is the font's field: tag, length, digest. */
+enum { MARK = 0x7E, SMALLEST_STATE = 29, FONT_FIELD = 3 + LUBDHVANI_DIGEST };
+
+static uint8_t message[LUBDHVANI_LONGEST_INPUT], out[LUBDHVANI_LONGEST_INPUT], stream[LUBDHVANI_LONGEST_INPUT];
+static uint8_t key[LUBDHVANI_KEY], nonce[LUBDHVANI_NONCE], font[LUBDHVANI_DIGEST], seal[LUBDHVANI_SEAL], line[LUBDHVANI_LONGEST_LINE];
 static size_t calls, stream_length, digested = sizeof message;
 
-static void permute(int who, size_t n)
+static void permute(int who, size_t size)
 {
-    static uint8_t s[72];
+    static uint8_t state[LUBDHVANI_LARGEST_STATE];
     if (who == OURS)
-        lubdhvani_permute(s, n);
+        lubdhvani_permute(state, size);
     else if (who == MOD)
-        plain_mod_permute(s, n);
+        plain_mod_permute(state, size);
     else
-        plain_wrap_permute(s, n);
+        plain_wrap_permute(state, size);
 }
 
 static void digest(int who, unsigned instance)
 {
     if (who == OURS)
-        lubdhvani_digest(instance, message, digested, out, 32, &calls);
+        lubdhvani_digest(instance, message, digested, out, LUBDHVANI_DIGEST, &calls);
     else if (who == MOD)
         plain_mod_digest(instance, message, digested, out);
     else
         plain_wrap_digest(instance, message, digested, out);
 }
 
-static void seal(int who, size_t a, size_t p)
+static void seal_text(int who, size_t length)
 {
     if (who == OURS)
-        lubdhvani_seal(key, 16, nonce, 12, message, a, message, p, out, p, tag, 16, &calls);
+        lubdhvani_seal(key, sizeof key, nonce, sizeof nonce, message, FONT_FIELD, message, length, out, length, seal, sizeof seal, &calls);
     else if (who == MOD)
-        plain_mod_seal(key, nonce, message, a, message, p, out, tag);
+        plain_mod_seal(key, nonce, message, FONT_FIELD, message, length, out, seal);
     else
-        plain_wrap_seal(key, nonce, message, a, message, p, out, tag);
+        plain_wrap_seal(key, nonce, message, FONT_FIELD, message, length, out, seal);
 }
 
-static void permute_29(int who) { permute(who, 29); }
-static void permute_72(int who) { permute(who, 72); }
+static void permute_smallest(int who) { permute(who, SMALLEST_STATE); }
+static void permute_largest(int who) { permute(who, LUBDHVANI_LARGEST_STATE); }
 static void digest_1(int who) { digest(who, 1); }
 static void digest_8(int who) { digest(who, 8); }
-static void seal_line(int who) { seal(who, 35, 65); }
-static void seal_4096(int who) { seal(who, 35, 4096); }
+static void seal_line(int who) { seal_text(who, LUBDHVANI_LONGEST_LINE); }
+static void seal_longest(int who) { seal_text(who, LUBDHVANI_LONGEST_TEXT); }
 
 static const struct {
     const char *name;
     void (*run)(int who);
-} work[] = {{"permute-29", permute_29}, {"permute-72", permute_72}, {"digest-1", digest_1},
-            {"digest-8", digest_8}, {"seal-65", seal_line},   {"seal-4096", seal_4096}};
+} work[] = {{"permute-29", permute_smallest}, {"permute-72", permute_largest}, {"digest-1", digest_1},
+            {"digest-8", digest_8},           {"seal-65", seal_line},          {"seal-4096", seal_longest}};
 enum { WORKS = sizeof work / sizeof work[0] };
 
 static double now(void)
@@ -85,22 +89,24 @@ static double timed(void (*run)(int), int who)
     return best;
 }
 
-/* Streams of good frames, of frames with one byte changed, and of marks only. */
-static void fill_frames(size_t length, int damaged)
+enum kind { GOOD, DAMAGED, MARKS };
+
+/* Good frames one after another, or each with one byte changed, up to a length. */
+static void fill_frames(size_t length, enum kind kind)
 {
-    uint8_t frame[276];
+    static const char order[] = "A123456789A 0123456789C 0000012345B";
+    uint8_t frame[LUBDHVANI_FRAME];
     size_t at = 0, n;
     for (unsigned k = 0; at < length; k++) {
         nonce[0] = (uint8_t)k;
         nonce[1] = (uint8_t)(k >> 8);
-        lubdhvani_write(key, 16, nonce, 12, font, 32, (const uint8_t *)"A123456789A 0123456789C 0000012345B", 35, frame, sizeof frame, &n,
-                        &calls);
-        if (damaged)
+        lubdhvani_write(key, sizeof key, nonce, sizeof nonce, font, sizeof font, (const uint8_t *)order, sizeof order - 1, frame,
+                        sizeof frame, &n, &calls);
+        if (kind == DAMAGED)
             frame[n / 2] ^= 0x01;
         for (size_t i = 0; i < n && at < length; i++)
             stream[at++] = frame[i];
     }
-    stream_length = length;
 }
 
 static void read_all(int who)
@@ -108,44 +114,43 @@ static void read_all(int who)
     size_t at = 0, first, closing, length;
     (void)who;
     do {
-        lubdhvani_read(stream, stream_length, at, key, 16, font, 32, line, sizeof line, &first, &closing, &length, &calls);
+        lubdhvani_read(stream, stream_length, at, key, sizeof key, font, sizeof font, line, sizeof line, &first, &closing, &length, &calls);
         at = closing;
     } while (first < stream_length);
 }
 
-static void reading(const char *what, int kind)
+static void reading(const char *what, enum kind kind)
 {
     printf("| reading %s |", what);
-    for (size_t kib = 8; kib <= 64; kib *= 2) {
-        if (kind == 2) {
-            memset(stream, 0x7E, kib * 1024);
-            stream_length = kib * 1024;
-        } else {
-            fill_frames(kib * 1024, kind);
-        }
+    for (size_t kib = 8; kib <= sizeof stream / 1024; kib *= 2) {
+        stream_length = kib * 1024;
+        if (kind == MARKS)
+            memset(stream, MARK, stream_length);
+        else
+            fill_frames(stream_length, kind);
         printf(" %.1f |", timed(read_all, OURS) / (double)stream_length);
     }
     printf("\n");
 }
 
-int main(int count, char **word)
+static void print_works(void)
 {
-    for (size_t i = 0; i < sizeof message; i++)
-        message[i] = (uint8_t)(7 * i);
-    if (count == 2 && strcmp(word[1], "works") == 0) {
-        for (int w = 0; w < WORKS; w++)
-            puts(work[w].name);
-        return 0;
-    }
-    if (count == 5 && strcmp(word[1], "one") == 0) {
-        digested = 1024; /* enough for counting: the instructions of a digest grow with its blocks */
-        for (int w = 0; w < WORKS; w++)
-            for (int v = 0; v < VERSIONS; v++)
-                if (strcmp(word[2], work[w].name) == 0 && strcmp(word[3], version_name[v]) == 0)
-                    for (long n = atol(word[4]); n > 0; n--)
-                        work[w].run(v);
-        return 0;
-    }
+    for (int w = 0; w < WORKS; w++)
+        puts(work[w].name);
+}
+
+static void run_one(const char *name, const char *who, long times)
+{
+    digested = 1024; /* enough for counting: the instructions of a digest grow with its blocks */
+    for (int w = 0; w < WORKS; w++)
+        for (int v = 0; v < VERSIONS; v++)
+            if (strcmp(name, work[w].name) == 0 && strcmp(who, version_name[v]) == 0)
+                for (long n = times; n > 0; n--)
+                    work[w].run(v);
+}
+
+static void print_tables(void)
+{
     printf("| work | ours, ns | C with %%, ns | C with a wrapped copy, ns | ours / better C |\n|---|---|---|---|---|\n");
     for (int w = 0; w < WORKS; w++) {
         double t[VERSIONS];
@@ -155,8 +160,20 @@ int main(int count, char **word)
                t[OURS] / (t[MOD] < t[WRAP] ? t[MOD] : t[WRAP]));
     }
     printf("\n| ns a byte of a stream of | 8 KiB | 16 KiB | 32 KiB | 64 KiB |\n|---|---|---|---|---|\n");
-    reading("good frames", 0);
-    reading("damaged frames", 1);
-    reading("marks only", 2);
+    reading("good frames", GOOD);
+    reading("damaged frames", DAMAGED);
+    reading("marks only", MARKS);
+}
+
+int main(int count, char **word)
+{
+    for (size_t i = 0; i < sizeof message; i++)
+        message[i] = (uint8_t)(7 * i);
+    if (count == 2 && strcmp(word[1], "works") == 0)
+        print_works();
+    else if (count == 5 && strcmp(word[1], "one") == 0)
+        run_one(word[2], word[3], atol(word[4]));
+    else
+        print_tables();
     return 0;
 }
