@@ -8,7 +8,7 @@ use lib.ListN.{length, replicate}
 use Rattle.cells.specs.Cells.{table, cells, bytes, follow, substitute}
 use Rattle.sponge.specs.Padding.{padded, blockCount}
 use Rattle.sponge.specs.Blocks.{length-padded}
-use Rattle.digest.specs.Instances.{HASH, bitRate, rateOf}
+use Rattle.digest.specs.Instances.{DIGEST-BITS, bitRate, rateOf}
 use Rattle.digest.specs.Hashing.{digestCalls}
 use Rattle.digest.specs.Calls.{digest-calls}
 
@@ -44,5 +44,5 @@ padding n m e = (ap (λ (l : ℕ). l / 4 + 1) e, length-padded 4 m (omega arith)
 abbrev pub Calls : ℕ → ℕ → ℕ → Type 0
 Calls i n k = (m : List ℕ) → length m ≡ n → digestCalls i m ≡ k
 
-pub calls : (i n : ℕ) → Calls i n (n / rateOf i + 1 + HASH / bitRate i)
-calls i n m e = digest-calls i m ∙ ap (λ (l : ℕ). l / rateOf i + 1 + HASH / bitRate i) e
+pub calls : (i n : ℕ) → Calls i n (n / rateOf i + 1 + DIGEST-BITS / bitRate i)
+calls i n m e = digest-calls i m ∙ ap (λ (l : ℕ). l / rateOf i + 1 + DIGEST-BITS / bitRate i) e

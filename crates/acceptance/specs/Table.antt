@@ -4,7 +4,7 @@ use mathlib.Core.List.{List, [], _∷_}
 use Prim.Native.Nat.{ℕ, suc}
 use lib.ListN.{replicate, set, take}
 use Rattle.cells.specs.Cells.{star, table, cells, bytes, follow, substitute}
-use Rattle.shuffling.specs.Shuffling.{listed, weighed, shuffledByte, shuffle}
+use Rattle.shuffling.specs.Shuffling.{tabled, weighed, shuffledByte, shuffle}
 use Rattle.digest.specs.Instances.{bitRate, rateOf}
 use Rattle.acceptance.specs.Rows as rows
 use Rattle.acceptance.specs.Rows.{Padding, Calls, padding, calls}
@@ -33,7 +33,7 @@ pub record Accepted : Type 0 where
   pub calls-8-16 : Calls 8 16 4
 
 pub acceptance : Accepted
-unfolding substitute cells bytes follow shuffle shuffledByte weighed listed rateOf bitRate
+unfolding substitute cells bytes follow shuffle shuffledByte weighed tabled rateOf bitRate
 acceptance = record {
   one-by-two = refl;
   zeros-by-zero = rows.zeros-by-zero;

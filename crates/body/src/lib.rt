@@ -15,14 +15,14 @@ pub const CIPHER_TAG: u8 = 0x03;
 
 pub const SEAL_TAG: u8 = 0x04;
 
-// The lengths of their values in bytes (document 01); a line ciphertext has SHORTEST to LONGEST, as a line has.
+// The lengths of their values in bytes (document 01); a line ciphertext has SHORTEST_LINE to LONGEST_LINE, as a line has.
 pub const NONCE_LENGTH: usize = 12;
 
 pub const DIGEST_LENGTH: usize = 32;
 
-pub const SHORTEST: usize = 1;
+pub const SHORTEST_LINE: usize = 1;
 
-pub const LONGEST: usize = line::LONGEST;
+pub const LONGEST_LINE: usize = line::LONGEST;
 
 pub const SEAL_LENGTH: usize = 16;
 
@@ -47,7 +47,7 @@ pub const ASSOCIATED_LENGTH: usize = HEAD_LENGTH + DIGEST_LENGTH;
 // How many bytes a body has beside the line ciphertext; and the longest body.
 pub const BESIDE_CIPHER: usize = CIPHER_AT + HEAD_LENGTH + SEAL_LENGTH;
 
-pub const LONGEST_BODY: usize = BESIDE_CIPHER + LONGEST;
+pub const LONGEST_BODY: usize = BESIDE_CIPHER + LONGEST_LINE;
 
 // What some bytes are as a body.
 pub enum Judged {
@@ -65,7 +65,7 @@ pub fn rule_takes(tag: u8, n: usize) -> bool
         NONCE_TAG => n == NONCE_LENGTH,
         DIGEST_TAG => n == DIGEST_LENGTH,
         CIPHER_TAG => match n {
-            SHORTEST..=LONGEST => true,
+            SHORTEST_LINE..=LONGEST_LINE => true,
             _ => false,
         },
         SEAL_TAG => n == SEAL_LENGTH,

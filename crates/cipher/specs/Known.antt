@@ -7,7 +7,7 @@ use Prim.Native.Nat.{ℕ}
 use Rattle.lists.specs.Buffers.{same}
 use Rattle.lists.specs.Sameness.{same-eq}
 use Rattle.cells.specs.Cells.{cells, bytes, follow, substitute}
-use Rattle.shuffling.specs.Shuffling.{listed, weighed, shuffledByte, shuffle}
+use Rattle.shuffling.specs.Shuffling.{tabled, weighed, shuffledByte, shuffle}
 use Rattle.gage.specs.Permutation.{leaders, turns, permuteBy, permute}
 use Rattle.sponge.specs.Padding.{padded, block}
 use Rattle.sponge.specs.Absorbing.{xored}
@@ -29,7 +29,7 @@ known = 0xF3 ∷ 0x12 ∷ 0x44 ∷ 0x7D ∷ 0xDD ∷ 0xCF ∷ 0x17 ∷ 0x5A ∷ 
 
 -- compared byte by byte, so that a wrong definition is found out at its first wrong byte
 tested : same (answer .text ++ answer .seal) known ≡ true
-unfolding same encrypted sealOf finished encrypting begun absorbed absorbing associatedBlock started keyed lastXored block padded xored permute permuteBy turns leaders substitute cells bytes follow shuffle shuffledByte weighed listed
+unfolding same encrypted sealOf finished encrypting begun absorbed absorbing associatedBlock started keyed lastXored block padded xored permute permuteBy turns leaders substitute cells bytes follow shuffle shuffledByte weighed tabled
 tested = refl
 
 -- the ciphertext and the seal behind it

@@ -15,7 +15,7 @@ use Rattle.digest.specs.Hashing.{absorbed, squeezed, sponged, digestOf, 
 use Rattle.digest.specs.Shapes.{known-whole}
 use Rattle.digest.specs.Calls.{digest-calls}
 use Rattle.digest.specs.Outputs.{length-digest, squeezed-state}
-use Rattle.digest.specs.Answers.{LIMIT, digestAnswer, digestOut}
+use Rattle.digest.specs.Answers.{LONGEST-MESSAGE, digestAnswer, digestOut}
 use Rattle.digest.specs.Order.{digest-done}
 use Rattle.digest.specs.declared.Digested.{Digested}
 use Rattle.digest.specs.declared.Digested.the-variants.{Done}
@@ -41,7 +41,7 @@ unfolding outputsOf
 counted i m e = ap Done (sym (digest-calls i m)) ∙ sym e
 
 -- the last return: the shape of the instance, the state, what was given out of it, and its copy
-pub finished : (i : ℕ) (m o : List ℕ) {n R k : ℕ} (s : List ℕ) {hash w : List ℕ} → unknown i ≡ false → length m ≤ LIMIT → DIGEST ≤ length o
+pub finished : (i : ℕ) (m o : List ℕ) {n R k : ℕ} (s : List ℕ) {hash w : List ℕ} → unknown i ≡ false → length m ≤ LONGEST-MESSAGE → DIGEST ≤ length o
     → n ≡ sizeOf i → R ≡ rateOf i → k ≡ outputsOf i → take n s ≡ absorbed n R m (blockCount R m) .state
     → hash ≡ squeezed R (from (take n s)) k .hash → w ≡ copied hash o
     → (Done (length m / R + 1 + k) ≡ digestAnswer i m o) × (w ≡ digestOut i m o)
@@ -51,7 +51,7 @@ finished i m o {n} {R} {k} s {hash} {w} e h g n-is R-is k-is taken given put =
     (rw (R-is, k-is) (counted i m (r .0)), rw (put, d) (copied-whole i m o e g ∙ sym (r .1)))
 
 -- the count is far below the machine's largest number
-pub count-fits : (i n : ℕ) → unknown i ≡ false → n ≤ LIMIT → (0 < rateOf i) × (n / rateOf i + outputsOf i ≤ LIMIT + DIGEST)
+pub count-fits : (i n : ℕ) → unknown i ≡ false → n ≤ LONGEST-MESSAGE → (0 < rateOf i) × (n / rateOf i + outputsOf i ≤ LONGEST-MESSAGE + DIGEST)
 count-fits i n e h =
     let w = known-whole i e in
     let some : 0 < rateOf i = w .fits .some in

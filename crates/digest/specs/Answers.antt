@@ -12,14 +12,14 @@ use Rattle.digest.specs.declared.Digested.{Digested}
 use Rattle.digest.specs.declared.Digested.the-variants.{Done, Instance, TooLong, NoRoom}
 
 -- the longest message in bytes (document 01, number 3)
-abbrev pub LIMIT : ℕ
-LIMIT = 65536
+abbrev pub LONGEST-MESSAGE : ℕ
+LONGEST-MESSAGE = 65536
 
 -- the answer for instance i, message m and buffer o
 unfoldable pub digestAnswer : ℕ → List ℕ → List ℕ → Digested
 digestAnswer i m o =
     cond (unknown i) Instance
-    (cond (ltb LIMIT (length m)) TooLong
+    (cond (ltb LONGEST-MESSAGE (length m)) TooLong
     (cond (ltb (length o) DIGEST) NoRoom
     (Done (digestCalls i m))))
 

@@ -6,7 +6,7 @@ use native.Mathlib.Omega.{arith}
 use lib.ListN.{length}
 use Rattle.sponge.specs.Padding.{blockCount}
 use Rattle.sponge.specs.Absorbing.{Run}
-use Rattle.digest.specs.Instances.{HASH, bitRate, sizeOf, rateOf, outputsOf}
+use Rattle.digest.specs.Instances.{DIGEST-BITS, bitRate, sizeOf, rateOf, outputsOf}
 use Rattle.digest.specs.Hashing.{absorbed, squeezed, sponged, digestCalls}
 
 -- one call for each block
@@ -28,6 +28,6 @@ sponged-calls n R k m =
     ∙ ap (λ (x : ℕ). x + k) (absorbed-calls n R m (blockCount R m))
 
 -- floor(m / R) + 1 + 256 / r
-pub digest-calls : (i : ℕ) (m : List ℕ) → digestCalls i m ≡ length m / rateOf i + 1 + HASH / bitRate i
+pub digest-calls : (i : ℕ) (m : List ℕ) → digestCalls i m ≡ length m / rateOf i + 1 + DIGEST-BITS / bitRate i
 unfolding digestCalls outputsOf
-digest-calls i m = sponged-calls (sizeOf i) (rateOf i) (HASH / bitRate i) m
+digest-calls i m = sponged-calls (sizeOf i) (rateOf i) (DIGEST-BITS / bitRate i) m

@@ -10,12 +10,12 @@ use lib.ListN.{length, getD}
 abbrev pub BYTE : ℕ
 BYTE = 8
 
-abbrev pub HASH : ℕ
-HASH = 256
+abbrev pub DIGEST-BITS : ℕ
+DIGEST-BITS = 256
 
 -- the bytes of a digest: 32 (document 01, 'The digest')
 abbrev pub DIGEST : ℕ
-DIGEST = HASH / BYTE
+DIGEST = DIGEST-BITS / BYTE
 
 -- state size b and rate r in bits
 abbrev pub instances : List (List ℕ)
@@ -42,4 +42,4 @@ unfoldable pub rateOf : ℕ → ℕ
 rateOf i = bitRate i / BYTE
 
 unfoldable pub outputsOf : ℕ → ℕ
-outputsOf i = HASH / bitRate i
+outputsOf i = DIGEST-BITS / bitRate i

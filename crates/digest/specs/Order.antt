@@ -8,7 +8,7 @@ use lib.ListN.{length}
 use Rattle.lists.specs.Buffers.{over}
 use Rattle.digest.specs.Instances.{DIGEST, unknown}
 use Rattle.digest.specs.Hashing.{digestOf, digestCalls}
-use Rattle.digest.specs.Answers.{LIMIT, digestAnswer, digestOut}
+use Rattle.digest.specs.Answers.{LONGEST-MESSAGE, digestAnswer, digestOut}
 use Rattle.digest.specs.declared.Digested.the-variants.{Done, Instance, TooLong, NoRoom}
 
 module _ (i : ℕ) (m o : List ℕ) where
@@ -16,16 +16,16 @@ module _ (i : ℕ) (m o : List ℕ) where
   unfolding digestOut digestAnswer
   instance-refused e = rw e (refl, refl)
 
-  pub length-refused : unknown i ≡ false → LIMIT < length m → (digestAnswer i m o ≡ TooLong) × (digestOut i m o ≡ o)
+  pub length-refused : unknown i ≡ false → LONGEST-MESSAGE < length m → (digestAnswer i m o ≡ TooLong) × (digestOut i m o ≡ o)
   unfolding digestOut digestAnswer
-  length-refused e h = rw (e, lt-ltb LIMIT (length m) h) (refl, refl)
+  length-refused e h = rw (e, lt-ltb LONGEST-MESSAGE (length m) h) (refl, refl)
 
-  pub room-refused : unknown i ≡ false → length m ≤ LIMIT → length o < DIGEST
+  pub room-refused : unknown i ≡ false → length m ≤ LONGEST-MESSAGE → length o < DIGEST
       → (digestAnswer i m o ≡ NoRoom) × (digestOut i m o ≡ o)
   unfolding digestOut digestAnswer
-  room-refused e h g = rw (e, le-ltb LIMIT (length m) h, lt-ltb (length o) DIGEST g) (refl, refl)
+  room-refused e h g = rw (e, le-ltb LONGEST-MESSAGE (length m) h, lt-ltb (length o) DIGEST g) (refl, refl)
 
-  pub digest-done : unknown i ≡ false → length m ≤ LIMIT → DIGEST ≤ length o
+  pub digest-done : unknown i ≡ false → length m ≤ LONGEST-MESSAGE → DIGEST ≤ length o
       → (digestAnswer i m o ≡ Done (digestCalls i m)) × (digestOut i m o ≡ over (digestOf i m) o)
   unfolding digestOut digestAnswer
-  digest-done e h g = rw (e, le-ltb LIMIT (length m) h, le-ltb (length o) DIGEST g) (refl, refl)
+  digest-done e h g = rw (e, le-ltb LONGEST-MESSAGE (length m) h, le-ltb (length o) DIGEST g) (refl, refl)

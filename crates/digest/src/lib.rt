@@ -16,17 +16,17 @@ ghost use Rattle.digest.specs.Answers.{digestAnswer, digestOut};
 // The bits of a byte, and of a digest.
 const BYTE: usize = 8;
 
-const HASH: usize = 256;
+const DIGEST_BITS: usize = 256;
 
 // The bytes of a digest, and the longest message in bytes (document 01, 'Numbers returned').
-pub const DIGEST: usize = HASH / BYTE;
+pub const DIGEST: usize = DIGEST_BITS / BYTE;
 
-pub const LIMIT: usize = 65536;
+pub const LONGEST_MESSAGE: usize = 65536;
 
 // Instances 1 to 10, state size b and rate r in bits (document 000, Table 1.4).
-const COUNT: usize = 10;
+const INSTANCE_COUNT: usize = 10;
 
-const INSTANCES: [[usize; 2]; COUNT] = [
+const INSTANCES: [[usize; 2]; INSTANCE_COUNT] = [
     [232, 8],
     [240, 16],
     [256, 32],
@@ -60,7 +60,7 @@ fn is_unknown(instance: usize) -> bool
     if instance < 1 {
         return true;
     }
-    instance > COUNT
+    instance > INSTANCE_COUNT
 }
 
 fn shape_of(instance: usize) -> Shape
@@ -74,7 +74,7 @@ fn shape_of(instance: usize) -> Shape
     Shape {
         size: b / BYTE,
         rate: r / BYTE,
-        outputs: HASH / r,
+        outputs: DIGEST_BITS / r,
     }
 }
 
@@ -133,7 +133,7 @@ pub fn digest(instance: usize, message: &[u8], out: &mut [u8]) -> Digested
     if is_unknown(instance) {
         return Digested::Instance;
     }
-    if message.len() > LIMIT {
+    if message.len() > LONGEST_MESSAGE {
         return Digested::TooLong;
     }
     if out.len() < DIGEST {

@@ -3,7 +3,7 @@
 ghost use mathlib.Core.Path.{_≡_};
 ghost use Prim.Native.Nat.{_<_};
 ghost use lib.ListN.{length};
-use digest::LIMIT;
+use digest::LONGEST_MESSAGE;
 use libc::STDIN_FILENO;
 use libc::STDOUT_FILENO;
 
@@ -12,7 +12,7 @@ const NUMBERS: usize = 3;
 
 const CASE: usize = 4 * NUMBERS;
 
-const LONGEST: usize = LIMIT + 1;
+const LONGEST_CASE: usize = LONGEST_MESSAGE + 1;
 
 const LONGEST_ROOM: usize = 40;
 
@@ -95,10 +95,10 @@ fn one(buffer: &mut [u8]) -> bool {
     true
 }
 
-fn empty() -> [u8; LONGEST]
+fn empty() -> [u8; LONGEST_CASE]
     ensures { λ r. ⌜ 65537 ≡ length r ⌝ }
 {
-    [0; LONGEST]
+    [0; LONGEST_CASE]
 }
 
 fn main() {

@@ -55,7 +55,7 @@ fn length_right(line: &[u8]) -> bool
 {
     let n = line.len();
     match n {
-        body::SHORTEST..=body::LONGEST => true,
+        body::SHORTEST_LINE..=body::LONGEST_LINE => true,
         _ => false,
     }
 }
@@ -68,7 +68,7 @@ fn sealed_body(key: &[u8], nonce: &[u8], font: &[u8], line: &[u8]) -> [u8; body:
 {
     let mut assoc = [0u8; body::ASSOCIATED_LENGTH];
     putting::put_associated(font, &mut assoc);
-    let mut cipher = [0u8; body::LONGEST];
+    let mut cipher = [0u8; body::LONGEST_LINE];
     let mut seal = [0u8; body::SEAL_LENGTH];
     ingage::seal(key, nonce, &assoc, line, &mut cipher, &mut seal);
     let mut out = [0u8; body::LONGEST_BODY];

@@ -6,7 +6,6 @@ use frame::KEY_LENGTH;
 use libc::STDERR_FILENO;
 use libc::STDIN_FILENO;
 use libc::STDOUT_FILENO;
-use line::LONGEST;
 use reader::Reading;
 
 // How the listing stands: where the next reading starts, how many rows were lines and how many refusals, whether it is at its end, and
@@ -133,7 +132,7 @@ fn last_row(t: Tally) -> bool {
 
 // Every stretch of the stream, and the last row. Each reading ends further on, so as many turns as the stream has bytes are enough.
 fn list(stream: &[u8], key: &[u8], font: &[u8]) -> bool {
-    let mut line = [0u8; LONGEST];
+    let mut line = [0u8; line::LONGEST];
     let mut t = Tally {
         next: 0,
         lines: 0,

@@ -17,7 +17,7 @@ use body::CIPHER_AT;
 use body::DIGEST_AT;
 use body::DIGEST_LENGTH;
 use body::HEAD_LENGTH;
-use body::LONGEST;
+use body::LONGEST_LINE;
 use body::NONCE_AT;
 use body::NONCE_LENGTH;
 use body::SEAL_LENGTH;
@@ -121,7 +121,7 @@ fn judge_fields(body: &[u8], key: &[u8], font: &[u8], line: &mut [u8]) -> Answer
     let cipher = &body[CIPHER_AT..CIPHER_AT + n];
     let seal_at = CIPHER_AT + n + HEAD_LENGTH;
     let seal = &body[seal_at..seal_at + SEAL_LENGTH];
-    let mut text = [0u8; LONGEST];
+    let mut text = [0u8; LONGEST_LINE];
     judge_sealed(key, nonce, assoc, cipher, seal, &mut text, line)
 }
 
@@ -168,7 +168,7 @@ pub fn read(stream: &[u8], from: usize, key: &[u8], font: &[u8], line: &mut [u8]
     if stream.len() > LONGEST_STREAM {
         return at(from, Answer::TooLong);
     }
-    if line.len() < LONGEST {
+    if line.len() < LONGEST_LINE {
         return at(from, Answer::NoRoom);
     }
     if from > stream.len() {

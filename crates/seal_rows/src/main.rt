@@ -15,7 +15,7 @@ const NUMBERS: usize = 8;
 
 const HEAD: usize = 4 * NUMBERS;
 
-const LONGEST: usize = 8192;
+const LONGEST_PARTS: usize = 8192;
 
 const LONGEST_ROOM: usize = 5000;
 
@@ -235,7 +235,7 @@ fn one(buffer: &mut [u8]) -> bool {
 }
 
 fn main() {
-    let mut buffer = [0u8; LONGEST];
+    let mut buffer = [0u8; LONGEST_PARTS];
     let mut left: usize = 10000;
     while left > 0 {
         if one(&mut buffer) {

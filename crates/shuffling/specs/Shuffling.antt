@@ -34,9 +34,9 @@ weighed b j [] = 0
 weighed b j (w ∷ ws) = b j * w + weighed b (suc j) ws
 
 -- f i, f (i + 1), .. n of them
-unfoldable pub listed : (ℕ → ℕ) → ℕ → ℕ → List ℕ
-listed f i zero = []
-listed f i (suc n) = f i ∷ listed f (suc i) n
+unfoldable pub tabled : (ℕ → ℕ) → ℕ → ℕ → List ℕ
+tabled f i zero = []
+tabled f i (suc n) = f i ∷ tabled f (suc i) n
 
 -- the byte of eight elements, bit 7 - j of byte j, each at its place; and the byte whose bits stand at their places in eight
 unfoldable pub gathered : List ℕ → ℕ
@@ -50,7 +50,7 @@ unfoldable pub shuffledByte : List ℕ → ℕ → ℕ
 shuffledByte s i = weighed (element s i) 0 weights
 
 unfoldable pub shuffle : List ℕ → List ℕ
-shuffle s = listed (shuffledByte s) 0 (length s)
+shuffle s = tabled (shuffledByte s) 0 (length s)
 
 -- the inverse: element j + 1 of byte k - j comes from byte k, and is read back at its place
 abbrev pub source : List ℕ → ℕ → ℕ → ℕ
@@ -60,7 +60,7 @@ unfoldable pub unshuffledByte : List ℕ → ℕ → ℕ
 unshuffledByte s k = weighed (source s k) 0 origins
 
 unfoldable pub unshuffle : List ℕ → List ℕ
-unshuffle s = listed (unshuffledByte s) 0 (length s)
+unshuffle s = tabled (unshuffledByte s) 0 (length s)
 
 -- r is e with count bytes of s, from the place `from` on, put at the place `place`; what stands behind them may be anything
 pub record Joined (e : List ℕ) (place : ℕ) (s : List ℕ) (from count : ℕ) (r : List ℕ) : Type 0 where

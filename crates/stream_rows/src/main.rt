@@ -17,7 +17,7 @@ const HEAD: usize = 4 * NUMBERS;
 
 const LONGEST_NAME: usize = 64;
 
-const LONGEST: usize = LONGEST_STREAM + 1;
+const LONGEST_CASE: usize = LONGEST_STREAM + 1;
 
 const LONGEST_LINE: usize = 255;
 
@@ -227,10 +227,10 @@ fn one(buffer: &mut [u8]) -> bool {
     named(c, &mut buffer[0..n])
 }
 
-fn empty() -> [u8; LONGEST]
+fn empty() -> [u8; LONGEST_CASE]
     ensures { λ r. ⌜ 65537 ≡ length r ⌝ }
 {
-    [0; LONGEST]
+    [0; LONGEST_CASE]
 }
 
 fn main() {
