@@ -24,7 +24,8 @@ pub fn compose(
         frames: Vec::new(),
         reports: Vec::new(),
     };
-    for (index, order) in rows(orders).iter().enumerate() {
+    let (rows, cut_off) = rows(orders);
+    for (index, order) in rows.iter().enumerate() {
         let (nonce, line) = nonce_and_line(order);
         let mut frame = [0; FRAME_ROOM];
         let answer = write(&key, &nonce, &font, line, &mut frame);
@@ -35,16 +36,19 @@ pub fn compose(
             composed.reports.push(report);
         }
     }
+    if cut_off {
+        let report = format!("row {} cut off, not sealed", rows.len() + 1);
+        composed.reports.push(report);
+    }
     Ok(composed)
 }
 
-/// A row ends at its newline; the last one may lack it.
-fn rows(orders: &[u8]) -> Vec<&[u8]> {
+/// The rows, each of which ends in a newline, and whether something stands
+/// behind the last newline: half an order, which is none.
+fn rows(orders: &[u8]) -> (Vec<&[u8]>, bool) {
     let mut rows: Vec<&[u8]> = orders.split(|&byte| byte == b'\n').collect();
-    if rows.last().map_or(false, |last| last.is_empty()) {
-        rows.pop();
-    }
-    rows
+    let cut_off = rows.pop().map_or(false, |rest| !rest.is_empty());
+    (rows, cut_off)
 }
 
 /// The nonce stands before the first blank and the line after it. What is no
@@ -72,11 +76,13 @@ mod tests {
             \n\
             000102030405060708090a0d\n\
             000102030405060708090a0e 12x\n\
-            000102030405060708090a0f 12";
+            000102030405060708090a0f 12\n\
+            000102030405060708090a10 1";
         let composed = compose(key.clone(), font.clone(), orders).unwrap();
         let reports = ["row 2 refused 2", "row 4 refused 2", "row 5 refused 3"];
         assert_eq!(composed.reports[..3], reports);
-        assert_eq!(composed.reports[3..], ["row 6 refused 9"]);
+        let last = ["row 6 refused 9", "row 8 cut off, not sealed"];
+        assert_eq!(composed.reports[3..], last);
         let listed = listing(key, font, &composed.frames);
         let texts: Vec<&str> = listed
             .lines()
