@@ -12,7 +12,7 @@ use Rattle.line.specs.declared.Judged as line-judged
 use Rattle.line.specs.declared.Judged.the-variants.{Accepted, Unlisted}
 use Rattle.line.specs.Lines.{lineRule}
 use Rattle.cipher.specs.Instances.{first}
-use Rattle.cipher.specs.Cipher.{Work, decrypted}
+use Rattle.cipher.specs.Cipher.{Work, decrypted, accepted}
 use Rattle.body.specs.Fields.{Fields, fields, no-body, fieldsOf, associated}
 use Rattle.framing.specs.Told.{Told}
 use Rattle.judging.specs.Judged.{Judged, shape, stuffing, font, seal, unlisted, line}
@@ -25,7 +25,7 @@ byRule Accepted w = line (w .text) (w .calls)
 -- what opening finds under the seal T: 5, then 9
 abbrev pub judgeWork : Work → List ℕ → Judged
 judgeWork w T =
-    cond (not (same (w .seal) T)) (seal (w .calls))
+    cond (not (accepted (w .seal) T)) (seal (w .calls))
     (byRule (lineRule (w .text)) w)
 
 -- sealed fields are opened under the first instance
