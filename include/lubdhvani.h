@@ -17,7 +17,7 @@
  *  - The library has no state of its own: calls on different buffers may run at the same time. Keys and states that a call works with are
  *    not wiped from the stack.
  *  - Every call runs in LUBDHVANI_STACK bytes of stack. lubdhvani_read needs that much for the longest stretch, which is measured byte by
- *    byte in calls of its own; where it reads a line it needs a third of it, and no other call needs over a sixth.
+ *    byte in calls of its own; where it reads a line it needs under half of it, and no other call needs over a sixth.
  *
  * Link with target/staticlib/liblubdhvani.a, which `rt staticlib lubdhvani` makes.
  */

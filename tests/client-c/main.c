@@ -227,23 +227,32 @@ static void press(void)
     printf("client-c: %d lines sent, %zu printed, %zu stretches refused\n", ORDERS, printed, row - printed);
 }
 
-/* The stack that the header names is enough for the stretches that need the most, whatever is wrong with them. */
+/* The stack that the header names is enough for the stretches that need the most. */
 
 static uint8_t stack[2 * LUBDHVANI_STACK];
 static ucontext_t here, there;
 
-static void read_longest(void)
+/* A stretch of the greatest length, of two bytes again and again and with a last one of its own. */
+static void read_longest(uint8_t even, uint8_t odd, uint8_t last, uint32_t number)
 {
-    static const uint8_t contents[] = {'A', 0x7D, 0x5E};
     uint8_t stream[LUBDHVANI_LONGEST_STRETCH + 2], line[LUBDHVANI_LONGEST_LINE];
-    size_t first, closing, length, calls;
+    size_t first, closing, length, calls, end = sizeof stream - 1;
 
-    for (size_t i = 0; i < sizeof contents; i++) {
-        memset(stream, contents[i], sizeof stream);
-        stream[0] = stream[sizeof stream - 1] = 0x7E;
-        lubdhvani_read(stream, sizeof stream, 0, key, sizeof key, font, sizeof font, line, sizeof line, &first, &closing, &length, &calls);
-        check(first == 1 && closing == sizeof stream - 1 && length == 0, "the longest stretch is refused at its places");
-    }
+    for (size_t i = 1; i < end; i++)
+        stream[i] = i % 2 ? even : odd;
+    stream[end - 1] = last;
+    stream[0] = stream[end] = 0x7E;
+    check(lubdhvani_read(stream, sizeof stream, 0, key, sizeof key, font, sizeof font, line, sizeof line, &first, &closing, &length, &calls)
+              == number, "the longest stretch is refused with its number");
+    check(first == 1 && closing == end && length == 0 && calls == 0, "the longest stretch is refused at its places");
+}
+
+static void read_all_longest(void)
+{
+    read_longest('A', 'A', 'A', LUBDHVANI_BAD_SHAPE);
+    read_longest(0x7D, 0x5E, 0x5E, LUBDHVANI_BAD_SHAPE);
+    read_longest('A', 'A', 0x7D, LUBDHVANI_BAD_STUFFING);
+    read_longest(0x7D, 0x5E, 'A', LUBDHVANI_BAD_STUFFING);
 }
 
 static void check_stack(void)
@@ -253,7 +262,7 @@ static void check_stack(void)
     there.uc_stack.ss_sp = stack + LUBDHVANI_STACK;
     there.uc_stack.ss_size = LUBDHVANI_STACK;
     there.uc_link = &here;
-    makecontext(&there, read_longest, 0);
+    makecontext(&there, read_all_longest, 0);
     swapcontext(&here, &there);
     check(all_are(0xA5, stack, LUBDHVANI_STACK), "a reading keeps within the stack that is asked for");
 }

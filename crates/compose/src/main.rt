@@ -71,6 +71,7 @@ fn nonce_of(text: &[u8], nonce: &mut [u8]) -> bool {
         let Digit::Value(low) = text::value(text[2 * i + 1]) else {
             return false;
         };
+        // A digit's value is below 16; % keeps that in sight.
         nonce[i] = high % 16 * 16 + low % 16;
         i += 1;
     }
@@ -86,7 +87,7 @@ fn send(frame: &[u8], which: u64) -> bool {
     false
 }
 
-// One line under its nonce: its frame on standard output, or its refusal on standard error.
+// One line under its nonce: its frame on standard output, or its refusal on standard error; false where the frame can't be written.
 fn seal_line(line: &[u8], nonce: &[u8], which: u64, key: &[u8], font: &[u8]) -> bool {
     let mut frame = [0u8; frame::FRAME_ROOM];
     let written = frame::write(key, nonce, font, line, &mut frame);

@@ -6,7 +6,7 @@ use mathlib.Core.List.{List, [], _∷_, _++_}
 use Prim.Native.Nat.{ℕ, _+_, _-_, _≤_}
 use native.Mathlib.Numerals.{unary-clauses}
 use native.Mathlib.Omega.{arith}
-use lib.ListN.{length, getD, take, length-append}
+use lib.ListN.{length, take, length-append}
 use lib.Seq.{getD-append-seam}
 use Rattle.lists.specs.Buffers.{over}
 use Rattle.lists.specs.Over.{take-over}

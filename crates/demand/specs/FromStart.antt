@@ -2,11 +2,12 @@
 -- that are equal from a mark on are seen alike behind it. Assumes nothing.
 use mathlib.Core.Path.{_≡_, refl, sym, ap, ap₂, _∙_}
 use mathlib.Core.Bool.{true, false}
-use mathlib.Core.List.{List, [], _∷_, map, head-eq-of-cons-eq, tail-eq-of-cons-eq}
+use mathlib.Core.List.{List, _∷_, map, head-eq-of-cons-eq, tail-eq-of-cons-eq}
 use Prim.Native.Nat.{ℕ, zero, suc, _-_, _≤_}
 use native.Mathlib.Numerals.{unary-clauses}
 use native.Mathlib.Omega.{arith}
 use lib.ListN.{length, take, drop, length-take}
+use Rattle.lists.specs.Never.{never}
 use Rattle.framing.specs.Told.{told}
 use Rattle.reader.specs.declared.Reading.{Reading}
 use Rattle.judging.specs.Sizes.{Sizes}
@@ -46,9 +47,8 @@ ended-counted i (before-end e k) = before-end e (ended-counted i k)
 
 differ : {v w : Seen} → v .ended ≡ true → w .ended ≡ false → v ≡ w → ⊥
 differ a b e =
-    let t : true ≡ false = sym a ∙ ap (λ (v : Seen). v .ended) e ∙ b in
-    let z : _≡_ {A = ℕ} 0 1 = cc t in
-    omega arith
+    let t : false ≡ true = sym b ∙ sym (ap (λ (v : Seen). v .ended) e) ∙ a in
+    never t
 
 -- calls that see the same for as long as both are made end together
 end-together : {x y : List Seen} → Ended x → Ended y → take (length y) x ≡ take (length x) y → x ≡ y

@@ -6,6 +6,7 @@ use mathlib.Core.List.{List, [], _∷_, _++_}
 use Prim.Native.Nat.{ℕ, _≤_}
 use native.Mathlib.Omega.{arith}
 use lib.ListN.{length}
+use Rattle.lists.specs.Never.{never}
 use Rattle.line.specs.Lines.{longest}
 use Rattle.stream.specs.declared.Span.{Span}
 use Rattle.stream.specs.Stretches.{bytesAt, nextSpan, nextStretch}
@@ -19,7 +20,7 @@ use Rattle.judging.specs.Readings.{ends}
 use Rattle.judging.specs.Resync.{Mark}
 use Rattle.judging.specs.Reaching.{UpTo, closes, behind, up-to}
 use Rattle.reader.specs.Answers.{longestStream, Found, call, stretch, found, readingOf, buffer}
-use Rattle.demand.specs.Promises.{Reads, isEnd, Seen, seenFrom, Run, none, next}
+use Rattle.demand.specs.Promises.{Reads, isEnd, Seen, seenFrom, Run, next}
 use Rattle.demand.specs.Resync.{seen-at, sized}
 use Rattle.demand.specs.GivenWritten.{told-sized, found-next}
 
@@ -30,7 +31,7 @@ pub data Ended : List Seen → Type 0 where
 
 -- a call that is not the end is not the last
 not-last : {v : Seen} {rest : List Seen} → Ended (v ∷ rest) → v .ended ≡ false → Ended rest
-not-last (at-end a) b = absurd (let w : true ≡ false = sym a ∙ b in let z : _≡_ {A = ℕ} 0 1 = cc w in omega arith)
+not-last (at-end a) b = never (sym b ∙ a)
 not-last (before-end a k) b = k
 
 -- each closes at place i or before it, places counted from the start

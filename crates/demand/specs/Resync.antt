@@ -1,7 +1,7 @@
 -- The buyer's demand 3, first half, from the promises alone: however many read calls are made from a mark on, each sees the same in two
 -- streams that are equal from there on, with places counted from the mark. Assumes nothing.
 use mathlib.Core.Path.{_≡_, refl, sym, ap, ap₂, _∙_}
-use mathlib.Core.Bool.{Bool, true, false, not, cond}
+use mathlib.Core.Bool.{Bool, true, false, cond}
 use mathlib.Core.List.{List, [], _∷_}
 use Prim.Native.Nat.{ℕ, _-_, _≤_}
 use native.Mathlib.Omega.{arith}

@@ -44,11 +44,11 @@ fn head(place: usize, number: u32) -> bool {
 
 // The line behind its blank.
 fn given(line: &[u8], length: usize) -> bool {
-    if !say(b" ") {
-        return false;
-    }
     // Never: the buffer has room for the longest line.
     if length > line.len() {
+        return false;
+    }
+    if !say(b" ") {
         return false;
     }
     say(&line[0..length])

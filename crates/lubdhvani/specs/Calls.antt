@@ -1,4 +1,4 @@
--- What the C calls answer: document 01's number, and what is lent afterwards. Assumes nothing: these are definitions.
+-- What the two C calls of the permutation answer: document 01's number, and the state lent. Assumes nothing: these are definitions.
 use Prim.Native.Nat.{ℕ}
 use mathlib.Core.Bool.{cond}
 use mathlib.Core.List.{List}

@@ -1,5 +1,6 @@
 // The C interface: each proved call under its C name, thin. include/lubdhvani.h is its manual; numbers are document 01's, and
-// counts, lengths and places go out through references to numbers. The promises cite specs/Calls.antt.
+// counts, lengths and places go out through references to numbers. The promises cite specs/Calls.antt for the permutation, and for the
+// other calls the definitions of the calls below.
 ghost use mathlib.Core.Path.{_≡_};
 ghost use lib.ListN.{length, replicate};
 ghost use Rattle.lists.specs.Buffers.{copied};

@@ -26,7 +26,7 @@ pub fn digest_number(answer: Digested) -> u32
     }
 }
 
-// Its count.
+// The count of what `digest` answers.
 pub fn digest_count(answer: Digested) -> usize
     ensures { λ r. ⌜ r ≡ hashing.countOf answer ⌝ }
 {
@@ -50,7 +50,7 @@ pub fn seal_number(answer: Sealed) -> u32
     }
 }
 
-// Its count.
+// The count of what `seal` answers.
 pub fn seal_count(answer: Sealed) -> usize
     ensures { λ r. ⌜ r ≡ sealCount answer ⌝ }
 {
@@ -75,7 +75,7 @@ pub fn open_number(answer: Opened) -> u32
     }
 }
 
-// Its count.
+// The count of what `open` answers.
 pub fn open_count(answer: Opened) -> usize
     ensures { λ r. ⌜ r ≡ openCount answer ⌝ }
 {
@@ -117,7 +117,7 @@ pub fn write_length(answer: Written) -> usize
     }
 }
 
-// Its count.
+// The count of what `write` answers.
 pub fn write_count(answer: Written) -> usize
     ensures { λ r. ⌜ r ≡ writing.countOf answer ⌝ }
 {
@@ -171,7 +171,7 @@ pub fn read_length(answer: Answer) -> usize
     }
 }
 
-// Its count.
+// The count of what `read` answers.
 pub fn read_count(answer: Answer) -> usize
     ensures { λ r. ⌜ r ≡ reading.callsOf answer ⌝ }
 {

@@ -1,7 +1,6 @@
 // Prints the rows that the second program makes of its own permutation (tests/second, src/rows/permute.rs): every permitted size
 // over three states, forwards and backwards, then sizes that are not permitted.
 use gage::LARGEST;
-use gage::Permuted;
 use libc::STDOUT_FILENO;
 
 // The permitted sizes in bytes, and sizes that are not.

@@ -59,18 +59,21 @@ lineOver (seal n) o = o
 lineOver (unlisted n) o = o
 lineOver (line l n) o = over l o
 
--- an answer with its places, and with one place for both
+-- an answer with its places
 abbrev pub readingAt : Span → Answer → Reading
 readingAt p a = record { first = p .first; closing = p .closing; answer = a }
 
+-- what a call reports: refused, or at the end, one place for both
 abbrev pub readingOf : Found → Reading
 readingOf (call at a) = readingAt (span at at) a
 readingOf (stretch p j) = readingAt p (answerOf j)
 
+-- what the line buffer holds then
 abbrev pub buffer : Found → List ℕ → List ℕ
 buffer (call at a) o = o
 buffer (stretch p j) o = lineOver j o
 
+-- the two of a call of `read` with the line buffer o
 abbrev pub readAnswer : Told → List ℕ → ℕ → List ℕ → Reading
 readAnswer t s from o = readingOf (found t s from (length o))
 

@@ -53,7 +53,7 @@ pub enum Answer {
     Beyond,
     // The end of the stream: both places are its length.
     End,
-    // A stretch that is too long, or whose fields are not as listed.
+    // A stretch that is too long, or whose fields are not as they must be.
     Shape,
     // Bad stuffing.
     Stuffing,

@@ -2,9 +2,10 @@
 use mathlib.Core.Path.{_≡_, refl, sym, ap, subst, _∙_}
 use mathlib.Core.Bool.{Bool, true, false}
 use mathlib.Core.List.{List}
-use Prim.Native.Nat.{ℕ, _≤_}
+use Prim.Native.Nat.{ℕ, _-_, _≤_}
 use native.Mathlib.Omega.{arith}
 use lib.Dec.{eqb}
+use lib.ListN.{length, take, drop}
 use borrow.Author.Tests.{eqb-true}
 use Rattle.files.specs.Loading.{Within}
 use Rattle.files.specs.declared.Loaded.{Loaded}
@@ -26,11 +27,17 @@ key-in n room h = go (eqb n keyLength) refl
     go true e = omega (arith, eqb-true n keyLength e, h)
     go false e = tt
 
-module _ (m o o′ : List ℕ) (r : Digested) (a : r ≡ digestAnswer FONT-INSTANCE m o) (b : o′ ≡ digestOut FONT-INSTANCE m o) where
-  pub made : (n : ℕ) → r ≡ Done n → DigestIn true o o′
-  made n e = (m, n, sym a ∙ e, b)
+-- the font of k bytes at the start of the buffer b, as it is lent on, and what `digest` answers of it
+module _ (b o o′ : List ℕ) (k : ℕ) (r : Digested) (a : r ≡ digestAnswer FONT-INSTANCE (take (k - 0) (drop 0 b)) o)
+    (w : o′ ≡ digestOut FONT-INSTANCE (take (k - 0) (drop 0 b)) o) where
+  whole : take (k - 0) (drop 0 b) ≡ take k b
+  whole = let z : k - 0 ≡ k = omega arith in rw z refl
 
-  -- an answer with which the buffer stays
-  pub refused : (x : Digested) → ((w : List ℕ) → onDone x w o ≡ o) → r ≡ x → DigestIn false o o′
-  unfolding digestOut
-  refused x stays e = b ∙ ap (λ (y : Digested). onDone y (digestOf FONT-INSTANCE m) o) (sym a ∙ e) ∙ stays (digestOf FONT-INSTANCE m)
+  pub made : k ≤ length b → (n : ℕ) → r ≡ Done n → DigestIn true b o o′
+  made h n e = (k, n, h, ap (λ (m : List ℕ). digestAnswer FONT-INSTANCE m o) (sym whole) ∙ sym a ∙ e, w ∙ ap (λ (m : List ℕ). digestOut FONT-INSTANCE m o) whole)
+
+-- an answer with which the buffer stays
+pub refused : (m o o′ : List ℕ) (r : Digested) → r ≡ digestAnswer FONT-INSTANCE m o → o′ ≡ digestOut FONT-INSTANCE m o
+    → (x : Digested) → ((v : List ℕ) → onDone x v o ≡ o) → r ≡ x → o′ ≡ o
+unfolding digestOut
+refused m o o′ r a w x stays e = w ∙ ap (λ (y : Digested). onDone y (digestOf FONT-INSTANCE m) o) (sym a ∙ e) ∙ stays (digestOf FONT-INSTANCE m)

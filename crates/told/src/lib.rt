@@ -20,9 +20,10 @@ pub fn key(key: &mut [u8]) -> bool
     }
 }
 
-// The font's digest over the start of its buffer; false where font.bin is no font that the other buffer holds, or digest has no room.
+// The font over the start of a buffer, and its digest over the start of another; false where font.bin is no font that the buffer holds, or
+// the digest has no room.
 pub fn font(buffer: &mut [u8], digest: &mut [u8]) -> bool
-    ensures { λ r. ⌜ DigestIn r (now (digest .entry)) (now (digest .exit)) ⌝ }
+    ensures { λ r. ⌜ DigestIn r (now (buffer .exit)) (now (digest .entry)) (now (digest .exit)) ⌝ }
 {
     let n = match files::load(b"font.bin", buffer) {
         Loaded::Bytes(n) => n,

@@ -67,7 +67,8 @@ same-length-4 c = search needs
 returns-3 : tie.Need-returns-3
 returns-3 c =
     let d = c .before .before .before .before .digest .ensures in
-    made _ _ _ _ (d .0) (d .1) _ (c .enum-told3 .given .1)
+    let l = c .before .before .before .before .before .before .before .before .before .before .before .before .before .load in
+    made _ _ _ _ _ (d .0) (d .1) (fits (l .result) _ _ (c .before .before .before .before .before .before .before .before .before .n .given .1) (l .ensures)) _ (c .enum-told3 .given .1)
 
 same-length-5 : tie.Need-same-length-5
 same-length-5 c = search needs

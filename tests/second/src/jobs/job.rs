@@ -47,7 +47,12 @@ impl Job {
     }
 
     /// Through both programs; the name of one that says something else.
-    pub fn run(&self, chance: &mut Chance, programs: &Path, folder: &Path) -> Result<(), &str> {
+    pub fn run(
+        &self,
+        chance: &mut Chance,
+        programs: &Path,
+        folder: &Path,
+    ) -> Result<(), &'static str> {
         place(&self.key, &folder.join("key.bin"));
         place(&self.font, &folder.join("font.bin"));
         let written = said_by(&programs.join("compose"), folder, &self.orders);
@@ -78,12 +83,12 @@ fn some_of(chance: &mut Chance, bytes: &[u8], length: usize) -> Vec<u8> {
     (0..length).map(|_| chance.one_of(bytes)).collect()
 }
 
-/// An order without its newline: mostly good, else wrong in one place.
+/// An order without its newline, good or wrong.
 fn order(chance: &mut Chance) -> Vec<u8> {
     let mut nonce = some_of(chance, DIGITS, 2 * NONCE);
     let length = chance.between(1, LINE_MOST);
     let mut line = some_of(chance, LISTED, length);
-    match chance.below(12) {
+    match chance.below(20) {
         0 => nonce.truncate(chance.below(2 * NONCE)),
         1 => nonce.push(b'0'),
         2 => nonce[0] = b'g',
@@ -109,7 +114,9 @@ fn damaged(chance: &mut Chance, mut stream: Vec<u8>) -> Vec<u8> {
         let at = chance.below(stream.len());
         match chance.below(4) {
             0 => chance.flip(&mut stream),
-            1 => drop(stream.remove(at)),
+            1 => {
+                stream.remove(at);
+            }
             2 => stream.insert(at, chance.one_of(&[MARK, ESCAPE, 0x5e, 0x5d, b'A'])),
             _ => stream.extend_from_within(at..),
         }
@@ -139,5 +146,6 @@ fn said_by(program: &Path, folder: &Path, input: &[u8]) -> (Vec<u8>, Vec<u8>) {
     // A program that refuses its key or font leaves its input unread.
     drop(running.stdin.take().expect("a pipe").write_all(input));
     let ended = running.wait_with_output().expect("the program ends");
+    assert!(ended.status.success(), "the manual pages promise status 0");
     (ended.stdout, ended.stderr)
 }
