@@ -14,8 +14,16 @@ const LONGEST_MESSAGE: usize = 1024;
 
 const LONGEST_TEXT: usize = 32;
 
-fn say(text: &[u8]) {
-    io::write_all(STDOUT_FILENO, text);
+// How an entry ended: written whole, or standard output did not take it, or there is nothing to write for what was asked.
+pub enum Entry {
+    Written,
+    Unwritten,
+    Unknown,
+}
+
+// Each of these answers false where standard output does not take it whole: a file with a hole in it is no file of known answers.
+fn say(text: &[u8]) -> bool {
+    io::write_all(STDOUT_FILENO, text)
 }
 
 fn complain(text: &[u8]) {
@@ -23,26 +31,45 @@ fn complain(text: &[u8]) {
 }
 
 // Upper-case hexadecimal digits of at most LONGEST_MESSAGE bytes.
-fn hex(value: &[u8]) {
+fn hex(value: &[u8]) -> bool {
     let mut digits = [0u8; 2 * LONGEST_MESSAGE];
     let n = text::put_hex(value, &mut digits);
-    if n <= digits.len() {
-        say(&digits[0..n]);
+    // Never: no more digits are put than there is room for.
+    if n > digits.len() {
+        return false;
     }
+    say(&digits[0..n])
 }
 
 // One value: its name, ` = `, and the digits.
-fn row(name: &[u8], value: &[u8]) {
-    say(name);
-    say(b" = ");
-    hex(value);
-    say(b"\n");
+fn row(name: &[u8], value: &[u8]) -> bool {
+    if !say(name) {
+        return false;
+    }
+    if !say(b" = ") {
+        return false;
+    }
+    if !hex(value) {
+        return false;
+    }
+    say(b"\n")
 }
 
-fn count(n: usize) {
-    say(b"Count = ");
-    io::print_decimal(STDOUT_FILENO, n as u64);
-    say(b"\n");
+fn count(n: usize) -> bool {
+    if !say(b"Count = ") {
+        return false;
+    }
+    if !io::print_decimal(STDOUT_FILENO, n as u64) {
+        return false;
+    }
+    say(b"\n")
+}
+
+fn written_if(whole: bool) -> Entry {
+    if whole {
+        return Entry::Written;
+    }
+    Entry::Unwritten
 }
 
 // 00 01 02 ..
@@ -52,48 +79,71 @@ fn ramp() -> [u8; LONGEST_MESSAGE] {
     bytes
 }
 
-// One entry of a hash file; false where there is no such instance.
-fn hash_entry(instance: usize, number: usize, message: &[u8]) -> bool {
+// The rows of an entry of a hash file.
+fn hash_rows(number: usize, message: &[u8], digest: &[u8]) -> bool {
+    if !count(number) {
+        return false;
+    }
+    if !row(b"Msg", message) {
+        return false;
+    }
+    if !row(b"MD", digest) {
+        return false;
+    }
+    say(b"\n")
+}
+
+// One entry of a hash file.
+fn hash_entry(instance: usize, number: usize, message: &[u8]) -> Entry {
     let mut out = [0u8; DIGEST];
     match digest::digest(instance, message, &mut out) {
-        Digested::Done(_) => {
-            count(number);
-            row(b"Msg", message);
-            row(b"MD", &out);
-            say(b"\n");
-            true
-        }
-        _ => false,
+        Digested::Done(_) => written_if(hash_rows(number, message, &out)),
+        _ => Entry::Unknown,
     }
 }
 
-fn hash(instance: usize) -> bool {
+fn hash(instance: usize) -> Entry {
     let bytes = ramp();
     let mut n = 0;
     while n <= LONGEST_MESSAGE {
-        if !hash_entry(instance, n + 1, &bytes[0..n]) {
-            return false;
+        match hash_entry(instance, n + 1, &bytes[0..n]) {
+            Entry::Written => n += 1,
+            Entry::Unwritten => return Entry::Unwritten,
+            Entry::Unknown => return Entry::Unknown,
         }
-        n += 1;
     }
-    true
+    Entry::Written
 }
 
 // What an entry of an aead file seals.
-fn sealed_of(number: usize, key: &[u8], nonce: &[u8], message: &[u8], associated: &[u8]) {
-    count(number);
-    row(b"Key", key);
-    row(b"Nonce", nonce);
-    row(b"PT", message);
-    row(b"AD", associated);
+fn sealed_of(number: usize, key: &[u8], nonce: &[u8], message: &[u8], associated: &[u8]) -> bool {
+    if !count(number) {
+        return false;
+    }
+    if !row(b"Key", key) {
+        return false;
+    }
+    if !row(b"Nonce", nonce) {
+        return false;
+    }
+    if !row(b"PT", message) {
+        return false;
+    }
+    row(b"AD", associated)
 }
 
 // The seal stands after the ciphertext.
-fn sealed_to(cipher: &[u8], seal: &[u8]) {
-    say(b"CT = ");
-    hex(cipher);
-    hex(seal);
-    say(b"\n\n");
+fn sealed_to(cipher: &[u8], seal: &[u8]) -> bool {
+    if !say(b"CT = ") {
+        return false;
+    }
+    if !hex(cipher) {
+        return false;
+    }
+    if !hex(seal) {
+        return false;
+    }
+    say(b"\n\n")
 }
 
 // One entry of an aead file, with a buffer as long as its text.
@@ -104,53 +154,65 @@ fn sealed_entry(
     message: &[u8],
     associated: &[u8],
     out: &mut [u8],
-) {
+) -> Entry {
     let mut seal = [0u8; 16];
     match ingage::seal(key, nonce, associated, message, out, &mut seal) {
         Sealed::Done(_) => {
-            sealed_of(number, key, nonce, message, associated);
-            sealed_to(out, &seal);
+            if !sealed_of(number, key, nonce, message, associated) {
+                return Entry::Unwritten;
+            }
+            written_if(sealed_to(out, &seal))
         }
-        _ => complain(b"kat: a text of the known answers was refused\n"),
+        // Never: sizes, lengths and room are right here.
+        _ => Entry::Unknown,
     }
 }
 
-fn aead_entry(number: usize, key: &[u8], nonce: &[u8], message: &[u8], associated: &[u8]) {
+fn aead_entry(number: usize, key: &[u8], nonce: &[u8], message: &[u8], associated: &[u8]) -> Entry {
     let mut out = [0u8; LONGEST_TEXT];
     let p = message.len();
-    if p <= LONGEST_TEXT {
-        sealed_entry(number, key, nonce, message, associated, &mut out[0..p]);
+    // Never: no text of the file is longer.
+    if p > LONGEST_TEXT {
+        return Entry::Unknown;
     }
+    sealed_entry(number, key, nonce, message, associated, &mut out[0..p])
 }
 
 // The entries of one text, over every length of associated data.
-fn aead_text(bytes: &[u8], p: usize)
+fn aead_text(bytes: &[u8], p: usize) -> Entry
     requires { ⌜ (p ≤ 32) × (32 ≤ length (now bytes)) ⌝ }
 {
     let mut a = 0;
     while a <= LONGEST_TEXT {
-        aead_entry(
+        match aead_entry(
             p * (LONGEST_TEXT + 1) + a + 1,
             &bytes[0..16],
             &bytes[0..12],
             &bytes[0..p],
             &bytes[0..a],
-        );
-        a += 1;
+        ) {
+            Entry::Written => a += 1,
+            Entry::Unwritten => return Entry::Unwritten,
+            Entry::Unknown => return Entry::Unknown,
+        }
     }
+    Entry::Written
 }
 
-fn aead(instance: usize) -> bool {
+fn aead(instance: usize) -> Entry {
     if instance != 1 {
-        return false;
+        return Entry::Unknown;
     }
     let bytes = ramp();
     let mut p = 0;
     while p <= LONGEST_TEXT {
-        aead_text(&bytes, p);
-        p += 1;
+        match aead_text(&bytes, p) {
+            Entry::Written => p += 1,
+            Entry::Unwritten => return Entry::Unwritten,
+            Entry::Unknown => return Entry::Unknown,
+        }
     }
-    true
+    Entry::Written
 }
 
 // A number of one or two digits; 0 where it is none.
@@ -173,17 +235,20 @@ fn number(word: &[u8]) -> usize {
     n
 }
 
-fn known_or_told(known: bool) {
-    if !known {
-        complain(b"kat: no such instance\n");
+// What the last entry says of the file.
+fn ended(last: Entry) {
+    match last {
+        Entry::Written => {}
+        Entry::Unwritten => complain(b"kat: not written whole\n"),
+        Entry::Unknown => complain(b"kat: no such instance\n"),
     }
 }
 
 fn answered(kind: &[u8], instance: usize) {
     if lists::compare(kind, b"hash") {
-        known_or_told(hash(instance));
+        ended(hash(instance));
     } else if lists::compare(kind, b"aead") {
-        known_or_told(aead(instance));
+        ended(aead(instance));
     } else {
         complain(b"usage: kat hash I (1 to 10), kat aead I (1)\n");
     }

@@ -25,6 +25,9 @@ slice-aggregate-aead-text c = search needs
 aead-text-requires : tie.Need-aead-text-requires Inv-loop μ-loop
 aead-text-requires c κs = search needs
 
+enum-told : tie.Need-enum-told Inv-loop μ-loop
+enum-told c = search needs
+
 add-p : tie.Need-add-p Inv-loop μ-loop
 add-p c = search needs
 
@@ -34,8 +37,20 @@ loop-less c = search needs
 loop-again : tie.Need-loop-again Inv-loop μ-loop
 loop-again c = search needs
 
+enum-told-2 : tie.Need-enum-told-2 Inv-loop μ-loop
+enum-told-2 c = search needs
+
 returns-2 : tie.Need-returns-2 Inv-loop μ-loop
 returns-2 c = search needs
+
+enum-told-3 : tie.Need-enum-told-3 Inv-loop μ-loop
+enum-told-3 c = search needs
+
+returns-3 : tie.Need-returns-3 Inv-loop μ-loop
+returns-3 c = search needs
+
+returns-4 : tie.Need-returns-4 Inv-loop μ-loop
+returns-4 c = search needs
 
 pub aead-spec : {M : Type 1} → statement M
 aead-spec =
@@ -48,7 +63,12 @@ aead-spec =
     loop-holds
     slice-aggregate-aead-text
     aead-text-requires
+    enum-told
     add-p
     loop-less
     loop-again
-    returns-2)
+    enum-told-2
+    returns-2
+    enum-told-3
+    returns-3
+    returns-4)

@@ -64,6 +64,9 @@ part-aead-entry-end-4 c = search needs
 aead-entry-requires : tie.Need-aead-entry-requires Inv-loop μ-loop
 aead-entry-requires c κs = search needs
 
+enum-told : tie.Need-enum-told Inv-loop μ-loop
+enum-told c = search needs
+
 add-a : tie.Need-add-a Inv-loop μ-loop
 add-a c = search needs
 
@@ -73,8 +76,20 @@ loop-less c = search needs
 loop-again : tie.Need-loop-again Inv-loop μ-loop
 loop-again c = search needs
 
+enum-told-2 : tie.Need-enum-told-2 Inv-loop μ-loop
+enum-told-2 c = search needs
+
 returns : tie.Need-returns Inv-loop μ-loop
 returns c = search needs
+
+enum-told-3 : tie.Need-enum-told-3 Inv-loop μ-loop
+enum-told-3 c = search needs
+
+returns-2 : tie.Need-returns-2 Inv-loop μ-loop
+returns-2 c = search needs
+
+returns-3 : tie.Need-returns-3 Inv-loop μ-loop
+returns-3 c = search needs
 
 pub aead-text-spec : {M : Type 1} → statement M
 aead-text-spec =
@@ -100,7 +115,12 @@ aead-text-spec =
     part-aead-entry-start-4
     part-aead-entry-end-4
     aead-entry-requires
+    enum-told
     add-a
     loop-less
     loop-again
-    returns)
+    enum-told-2
+    returns
+    enum-told-3
+    returns-2
+    returns-3)

@@ -31,8 +31,8 @@ part-hash-entry-end c = search needs
 hash-entry-requires : tie.Need-hash-entry-requires Inv-loop μ-loop
 hash-entry-requires c κs = search needs
 
-returns : tie.Need-returns Inv-loop μ-loop
-returns c = search needs
+enum-told : tie.Need-enum-told Inv-loop μ-loop
+enum-told c = search needs
 
 add-n : tie.Need-add-n Inv-loop μ-loop
 add-n c = search needs
@@ -43,8 +43,20 @@ loop-less c = search needs
 loop-again : tie.Need-loop-again Inv-loop μ-loop
 loop-again c = search needs
 
+enum-told-2 : tie.Need-enum-told-2 Inv-loop μ-loop
+enum-told-2 c = search needs
+
+returns : tie.Need-returns Inv-loop μ-loop
+returns c = search needs
+
+enum-told-3 : tie.Need-enum-told-3 Inv-loop μ-loop
+enum-told-3 c = search needs
+
 returns-2 : tie.Need-returns-2 Inv-loop μ-loop
 returns-2 c = search needs
+
+returns-3 : tie.Need-returns-3 Inv-loop μ-loop
+returns-3 c = search needs
 
 pub hash-spec : {M : Type 1} → statement M
 hash-spec =
@@ -59,8 +71,12 @@ hash-spec =
     part-hash-entry-start
     part-hash-entry-end
     hash-entry-requires
-    returns
+    enum-told
     add-n
     loop-less
     loop-again
-    returns-2)
+    enum-told-2
+    returns
+    enum-told-3
+    returns-2
+    returns-3)
