@@ -30,25 +30,22 @@ pub struct Signature {
     pub outcomes: &'static [&'static str],
 }
 
+/// The permutation and its inverse take and give the same.
+const fn permuting(call: Call, name: &'static str) -> Signature {
+    Signature {
+        call,
+        name,
+        number: None,
+        buffers: &["state"],
+        written: 1,
+        outs: &[],
+        outcomes: &["0", "1"],
+    }
+}
+
 pub static SIGNATURES: [Signature; 8] = [
-    Signature {
-        call: Call::Permute,
-        name: "lubdhvani_permute",
-        number: None,
-        buffers: &["state"],
-        written: 1,
-        outs: &[],
-        outcomes: &["0", "1"],
-    },
-    Signature {
-        call: Call::Unpermute,
-        name: "lubdhvani_unpermute",
-        number: None,
-        buffers: &["state"],
-        written: 1,
-        outs: &[],
-        outcomes: &["0", "1"],
-    },
+    permuting(Call::Permute, "lubdhvani_permute"),
+    permuting(Call::Unpermute, "lubdhvani_unpermute"),
     Signature {
         call: Call::Digest,
         name: "lubdhvani_digest",
