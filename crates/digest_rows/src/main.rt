@@ -7,6 +7,9 @@ use digest::LONGEST_MESSAGE;
 use libc::STDIN_FILENO;
 use libc::STDOUT_FILENO;
 
+// More cases than standard input has: where it ends, so do the rows.
+const MOST_CASES: usize = 10000;
+
 // A case has so many numbers and bytes; and the longest message and room that a case has.
 const NUMBERS: usize = 3;
 
@@ -103,7 +106,7 @@ fn empty() -> [u8; LONGEST_CASE]
 
 fn main() {
     let mut buffer = empty();
-    let mut left: usize = 10000;
+    let mut left: usize = MOST_CASES;
     while left > 0 {
         if one(&mut buffer) {
             left -= 1;

@@ -14,6 +14,16 @@ const LONGEST_MESSAGE: usize = 1024;
 
 const LONGEST_TEXT: usize = 32;
 
+// The sizes of InGAGE's instance 1 in bytes (document 000, Table 2.1).
+const KEY: usize = 16;
+
+const NONCE: usize = 12;
+
+const SEAL: usize = 16;
+
+// The longest word that is looked at.
+const WORD: usize = 8;
+
 // How an entry ended: written whole, or standard output did not take it, or there is nothing to write for what was asked.
 pub enum Entry {
     Written,
@@ -155,7 +165,7 @@ fn sealed_entry(
     associated: &[u8],
     out: &mut [u8],
 ) -> Entry {
-    let mut seal = [0u8; 16];
+    let mut seal = [0u8; SEAL];
     match ingage::seal(key, nonce, associated, message, out, &mut seal) {
         Sealed::Done(_) => {
             if !sealed_of(number, key, nonce, message, associated) {
@@ -186,8 +196,8 @@ fn aead_text(bytes: &[u8], p: usize) -> Entry
     while a <= LONGEST_TEXT {
         match aead_entry(
             p * (LONGEST_TEXT + 1) + a + 1,
-            &bytes[0..16],
-            &bytes[0..12],
+            &bytes[0..KEY],
+            &bytes[0..NONCE],
             &bytes[0..p],
             &bytes[0..a],
         ) {
@@ -255,15 +265,15 @@ fn answered(kind: &[u8], instance: usize) {
 }
 
 fn main() {
-    let mut kind = [0u8; 8];
-    let mut which = [0u8; 8];
+    let mut kind = [0u8; WORD];
+    let mut which = [0u8; WORD];
     let k = os::arg(1, &mut kind);
     let w = os::arg(2, &mut which);
     // Never: a word that is longer counts as none.
-    if k > 8 {
+    if k > WORD {
         return;
     }
-    if w > 8 {
+    if w > WORD {
         return;
     }
     answered(&kind[0..k], number(&which[0..w]));

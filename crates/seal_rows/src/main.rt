@@ -10,6 +10,9 @@ use libc::STDIN_FILENO;
 use libc::STDOUT_FILENO;
 ghost use Prim.Native.Nat.{_<_};
 
+// More cases than standard input has: where it ends, so do the rows.
+const MOST_CASES: usize = 10000;
+
 // The head of a case has so many numbers and bytes; and the longest name with parts, room and seal that a case has.
 const NUMBERS: usize = 8;
 
@@ -236,7 +239,7 @@ fn one(buffer: &mut [u8]) -> bool {
 
 fn main() {
     let mut buffer = [0u8; LONGEST_PARTS];
-    let mut left: usize = 10000;
+    let mut left: usize = MOST_CASES;
     while left > 0 {
         if one(&mut buffer) {
             left -= 1;

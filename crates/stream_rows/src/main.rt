@@ -10,6 +10,9 @@ ghost use mathlib.Core.Path.{_≡_};
 ghost use Prim.Native.Nat.{_<_};
 ghost use lib.ListN.{length};
 
+// More cases than standard input has: where it ends, so do the rows.
+const MOST_CASES: usize = 10000;
+
 // The head of a case has so many numbers and bytes; and the longest name, stream, line buffer, key and font digest that a case has.
 const NUMBERS: usize = 9;
 
@@ -24,6 +27,9 @@ const LONGEST_LINE: usize = 255;
 const LONGEST_KEY: usize = 17;
 
 const LONGEST_FONT: usize = 33;
+
+// Each reading ends further on, so one more than the longest stream has bytes is enough.
+const MOST_TURNS: usize = LONGEST_CASE + 1;
 
 // The lengths of name, stream, its first and its last bytes, the byte between them, the place to read from, and the lengths of line
 // buffer, key and font digest.
@@ -100,11 +106,11 @@ fn row(
     reading
 }
 
-// All readings of a case. Each ends further on, so one more than the stream has bytes is enough. The two places of a stretch differ; those
-// of the end, and of a call that is refused, do not: nothing is read after these.
+// All readings of a case. The two places of a stretch differ; those of the end, and of a call that is refused, do not: nothing is read
+// after these.
 fn case_rows(name: &[u8], stream: &[u8], place: usize, key: &[u8], font: &[u8], line: &mut [u8]) {
     let mut from = place;
-    let mut turns: u64 = 70000;
+    let mut turns = MOST_TURNS;
     while turns > 0 {
         let reading = row(name, stream, from, key, font, line);
         from = reading.closing;
@@ -235,7 +241,7 @@ fn empty() -> [u8; LONGEST_CASE]
 
 fn main() {
     let mut buffer = empty();
-    let mut left: usize = 10000;
+    let mut left: usize = MOST_CASES;
     while left > 0 {
         if one(&mut buffer) {
             left -= 1;
