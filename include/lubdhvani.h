@@ -16,8 +16,10 @@
  *  - Nothing is changed but what is named; the rest of a longer buffer stays as it was.
  *  - The library has no state of its own: calls on different buffers may run at the same time. Keys and states that a call works with are
  *    not wiped from the stack.
- *  - Every call runs in LUBDHVANI_STACK bytes of stack. lubdhvani_read needs that much for the longest stretch, which is measured byte by
- *    byte in calls of its own; where it reads a line it needs under half of it, and no other call needs over a sixth.
+ *  - lubdhvani_read runs in LUBDHVANI_STACK bytes of stack, every other call in LUBDHVANI_STACK_BUT_READ. This is measured, not proved:
+ *    tests/stack/run runs each call on a painted stack, with memcpy and memset bound at their first call (the binding takes stack as well)
+ *    and when the program starts, prints what was used and fails over these figures. Reading takes the most for a damaged stretch of
+ *    the greatest length, which is measured byte by byte in calls of its own.
  *
  * Link with target/staticlib/liblubdhvani.a, which `rt staticlib lubdhvani` makes.
  */
@@ -45,7 +47,8 @@ enum {
     LUBDHVANI_FRAME = 276,             /* the least room for a frame */
     LUBDHVANI_LONGEST_STRETCH = 274,   /* a longer one is refused with 7 */
     LUBDHVANI_INSTANCES = 10,          /* hash instances are 1 to 10; fonts are digested with 1 */
-    LUBDHVANI_STACK = 24576            /* what a call needs of the stack at most, on x86-64 */
+    LUBDHVANI_STACK = 24576,           /* what a call takes of the stack at most, on x86-64 */
+    LUBDHVANI_STACK_BUT_READ = 6144    /* the same of every call but lubdhvani_read */
 };
 
 /* Numbers returned. */

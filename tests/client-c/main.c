@@ -1,11 +1,9 @@
 /* A composer and a press in small, over include/lubdhvani.h: twelve lines are sealed and sent, the link damages some of them,
  * and the press lists what arrives. Every answer is compared with the one expected; the status is 1 if one differs. */
-#define _XOPEN_SOURCE 700
 #include "lubdhvani.h"
 
 #include <stdio.h>
 #include <string.h>
-#include <ucontext.h>
 
 static int wrong;
 
@@ -227,46 +225,6 @@ static void press(void)
     printf("client-c: %d lines sent, %zu printed, %zu stretches refused\n", ORDERS, printed, row - printed);
 }
 
-/* The stack that the header names is enough for the stretches that need the most. */
-
-static uint8_t stack[2 * LUBDHVANI_STACK];
-static ucontext_t here, there;
-
-/* A stretch of the greatest length, of two bytes again and again and with a last one of its own. */
-static void read_longest(uint8_t even, uint8_t odd, uint8_t last, uint32_t number)
-{
-    uint8_t stream[LUBDHVANI_LONGEST_STRETCH + 2], line[LUBDHVANI_LONGEST_LINE];
-    size_t first, closing, length, calls, end = sizeof stream - 1;
-
-    for (size_t i = 1; i < end; i++)
-        stream[i] = i % 2 ? even : odd;
-    stream[end - 1] = last;
-    stream[0] = stream[end] = 0x7E;
-    check(lubdhvani_read(stream, sizeof stream, 0, key, sizeof key, font, sizeof font, line, sizeof line, &first, &closing, &length, &calls)
-              == number, "the longest stretch is refused with its number");
-    check(first == 1 && closing == end && length == 0 && calls == 0, "the longest stretch is refused at its places");
-}
-
-static void read_all_longest(void)
-{
-    read_longest('A', 'A', 'A', LUBDHVANI_BAD_SHAPE);
-    read_longest(0x7D, 0x5E, 0x5E, LUBDHVANI_BAD_SHAPE);
-    read_longest('A', 'A', 0x7D, LUBDHVANI_BAD_STUFFING);
-    read_longest(0x7D, 0x5E, 'A', LUBDHVANI_BAD_STUFFING);
-}
-
-static void check_stack(void)
-{
-    memset(stack, 0xA5, sizeof stack);
-    getcontext(&there);
-    there.uc_stack.ss_sp = stack + LUBDHVANI_STACK;
-    there.uc_stack.ss_size = LUBDHVANI_STACK;
-    there.uc_link = &here;
-    makecontext(&there, read_all_longest, 0);
-    swapcontext(&here, &there);
-    check(all_are(0xA5, stack, LUBDHVANI_STACK), "a reading keeps within the stack that is asked for");
-}
-
 int main(void)
 {
     size_t calls;
@@ -274,7 +232,6 @@ int main(void)
     check_permutation();
     check_digest();
     check_seal();
-    check_stack();
     compose();
     press();
     puts(wrong ? "client-c: not as expected" : "client-c: all as expected");

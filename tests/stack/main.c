@@ -1,0 +1,149 @@
+/* How much stack each call of include/lubdhvani.h takes: it is run on a painted stack, and what is no longer paint was used. Each is run
+ * in a process of its own, whose first call of memcpy and memset it makes: where these are bound at their first call (lazy binding), the
+ * binding takes stack too. The status is 1 if a call takes more than the header says. */
+#define _XOPEN_SOURCE 700
+#include "lubdhvani.h"
+
+#include <stdio.h>
+#include <sys/wait.h>
+#include <ucontext.h>
+#include <unistd.h>
+
+enum { PAINT = 0xA5, PAINTED = 4 * LUBDHVANI_STACK };
+
+/* Volatile, so that no compiler makes a call of memset or memcpy of these loops: that would bind them before the call that is measured. */
+static volatile uint8_t stack[PAINTED];
+static ucontext_t here, there;
+
+static void fill(volatile uint8_t *bytes, size_t length, uint8_t byte)
+{
+    for (size_t i = 0; i < length; i++)
+        bytes[i] = byte;
+}
+
+static uint8_t key[LUBDHVANI_KEY], nonce[LUBDHVANI_NONCE], font[LUBDHVANI_DIGEST], seal[LUBDHVANI_SEAL];
+static uint8_t state[LUBDHVANI_LARGEST_STATE], digest[LUBDHVANI_DIGEST], line[LUBDHVANI_LONGEST_LINE];
+static uint8_t text[LUBDHVANI_LONGEST_TEXT], out[LUBDHVANI_LONGEST_TEXT], associated[LUBDHVANI_LONGEST_ASSOCIATED];
+static uint8_t frame[LUBDHVANI_FRAME], stretch[LUBDHVANI_LONGEST_STRETCH + 2];
+static size_t calls, length, first, closing;
+
+static void permute(void) { lubdhvani_permute(state, sizeof state); }
+static void unpermute(void) { lubdhvani_unpermute(state, sizeof state); }
+static void digest_one(void) { lubdhvani_digest(1, text, sizeof text, digest, sizeof digest, &calls); }
+static void digest_last(void) { lubdhvani_digest(LUBDHVANI_INSTANCES, text, sizeof text, digest, sizeof digest, &calls); }
+static void seal_text(void)
+{
+    lubdhvani_seal(key, sizeof key, nonce, sizeof nonce, associated, sizeof associated, text, sizeof text, out, sizeof out, seal,
+                   sizeof seal, &calls);
+}
+static void open_text(void)
+{
+    lubdhvani_open(key, sizeof key, nonce, sizeof nonce, associated, sizeof associated, text, sizeof text, seal, sizeof seal, out,
+                   sizeof out, &calls);
+}
+static void write_line(void)
+{
+    lubdhvani_write(key, sizeof key, nonce, sizeof nonce, font, sizeof font, line, sizeof line, frame, sizeof frame, &length, &calls);
+}
+static void next_stretch(void) { lubdhvani_next_stretch(stretch, sizeof stretch, 0, &first, &closing); }
+static void read_frame(void)
+{
+    lubdhvani_read(frame, length, 0, key, sizeof key, font, sizeof font, line, sizeof line, &first, &closing, &length, &calls);
+}
+static void read_stretch(void)
+{
+    lubdhvani_read(stretch, sizeof stretch, 0, key, sizeof key, font, sizeof font, line, sizeof line, &first, &closing, &length, &calls);
+}
+
+/* Stretches of the greatest length: two bytes again and again, and a last one of its own. */
+static void longest(uint8_t even, uint8_t odd, uint8_t last)
+{
+    size_t end = sizeof stretch - 1;
+    for (size_t i = 1; i < end; i++)
+        ((volatile uint8_t *)stretch)[i] = i % 2 ? even : odd;
+    stretch[end - 1] = last;
+    stretch[0] = stretch[end] = 0x7E;
+}
+static void plain(void) { longest('A', 'A', 'A'); }
+static void escapes(void) { longest(0x7D, 0x5E, 0x5E); }
+static void dangling(void) { longest('A', 'A', 0x7D); }
+static void bad_escape(void) { longest(0x7D, 0x5E, 'A'); }
+static void nothing(void) {}
+static void a_line(void)
+{
+    fill(line, sizeof line, '7');
+}
+/* A frame of the longest line. Writing it binds memcpy, so a call that reads it is measured without the binding. */
+static void a_frame(void)
+{
+    a_line();
+    write_line();
+}
+
+static const struct {
+    const char *name;
+    void (*before)(void);
+    void (*call)(void);
+    size_t most;
+} calls_measured[] = {
+    {"permute", nothing, permute, LUBDHVANI_STACK_BUT_READ},
+    {"unpermute", nothing, unpermute, LUBDHVANI_STACK_BUT_READ},
+    {"digest, instance 1", nothing, digest_one, LUBDHVANI_STACK_BUT_READ},
+    {"digest, instance 10", nothing, digest_last, LUBDHVANI_STACK_BUT_READ},
+    {"seal", nothing, seal_text, LUBDHVANI_STACK_BUT_READ},
+    {"open", nothing, open_text, LUBDHVANI_STACK_BUT_READ},
+    {"write", a_line, write_line, LUBDHVANI_STACK_BUT_READ},
+    {"next_stretch", plain, next_stretch, LUBDHVANI_STACK_BUT_READ},
+    {"read, a line", a_frame, read_frame, LUBDHVANI_STACK},
+    {"read, longest stretch, plain", plain, read_stretch, LUBDHVANI_STACK},
+    {"read, longest stretch, escapes", escapes, read_stretch, LUBDHVANI_STACK},
+    {"read, longest stretch, dangling escape", dangling, read_stretch, LUBDHVANI_STACK},
+    {"read, longest stretch, bad escape", bad_escape, read_stretch, LUBDHVANI_STACK},
+};
+enum { MEASURED = sizeof calls_measured / sizeof calls_measured[0] };
+
+/* The bytes from the first that is no longer paint to the stack's end: a stack grows downwards. */
+static size_t used(void)
+{
+    size_t i = 0;
+    while (i < sizeof stack && stack[i] == PAINT)
+        i++;
+    return sizeof stack - i;
+}
+
+static size_t measured(void (*call)(void))
+{
+    fill(stack, sizeof stack, PAINT);
+    getcontext(&there);
+    there.uc_stack.ss_sp = (void *)stack;
+    there.uc_stack.ss_size = sizeof stack;
+    there.uc_link = &here;
+    makecontext(&there, call, 0);
+    swapcontext(&here, &there);
+    return used();
+}
+
+/* One call in a process of its own; whether it keeps within what the header says. */
+static int keeps_within(size_t k)
+{
+    int status = 1;
+    pid_t child = fork();
+    if (child == 0) {
+        calls_measured[k].before();
+        size_t bytes = measured(calls_measured[k].call);
+        printf("stack: %-40s %6zu of %6zu\n", calls_measured[k].name, bytes, calls_measured[k].most);
+        fflush(stdout);
+        _exit(bytes > calls_measured[k].most);
+    }
+    return child > 0 && waitpid(child, &status, 0) == child && WIFEXITED(status) && WEXITSTATUS(status) == 0;
+}
+
+int main(void)
+{
+    int wrong = 0;
+    for (size_t k = 0; k < MEASURED; k++)
+        if (!keeps_within(k))
+            wrong = 1;
+    puts(wrong ? "stack: a call takes more than the header says" : "stack: every call keeps within what the header says");
+    return wrong;
+}
