@@ -8,7 +8,9 @@ use native.Mathlib.Omega.{arith}
 use lib.Dec.{eqb, eqb→eq}
 use lib.ListN.{length, getD, replicate}
 use Rattle.lists.specs.Table.{at}
-use Rattle.shuffling.specs.Shuffling.{weights, origins, weighed}
+use Rattle.shuffling.specs.Shuffling.{BITS, places, comings, weights, origins, weighed}
+use Rattle.shuffling.specs.Places.{read-back, number-below}
+use Rattle.shuffling.specs.Tables.{place-once, coming-once}
 
 -- the same bits make the same byte
 pub weighed-by : (f g : ℕ → ℕ) (i : ℕ) (ws : List ℕ) → ((j : ℕ) → j < length ws → f (i + j) ≡ g (i + j)) → weighed f i ws ≡ weighed g i ws
@@ -30,38 +32,28 @@ eight P a b c d e f g h (suc (suc (suc (suc (suc (suc zero)))))) l = g
 eight P a b c d e f g h (suc (suc (suc (suc (suc (suc (suc zero))))))) l = h
 eight P a b c d e f g h (suc (suc (suc (suc (suc (suc (suc (suc j)))))))) l = absurd (omega arith)
 
--- element j + 1 is the bit that counts 2 ^ j
-pub origin-weight : (j : ℕ) → j < 8 → 2 ^ (7 - (7 - j)) ≡ getD origins j 1
-origin-weight = eight (λ j. 2 ^ (7 - (7 - j)) ≡ getD origins j 1) refl refl refl refl refl refl refl refl
+-- element j + 1 is the bit that counts 2 ^ j: one test over the table
+counts : ℕ → ℕ → Bool
+counts j w = eqb (2 ^ (7 - (7 - j))) (getD origins j 1)
+
+pub origin-weight : (j : ℕ) → j < BITS → 2 ^ (7 - (7 - j)) ≡ getD origins j 1
+unfolding counts
+origin-weight j h = eqb→eq (2 ^ (7 - (7 - j))) (getD origins j 1) (at counts origins tt j h)
 
 module _ (b : ℕ → ℕ) (bits : (j : ℕ) → b j < 2) where
-  all-bits : (b 0 < 2) × (b 1 < 2) × (b 2 < 2) × (b 3 < 2) × (b 4 < 2) × (b 5 < 2) × (b 6 < 2) × (b 7 < 2)
-  all-bits = (bits 0, bits 1, bits 2, bits 3, bits 4, bits 5, bits 6, bits 7)
+  -- a bit read back at its place, and where it came from
+  pub placed-back : (j : ℕ) → j < BITS → weighed b 0 weights / getD weights j 1 % 2 ≡ b j
+  placed-back = read-back BITS places place-once b bits
 
-  -- a bit read back at its place
-  pub placed-back : (j : ℕ) → j < 8 → weighed b 0 weights / getD weights j 1 % 2 ≡ b j
-  unfolding weighed
-  placed-back =
-      let h = all-bits in
-      eight (λ j. weighed b 0 weights / getD weights j 1 % 2 ≡ b j) (omega arith) (omega arith) (omega arith) (omega arith)
-      (omega arith) (omega arith) (omega arith) (omega arith)
-
-  -- a bit read back where it came from
-  pub origin-back : (j : ℕ) → j < 8 → weighed b 0 origins / getD origins j 1 % 2 ≡ b j
-  unfolding weighed
-  origin-back =
-      let h = all-bits in
-      eight (λ j. weighed b 0 origins / getD origins j 1 % 2 ≡ b j) (omega arith) (omega arith) (omega arith) (omega arith)
-      (omega arith) (omega arith) (omega arith) (omega arith)
+  pub origin-back : (j : ℕ) → j < BITS → weighed b 0 origins / getD origins j 1 % 2 ≡ b j
+  origin-back = read-back BITS comings coming-once b bits
 
   -- eight bits make a byte
   pub placed-below : weighed b 0 weights < 256
-  unfolding weighed
-  placed-below = let h = all-bits in omega arith
+  placed-below = number-below BITS places place-once b bits
 
   pub origin-below : weighed b 0 origins < 256
-  unfolding weighed
-  origin-below = let h = all-bits in omega arith
+  origin-below = number-below BITS comings coming-once b bits
 
 -- a byte is the sum of its bits, whichever of the two weights they have: one test at each of 256
 split : List ℕ → ℕ → ℕ

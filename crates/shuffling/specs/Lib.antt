@@ -1,6 +1,7 @@
 pub mod Sizes
 pub mod Shuffling
 pub mod Widths
+pub mod Places
 pub mod Tables
 pub mod Bits
 pub mod States

@@ -6,6 +6,10 @@ use Prim.Native.Nat.{ℕ, zero, suc, _+_, _*_, _/_, _%_, _^_, _-_, _<_}
 use mathlib.Core.List.{List, [], _∷_, map}
 use lib.ListN.{getD, length}
 
+-- the bits of a byte
+abbrev pub BITS : ℕ
+BITS = 8
+
 -- formula 1.4: the places of the elements 1 to 8; place 1 is the leftmost bit
 abbrev pub places : List ℕ
 places = 1 ∷ 3 ∷ 5 ∷ 8 ∷ 7 ∷ 6 ∷ 2 ∷ 4 ∷ []
@@ -18,15 +22,19 @@ bit k b = b / 2 ^ (7 - k) % 2
 abbrev pub element : List ℕ → ℕ → ℕ → ℕ
 element s i j = bit (7 - j) (getD s ((i + j) % length s) 0)
 
--- what a bit at a place, and what element j + 1 where it comes from, counts in its byte
+-- the places that the elements 1 to 8 come from: element j + 1 is bit 7 - j, counted from 0
+abbrev pub comings : List ℕ
+comings = 8 ∷ 7 ∷ 6 ∷ 5 ∷ 4 ∷ 3 ∷ 2 ∷ 1 ∷ []
+
+-- what a bit at a place counts in its byte: each element at its place, and where it comes from
 abbrev pub weight : ℕ → ℕ
-weight p = 2 ^ (8 - p)
+weight p = 2 ^ (BITS - p)
 
 abbrev pub weights : List ℕ
 weights = map weight places
 
 abbrev pub origins : List ℕ
-origins = 1 ∷ 2 ∷ 4 ∷ 8 ∷ 16 ∷ 32 ∷ 64 ∷ 128 ∷ []
+origins = map weight comings
 
 -- the byte whose bits are b j, b (j + 1), .. each with its weight
 unfoldable pub weighed : (ℕ → ℕ) → ℕ → List ℕ → ℕ
