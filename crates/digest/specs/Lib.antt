@@ -1,5 +1,6 @@
 pub mod Instances
 pub mod Hashing
+pub mod Known
 pub mod Answers
 pub mod Shapes
 pub mod Calls

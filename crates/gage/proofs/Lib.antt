@@ -1,3 +1,4 @@
 pub mod Among
 pub mod Turning
 pub mod Single
+pub mod Contracts
