@@ -48,8 +48,11 @@ digit-back c (suc n) b q h g = elim (decLt n q) [
       rw (e, last n, div-one) (omega arith)
   | no p ↦
       let l : q ≤ n = omega (arith, p) in
-      rw (doubled n q l, ← div-div-eq-div-mul (2 * number c n + c (suc n)) 2 (2 ^ (n - q)),
-        halved (number c n) (c (suc n)) (b (suc n) (omega arith) (omega arith)))
+      rw (
+        doubled n q l,
+        ← div-div-eq-div-mul (2 * number c n + c (suc n)) 2 (2 ^ (n - q)),
+        halved (number c n) (c (suc n)) (b (suc n) (omega arith) (omega arith)),
+      )
       (digit-back c n (λ k i j. b k i (omega arith)) q h l)
 ]
 

@@ -32,8 +32,8 @@ module _ (ps : List ℕ) (long : length ps ≡ BITS) (t : T (every (once ps) 0 p
     long = long;
     within = within;
     taken = λ p h g.
-      let e : suc (p - 1) ≡ p = omega arith in
-      subst (λ (q : ℕ). times q ps ≡ 1) e (taken (p - 1) (omega arith));
+        let e : suc (p - 1) ≡ p = omega arith in
+        subst (λ (q : ℕ). times q ps ≡ 1) e (taken (p - 1) (omega arith));
   }
 
 -- each of the places 1 to 8 is taken once
