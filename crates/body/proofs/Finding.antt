@@ -52,15 +52,15 @@ module _ (b : List ℕ) (tag at : ℕ) where
     other-tag h = past (rw (cut, ne-eqb (getD b at 0) tag h))
 
     module _ (is : getD b at 0 ≡ tag) where
-      pub other-length : takes tag n ≡ false → Found b tag at (length b + 1)
+      pub other-length : takes (getD b at 0) n ≡ false → Found b tag at (length b + 1)
       unfolding front
-      other-length h = past (rw (cut, is, eq-eqb tag tag refl, h))
+      other-length h = past (rw (cut, h, eq-eqb (getD b at 0) tag is))
 
       -- a length that the rule takes: the place behind so many bytes, past the end where there are not as many
-      pub found : takes tag n ≡ true → n < highByte * highByte → Found b tag at (at + headLength + n)
+      pub found : takes (getD b at 0) n ≡ true → n < highByte * highByte → Found b tag at (at + headLength + n)
       unfolding front
       found good small = record {
-        ends = rw (cut, is, eq-eqb tag tag refl, good) (go (leb n (length rest)) refl);
+        ends = rw (cut, good, eq-eqb (getD b at 0) tag is) (go (leb n (length rest)) refl);
         near = omega (arith, small);
       }
         where

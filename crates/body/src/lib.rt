@@ -80,7 +80,7 @@ fn field_at(b: &[u8], at: usize, tag: u8) -> usize
 {
     if at + HEAD_LENGTH <= b.len() && b[at] == tag {
         let n = b[at + 1] as usize * HIGH_BYTE + b[at + 2] as usize;
-        if rule_takes(tag, n) {
+        if rule_takes(b[at], n) {
             return at + HEAD_LENGTH + n;
         }
     }

@@ -47,6 +47,9 @@ add-n-3 c =
     let s = c .before .before .before .before .before .before in
     omega (arith, c .shared-slice-known4 .given (s .args .at + 1), c .shared-slice-known4 .given (s .args .at + 2))
 
+shared-slice-read-rule-takes : tie.Need-shared-slice-read-rule-takes
+shared-slice-read-rule-takes c = search needs
+
 rule-takes-requires : tie.Need-rule-takes-requires
 rule-takes-requires c κs = search needs
 
@@ -55,13 +58,13 @@ add-result c = search needs
 
 add-result-2 : tie.Need-add-result-2
 add-result-2 c =
-    let k = c .before .before in
+    let k = c .before .before .before in
     let s = k .before .before .before .before .before .before in
     omega (arith, k .shared-slice-known4 .given (s .args .at + 1), k .shared-slice-known4 .given (s .args .at + 2))
 
 returns : tie.Need-returns
 returns c =
-    let k = c .before .before in
+    let k = c .before .before .before in
     let s = k .before .before .before .before .before .before in
     found (s .args .b .now) (s .args .tag) (s .args .at)
     (k .before .before .before .before .if1 .taken) (eqb-true _ _ (k .before .before .if2 .taken)) (sym (c .before .rule-takes .ensures) ∙ c .if3 .taken)
@@ -74,7 +77,7 @@ returns-2 : tie.Need-returns-2
 returns-2 c =
     let s = c .before .before in
     ⊎-elim
-    (λ w. other-length (s .args .b .now) (s .args .tag) (s .args .at) (w .0 .taken) (eqb-true _ _ (w .2 .taken)) (sym (w .5 .ensures) ∙ w .6 .left))
+    (λ w. other-length (s .args .b .now) (s .args .tag) (s .args .at) (w .0 .taken) (eqb-true _ _ (w .2 .taken)) (sym (w .6 .ensures) ∙ w .7 .left))
     (λ j. ⊎-elim
     (λ w. other-tag (s .args .b .now) (s .args .tag) (s .args .at) (w .0 .taken) (eqb-false _ _ (w .2 .left)))
     (λ w. too-few (s .args .b .now) (s .args .tag) (s .args .at) (omega (arith, w .left)))
@@ -95,6 +98,7 @@ field-at-spec =
     shared-slice-read-n-2
     cast-n-2
     add-n-3
+    shared-slice-read-rule-takes
     rule-takes-requires
     add-result
     add-result-2
