@@ -14,7 +14,7 @@ use Rattle.judging.specs.Sizes.{Sizes}
 use Rattle.judging.specs.Resync.{Mark}
 use Rattle.reader.specs.Answers.{longestStream}
 use Rattle.demand.specs.Promises.{Seen, seenFrom, Run, none, next}
-use Rattle.demand.specs.Resync.{resync}
+use Rattle.demand.specs.Resync.{Abreast, at-marks, runs}
 use Rattle.demand.specs.Reaching.{Ended, at-end, before-end, Reaches, run-reaches}
 
 -- with places counted from place i
@@ -57,6 +57,15 @@ end-together (at-end a) (before-end b k) e = absurd (differ a b (head-eq-of-cons
 end-together (before-end a k) (at-end b) e = absurd (differ b a (sym (head-eq-of-cons-eq e)))
 end-together (before-end a k) (before-end b m) e = ap₂ _∷_ (head-eq-of-cons-eq e) (end-together k m (tail-eq-of-cons-eq e))
 
+-- runs made until the end, from places that are abreast, see the same
+pub ended-alike : (key font x y : List ℕ) (i j : ℕ) → length x ≤ longestStream → length y ≤ longestStream
+    → {a b : ℕ} → Abreast x i a y j b → {rx ry : List Seen}
+    → Run key font x i a rx → Ended rx → Run key font y j b ry → Ended ry → rx ≡ ry
+ended-alike key font x y i j hx hy w {rx} {ry} p a q b =
+    let l : length (take (length ry) rx) ≡ length (take (length rx) ry) =
+    omega (arith, length-take (length ry) rx, length-take (length rx) ry) in
+    end-together a b (runs key font x y i j hx hy w l (run-take (length ry) p) (run-take (length rx) q))
+
 -- two streams equal from a mark on, each read from its start to its end with the same key and font: both runs come to the mark, and what
 -- is seen behind it, with places counted from it, is the same
 pub resync-from-start : (key font x y : List ℕ) (i j : ℕ) → Sizes (told key font) → length x ≤ longestStream → length y ≤ longestStream
@@ -65,11 +74,9 @@ pub resync-from-start : (key font x y : List ℕ) (i j : ℕ) → Sizes (told ke
     → (u : Reaches key font x i sx) × (v : Reaches key font y j sy) × (map (countedFrom i) (u .after) ≡ map (countedFrom j) (v .after))
 resync-from-start key font x y i j z hx hy m n e p a q b =
     let u = run-reaches key font x z hx i m 0 (omega arith) p a in
-    let v = run-reaches key font y z hy j n 0 (omega arith) q b in
-    (u, v, same (run-counted (u .run)) (ended-counted i (u .ended)) (run-counted (v .run)) (ended-counted j (v .ended)))
-  where
-    same : {rx ry : List Seen} → Run key font x i i rx → Ended rx → Run key font y j j ry → Ended ry → rx ≡ ry
-    same {rx} {ry} p a q b =
-        let l : length (take (length ry) rx) ≡ length (take (length rx) ry) =
-        omega (arith, length-take (length ry) rx, length-take (length rx) ry) in
-        end-together a b (resync key font x y i j hx hy m n e l (run-take (length ry) p) (run-take (length rx) q))
+    let v = run-reaches key font y z hy j n 0 (omega arith) q b in (
+      u,
+      v,
+      ended-alike key font x y i j hx hy (at-marks m n e)
+          (run-counted (u .run)) (ended-counted i (u .ended)) (run-counted (v .run)) (ended-counted j (v .ended)),
+    )

@@ -6,4 +6,6 @@ pub mod Reaching
 pub mod FromStart
 pub mod EveryLine
 pub mod Ending
+pub mod Whole
+pub mod Walking
 pub mod Contracts

@@ -134,9 +134,18 @@ module _ (t : Told) (x : List ℕ) (i a : ℕ) (y : List ℕ) (j b : ℕ) (hx : 
       by-size false e =
           rw (unsized t x a (length l) hx gx (w .alike .in-x) e, unsized t y b (length m) hy gy (w .alike .in-y) e) at-refusal
 
+-- two marks with the same bytes behind them
+pub at-marks : {x y : List ℕ} {i j : ℕ} → Mark x i → Mark y j → drop i x ≡ drop j y → Abreast x i i y j j
+at-marks m n e = record {
+  alike = record { in-x = omega (arith, m .inside); in-y = omega (arith, n .inside); rest = e };
+  after-i = omega arith;
+  after-j = omega arith;
+  same = omega arith;
+}
+
 module _ (key font x y : List ℕ) (i j : ℕ) (hx : length x ≤ longestStream) (hy : length y ≤ longestStream) where
   -- runs of as many calls, from places that are abreast
-  runs : {a b : ℕ} {rx ry : List Seen} → Abreast x i a y j b → length rx ≡ length ry
+  pub runs : {a b : ℕ} {rx ry : List Seen} → Abreast x i a y j b → length rx ≡ length ry
       → Run key font x i a rx → Run key font y j b ry → rx ≡ ry
   runs w e none none = refl
   runs w e none (next r l l′ g p q) = absurd (omega (arith, e))
@@ -150,9 +159,4 @@ module _ (key font x y : List ℕ) (i j : ℕ) (hx : length x ≤ longestStream)
   -- from two marks with the same bytes behind them, however many calls are made
   pub resync : Mark x i → Mark y j → drop i x ≡ drop j y → {rx ry : List Seen} → length rx ≡ length ry
       → Run key font x i i rx → Run key font y j j ry → rx ≡ ry
-  resync m n e long p q = runs (record {
-    alike = record { in-x = omega (arith, m .inside); in-y = omega (arith, n .inside); rest = e };
-    after-i = omega arith;
-    after-j = omega arith;
-    same = omega arith;
-  }) long p q
+  resync m n e long p q = runs (at-marks m n e) long p q

@@ -1,11 +1,12 @@
 // Prints the rows that the second program makes of its own streams (tests/second, src/rows/stream.rs): every reading of each case on
-// standard input, good, damaged or at a limit, from the case's place to the end of its stream. A case is its head, its name, and the first
-// and the last bytes of its stream, with one byte again and again between them. The head is numbers of four bytes each, the high byte first.
+// standard input, good, damaged or at a limit, as a walker reads it from the case's place to the end of its stream. A case is its head, its
+// name, and the first and the last bytes of its stream, with one byte again and again between them. The head is numbers of four bytes each,
+// the high byte first.
 use libc::STDIN_FILENO;
 use libc::STDOUT_FILENO;
 use reader::Answer;
 use reader::LONGEST_STREAM;
-use reader::Reading;
+use walker::Step;
 ghost use mathlib.Core.Path.{_≡_};
 ghost use Prim.Native.Nat.{_<_};
 ghost use lib.ListN.{length};
@@ -82,16 +83,10 @@ fn part(stream: &[u8], from: usize) {
     cell(stream::next_stretch(stream, from).len());
 }
 
-// One reading and its row.
-fn row(
-    name: &[u8],
-    stream: &[u8],
-    from: usize,
-    key: &[u8],
-    font: &[u8],
-    line: &mut [u8],
-) -> Reading {
-    let reading = reader::read(stream, from, key, font, line);
+// One step of a walker and its row.
+fn row(name: &[u8], stream: &[u8], from: usize, key: &[u8], font: &[u8], line: &mut [u8]) -> Step {
+    let step = walker::walked(stream, from, key, font, line);
+    let reading = step.reading;
     let answer = reading.answer;
     say(name);
     say(b" ");
@@ -103,17 +98,18 @@ fn row(
     cell(numbers::read_length(answer));
     cell(numbers::read_count(answer));
     shown(line, numbers::read_length(answer));
-    reading
+    step
 }
 
-// All readings of a case. The two places of a stretch differ; those of the end, and of a call that is refused, do not: nothing is read
-// after these.
+// All readings of a case, each from where the walker stands after the one before. The two places of a stretch differ; those of the end, and
+// of a call that is refused, do not: nothing is read after these.
 fn case_rows(name: &[u8], stream: &[u8], place: usize, key: &[u8], font: &[u8], line: &mut [u8]) {
     let mut from = place;
     let mut turns = MOST_TURNS;
     while turns > 0 {
-        let reading = row(name, stream, from, key, font, line);
-        from = reading.closing;
+        let step = row(name, stream, from, key, font, line);
+        let reading = step.reading;
+        from = step.at;
         if reading.first < from {
             turns -= 1;
         } else {

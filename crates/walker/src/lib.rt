@@ -66,8 +66,5 @@ pub fn walked(stream: &[u8], from: usize, key: &[u8], font: &[u8], line: &mut [u
 {
     let mut w = Walker { stream, at: from };
     let reading = next(&mut w, key, font, line);
-    Step {
-        reading,
-        at: w.at,
-    }
+    Step { reading, at: w.at }
 }
