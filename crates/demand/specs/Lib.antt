@@ -8,4 +8,5 @@ pub mod EveryLine
 pub mod Ending
 pub mod Whole
 pub mod Walking
+pub mod Bytes
 pub mod Contracts
