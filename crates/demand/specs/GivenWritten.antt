@@ -1,6 +1,7 @@
 -- The buyer's demand 3, second half, from the promises of `read` and `write` alone: a line is given exactly when the bytes between its
 -- marks are those that a write call makes for that line under that key and font and some nonce, and every frame that a write call makes,
--- standing anywhere in a stream, is read as its line. Assumes nothing.
+-- standing anywhere in a stream, is read as its line. That the stream is bytes is a premise of `given-is-written`; what `read` is passed meets
+-- it by its type (Bytes.antt, `read-bytes`). Assumes nothing.
 use mathlib.Core.Path.{_≡_, refl, sym, ap, ap₂, _∙_}
 use mathlib.Core.Bool.{Bool, true, false, not, cond}
 use mathlib.Core.List.{List, [], _∷_, _++_, append-assoc}

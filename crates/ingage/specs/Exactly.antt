@@ -1,6 +1,6 @@
 -- Demand 2 in document 01's words, of what the public calls promise (`sealCall`, `openCall`; proofs/Contracts.antt): on bytes, within the
 -- sizes and with room, open answers done exactly when ciphertext and seal are what seal makes of some message, and then gives that message.
--- Assumes nothing.
+-- `Bytes` is a premise of these lists; that what `open` is passed meets it by its type is `open-bytes` in demand/specs/Bytes.antt. Assumes nothing.
 use mathlib.Core.Path.{_≡_, refl, sym, ap, _∙_}
 use mathlib.Core.Bool.{Bool, true, false, not, cond}
 use mathlib.Core.Logic.{_↔_}

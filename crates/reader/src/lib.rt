@@ -3,6 +3,7 @@
 ghost use mathlib.Core.Path.{_≡_};
 ghost use Prim.Native.Nat.{_≤_};
 ghost use lib.ListN.{length};
+ghost use Rattle.lists.specs.Buffers.{copied};
 ghost use Rattle.stream.specs.Stretches.{span};
 ghost use Rattle.line.specs.Lines.{longest};
 ghost use Rattle.cipher.specs.Instances.{first as firstInstance};
@@ -67,6 +68,13 @@ pub enum Answer {
     Line { length: usize, calls: usize },
 }
 
+// Hands out a line: over the start of the caller's buffer.
+fn hand_out(found: &[u8], line: &mut [u8])
+    ensures { λ _. ⌜ now (line .exit) ≡ copied (now (found .entry)) (now (line .entry)) ⌝ }
+{
+    copy(found, line);
+}
+
 // Opens sealed fields and judges the line found. They are opened into a buffer beside the caller's, which is written only where a
 // line is given.
 fn judge_sealed(
@@ -91,7 +99,7 @@ fn judge_sealed(
             match judge_line(found) {
                 line::Judged::Unlisted => return Answer::Unlisted(calls),
                 line::Judged::Accepted => {
-                    copy(found, line);
+                    hand_out(found, line);
                     return Answer::Line { length, calls };
                 }
             }

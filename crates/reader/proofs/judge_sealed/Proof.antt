@@ -58,8 +58,8 @@ returns-2 c =
 enum-told-2 : tie.Need-enum-told-2
 enum-told-2 c = search needs
 
-copy-requires : tie.Need-copy-requires
-copy-requires c κs = search needs
+hand-out-requires : tie.Need-hand-out-requires
+hand-out-requires c κs = search needs
 
 same-length-3 : tie.Need-same-length-3
 same-length-3 c = search needs
@@ -73,7 +73,7 @@ returns-3 c =
     let a = s .args in
     let o = c .before .before .before .before .before .before .before .before .before .before .before .before .before .before .«open» in
     gives (a .key .now) (a .nonce .now) (a .assoc .now) (a .cipher .now) (a .seal .now) (s .pre .0) (o .result) (o .ensures .0) _ (c .before .before .before .before .before .before .before .before .before .before .calls2 .given .1) _ (o .ensures .1)
-    _ (c .before .before .before .before .before .before .judge-line .ensures) (c .before .before .before .before .enum-told2 .given .1) (a .line .now) _ (omega (arith, s .pre .1 .0, s .pre .1 .1)) (c .before .before .copy .ensures)
+    _ (c .before .before .before .before .before .before .judge-line .ensures) (c .before .before .before .before .enum-told2 .given .1) (a .line .now) _ (omega (arith, s .pre .1 .0, s .pre .1 .1)) (c .before .before .hand-out .ensures)
 
 same-length-5 : tie.Need-same-length-5
 same-length-5 c = search needs
@@ -102,7 +102,7 @@ judge-sealed-spec =
     same-length-2
     returns-2
     enum-told-2
-    copy-requires
+    hand-out-requires
     same-length-3
     same-length-4
     returns-3
