@@ -1,7 +1,6 @@
 -- Bytes by their type: what a `&[u8]` that is passed holds is below 256. `given-is-written` and `open-exactly` (ingage/specs/Exactly.antt) ask it
 -- of lists of numbers, which do not say it. Whoever calls `read` or `open` has it of the arguments: it follows from what there is on entry by the
 -- call's signature alone, and nothing of that is lost. Assumes nothing.
-use mathlib.Core.Path.{_≡_}
 use mathlib.Core.List.{List, [], _∷_}
 use Prim.Native.Nat.{ℕ}
 use lib.ListN.{length}

@@ -1,10 +1,10 @@
 -- Demand 3 for the walker, from the promise of `next` alone: calls of `next`, each of the walker that the one before left, are a run of read
 -- calls over the walker's stream from the place reached. So what is proved of runs is said of a press that holds a walker. Assumes nothing.
-use mathlib.Core.Path.{_≡_, sym, ap, ap₂, subst, _∙_}
+use mathlib.Core.Path.{_≡_, ap, subst}
 use mathlib.Core.List.{List, [], _∷_}
 use Prim.Native.Nat.{ℕ, _≤_}
 use lib.ListN.{length}
-use denote.Ref.{RefT, now}
+use denote.Ref.{now}
 use Rattle.line.specs.Lines.{longest}
 use Rattle.reader.specs.declared.Reading.{Reading}
 use Rattle.walker.specs.declared.Walker.{Walker}

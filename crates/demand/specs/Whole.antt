@@ -1,13 +1,12 @@
 -- The runs that the theorems of FromStart.antt, EveryLine.antt and Ending.antt speak of: with key and font digest of their sizes, every stream
 -- within the limit has a run from its start to its end, and no two of them see anything else. From the promise of `read` alone. Assumes nothing.
-use mathlib.Core.Path.{_≡_, refl, ap, subst}
+use mathlib.Core.Path.{_≡_, refl, ap}
 use mathlib.Core.List.{List, [], _∷_}
 use Prim.Native.Nat.{ℕ, zero, suc, _≤_}
 use native.Mathlib.Omega.{arith}
 use lib.ListN.{length, replicate, length-replicate}
 use Rattle.line.specs.Lines.{longest}
 use Rattle.framing.specs.Told.{told}
-use Rattle.reader.specs.declared.Reading.{Reading}
 use Rattle.judging.specs.Sizes.{Sizes}
 use Rattle.reader.specs.Answers.{longestStream, readAnswer, readOut}
 use Rattle.demand.specs.Promises.{Seen, seenFrom, Run, none, next}
