@@ -2,18 +2,22 @@
 // line. The frames go to standard output; a row that can't be sealed is reported on standard error with document 01's number, and the
 // others are still written. Half an order is none: a last row without its newline is not sealed. Nonces come from the caller; none is made
 // here.
-ghost use Prim.Native.Nat.{_≤_};
-ghost use lib.ListN.{length};
-use body::NONCE_LENGTH;
 use digest::DIGEST;
+use files::Heard;
 use frame::KEY_LENGTH;
 use libc::STDERR_FILENO;
 use libc::STDIN_FILENO;
 use libc::STDOUT_FILENO;
-use text::Digit;
+use orders::Order;
 
 // The most of a row that is kept: nonce, blank and longest line fit with room to spare, and a longer row keeps a line that is too long.
 const ROW: usize = 128;
+
+// Document 01's number for a nonce of the wrong size.
+const WRONG_SIZE: u32 = 2;
+
+// No run makes more reads: standard input then counts as one that can't be read on.
+const MOST_READS: u64 = 0xFFFF_FFFF_FFFF_FFFF;
 
 // A row being gathered: its number, from 1, how much of it is kept, and whether anything of it came; and whether a frame could not be
 // written, after which no more are.
@@ -39,43 +43,6 @@ fn refused(row: u64, number: u32) {
     report(row, b" refused ");
     io::print_decimal(STDERR_FILENO, number as u64);
     complain(b"\n");
-}
-
-// The place of the first blank, or the length where there is none.
-fn first_blank(row: &[u8]) -> usize
-    ensures { λ r. ⌜ r ≤ length (now (row .entry)) ⌝ }
-{
-    let mut i = 0;
-    while i < row.len() {
-        if row[i] == b' ' {
-            return i;
-        }
-        i += 1;
-    }
-    i
-}
-
-// Whether the text is exactly a nonce in digits; then it stands in nonce.
-fn nonce_of(text: &[u8], nonce: &mut [u8]) -> bool {
-    if text.len() != 2 * NONCE_LENGTH {
-        return false;
-    }
-    if nonce.len() < NONCE_LENGTH {
-        return false;
-    }
-    let mut i = 0;
-    while i < NONCE_LENGTH {
-        let Digit::Value(high) = text::value(text[2 * i]) else {
-            return false;
-        };
-        let Digit::Value(low) = text::value(text[2 * i + 1]) else {
-            return false;
-        };
-        // A digit's value is below 16; % keeps that in sight.
-        nonce[i] = high % 16 * 16 + low % 16;
-        i += 1;
-    }
-    true
 }
 
 // A frame on standard output; false where it can't be written whole.
@@ -104,19 +71,18 @@ fn seal_line(line: &[u8], nonce: &[u8], which: u64, key: &[u8], font: &[u8]) -> 
     send(&frame[0..length], which)
 }
 
-// One order; false where its frame can't be written. A row with no blank has no line.
+// One order; false where its frame can't be written.
 fn order(row: &[u8], which: u64, key: &[u8], font: &[u8]) -> bool {
-    let mut nonce = [0u8; NONCE_LENGTH];
-    let at = first_blank(row);
-    if !nonce_of(&row[0..at], &mut nonce) {
-        refused(which, 2);
-        return true;
+    match orders::judge_order(row) {
+        Order::Line(from) => {
+            let nonce = orders::nonce(row);
+            seal_line(&row[from..], &nonce, which, key, font)
+        }
+        Order::NoNonce => {
+            refused(which, WRONG_SIZE);
+            true
+        }
     }
-    if at < row.len() {
-        let from = at + 1;
-        return seal_line(&row[from..], &nonce, which, key, font);
-    }
-    seal_line(&row[at..], &nonce, which, key, font)
 }
 
 // The row that ends here, and the next one begun. The row is never longer than its room.
@@ -166,6 +132,14 @@ fn fed_all(bytes: &[u8], row: &mut [u8], o: Orders, key: &[u8], font: &[u8]) -> 
     next
 }
 
+// What is left at the end of the orders: half an order is none.
+fn cut_off(o: Orders) {
+    let begun = o.begun;
+    if begun {
+        report(o.number, b" cut off, not sealed\n");
+    }
+}
+
 // All orders of standard input, until its end or until a frame can't be written.
 fn compose(key: &[u8], font: &[u8]) {
     let mut chunk = io::buffer();
@@ -176,29 +150,29 @@ fn compose(key: &[u8], font: &[u8]) {
         begun: false,
         failed: false,
     };
-    let mut turns: u64 = 0xFFFF_FFFF_FFFF_FFFF;
+    let mut turns = MOST_READS;
     while turns > 0 {
-        let answer = libc::read(STDIN_FILENO, &mut chunk);
-        if answer < 0 {
-            complain(b"orders can't be read\n");
-            return;
-        }
-        let got = io::count(answer, &chunk);
-        if got == 0 {
-            turns = 0;
-        } else {
-            o = fed_all(&chunk[0..got], &mut row, o, key, font);
-            let failed = o.failed;
-            if failed {
+        match files::hear(STDIN_FILENO, &mut chunk) {
+            Heard::Some(got) => {
+                o = fed_all(&chunk[0..got], &mut row, o, key, font);
+                let failed = o.failed;
+                if failed {
+                    return;
+                }
+                turns -= 1;
+            }
+            Heard::Again => turns -= 1,
+            Heard::End => {
+                cut_off(o);
                 return;
             }
-            turns -= 1;
+            Heard::Failed => {
+                complain(b"orders can't be read\n");
+                return;
+            }
         }
     }
-    let begun = o.begun;
-    if begun {
-        report(o.number, b" cut off, not sealed\n");
-    }
+    complain(b"orders can't be read\n");
 }
 
 fn main() {
@@ -210,11 +184,12 @@ fn main() {
     let mut font = [0u8; DIGEST];
     // Of 65,536 bytes: the longest font.
     let mut buffer = io::large_buffer();
-    if !told::key(&mut key) {
+    if !told::is_key(files::load(b"key.bin", &mut key)) {
         complain(b"no key\n");
         return;
     }
-    if !told::font(&mut buffer, &mut font) {
+    let loaded = files::load(b"font.bin", &mut buffer);
+    if !told::digest_font(loaded, &buffer, &mut font) {
         complain(b"no font\n");
         return;
     }

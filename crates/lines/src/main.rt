@@ -153,15 +153,13 @@ fn list(stream: &[u8], key: &[u8], font: &[u8]) -> bool {
     last_row(t)
 }
 
-// The listing of what stands on standard input.
+// The listing of what stands on standard input, as far as the buffer holds it.
 fn list_input(buffer: &mut [u8], key: &[u8], font: &[u8]) {
-    match files::take_in(STDIN_FILENO, buffer) {
+    let loaded = files::take_in(STDIN_FILENO, buffer);
+    match files::held(loaded, buffer.len()) {
         Loaded::Bytes(n) => {
-            // Never more: that is Long.
-            if n <= buffer.len() {
-                if !list(&buffer[0..n], key, font) {
-                    complain(b"listing not written whole\n");
-                }
+            if !list(&buffer[0..n], key, font) {
+                complain(b"listing not written whole\n");
             }
         }
         Loaded::Long => {
@@ -182,11 +180,12 @@ fn main() {
     let mut font = [0u8; DIGEST];
     // Of 65,536 bytes: the longest font, and the longest stream.
     let mut buffer = io::large_buffer();
-    if !told::key(&mut key) {
+    if !told::is_key(files::load(b"key.bin", &mut key)) {
         say(b"no key\n");
         return;
     }
-    if !told::font(&mut buffer, &mut font) {
+    let loaded = files::load(b"font.bin", &mut buffer);
+    if !told::digest_font(loaded, &buffer, &mut font) {
         say(b"no font\n");
         return;
     }

@@ -1,1 +1,2 @@
-pub mod Loads
+pub mod Fonts
+pub mod Single

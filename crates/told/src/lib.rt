@@ -1,7 +1,7 @@
-// What a program is told in the folder it is run in: the key, in key.bin, and the font, in font.bin, by its digest. What a file holds no
-// contract can say; specs/Loading.antt says what an answer says of the buffers.
-ghost use lib.ListN.{length};
-ghost use Rattle.told.specs.Loading.{KeyIn, DigestIn};
+// What a program makes of the key and the font that it was told, from what was loaded of them: how the load ended, how many bytes, and
+// the buffer. Nothing here touches the system; `files` loads. The promises cite specs/Told.antt.
+ghost use mathlib.Core.Path.{_≡_};
+ghost use Rattle.told.specs.Told.{isKey, isFont, fontOut};
 use digest::Digested;
 use files::Loaded;
 use frame::KEY_LENGTH;
@@ -9,23 +9,24 @@ use frame::KEY_LENGTH;
 // Fonts are digested with this hash instance (document 01, 'The listing program').
 pub const FONT_INSTANCE: usize = 1;
 
-// The key over the start of a buffer; false where key.bin is none.
-pub fn key(key: &mut [u8]) -> bool
-    ensures { λ r. ⌜ KeyIn r (length (now (key .exit))) ⌝ }
+// Whether what was loaded is a key: whole, with exactly as many bytes as a key has.
+pub fn is_key(loaded: Loaded) -> bool
+    ensures { λ r. ⌜ r ≡ isKey loaded ⌝ }
 {
-    match files::load(b"key.bin", key) {
+    match loaded {
         Loaded::Bytes(n) => n == KEY_LENGTH,
         Loaded::Long => false,
         Loaded::Failed => false,
     }
 }
 
-// The font over the start of a buffer, and its digest over the start of another; false where font.bin is no font that the buffer holds, or
-// the digest has no room.
-pub fn font(buffer: &mut [u8], digest: &mut [u8]) -> bool
-    ensures { λ r. ⌜ DigestIn r (now (buffer .exit)) (now (digest .entry)) (now (digest .exit)) ⌝ }
+// The digest of the bytes loaded into a buffer, over the start of another; false, and that buffer as it was, where they are no font that the
+// buffer holds, or the digest has no room.
+pub fn digest_font(loaded: Loaded, buffer: &[u8], digest: &mut [u8]) -> bool
+    ensures { λ r. ⌜ (r ≡ isFont loaded (now (buffer .entry)) (now (digest .entry)))
+        × (now (digest .exit) ≡ fontOut loaded (now (buffer .entry)) (now (digest .entry))) ⌝ }
 {
-    let n = match files::load(b"font.bin", buffer) {
+    let n = match files::held(loaded, buffer.len()) {
         Loaded::Bytes(n) => n,
         Loaded::Long => return false,
         Loaded::Failed => return false,
