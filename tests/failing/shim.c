@@ -29,10 +29,13 @@ static int named(const char *variable, const char *path)
 	return name != NULL && strcmp(name, path) == 0;
 }
 
+/* A number that was the watched file's may come again for another file. */
 static int opened(int fd, const char *path)
 {
-	if (fd >= 0 && named("FAIL_FILE", path))
+	if (named("FAIL_FILE", path))
 		watched = fd;
+	else if (fd == watched)
+		watched = NOT_OPEN;
 	return fd;
 }
 

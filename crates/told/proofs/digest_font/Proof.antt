@@ -2,6 +2,7 @@
 use Rattle.told.proofs.Fonts.{no-font, asked}
 use Rattle.files.specs.Held.{held-within}
 use mathlib.Core.Path.{refl, sym, _∙_}
+use native.Mathlib.Omega.{arith}
 use borrow.Author.Needs.{needs}
 use Rattle.told.proofs.digest_font.Statement.{statement}
 use Rattle.told.proofs.digest_font.Tie as tie
@@ -31,7 +32,7 @@ part-digest-start : tie.Need-part-digest-start
 part-digest-start c = search needs
 
 part-digest-end : tie.Need-part-digest-end
-part-digest-end c = held-within _ _ _ (sym (c .before .before .before .held .ensures) ∙ c .before .n .given .1)
+part-digest-end c = omega (arith, held-within _ _ _ (sym (c .before .before .before .held .ensures) ∙ c .before .n .given .1))
 
 digest-requires : tie.Need-digest-requires
 digest-requires c κs = search needs
