@@ -77,11 +77,16 @@ mod tests {
             000102030405060708090a0d\n\
             000102030405060708090a0e 12x\n\
             000102030405060708090a0f 12\n\
-            000102030405060708090a10 1";
+            000102030405060708090a10 A12345678A\n\
+            000102030405060708090a11 1";
         let composed = compose(key.clone(), font.clone(), orders).unwrap();
         let reports = ["row 2 refused 2", "row 4 refused 2", "row 5 refused 3"];
         assert_eq!(composed.reports[..3], reports);
-        let last = ["row 6 refused 9", "row 8 cut off, not sealed"];
+        let last = [
+            "row 6 refused 9",
+            "row 8 refused 13",
+            "row 9 cut off, not sealed",
+        ];
         assert_eq!(composed.reports[3..], last);
         let listed = listing(key, font, &composed.frames);
         let texts: Vec<&str> = listed

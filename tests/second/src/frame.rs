@@ -3,10 +3,10 @@
 
 use crate::chance::Chance;
 use crate::cipher::{encrypt, INSTANCE_1};
-use crate::line::all_listed;
+use crate::line;
 use crate::numbers::{
-    DIGEST, DONE, FRAME_ROOM, KEY, LINE_LEAST, LINE_MOST, NONCE, NOT_ITS_SIZE, NOT_LISTED, NO_ROOM,
-    SEAL, TOO_LONG,
+    DIGEST, DONE, FRAME_ROOM, KEY, LINE_LEAST, LINE_MOST, NONCE, NOT_ITS_SIZE, NO_ROOM, SEAL,
+    TOO_LONG,
 };
 use crate::readings::PRODUCT;
 use crate::stuffing::{stuff, ESCAPE, MARK};
@@ -169,8 +169,9 @@ pub fn write(key: &[u8], nonce: &[u8], digest: &[u8], line: &[u8], out: &mut [u8
     if line.len() < LINE_LEAST || line.len() > LINE_MOST {
         return Written::refused(TOO_LONG);
     }
-    if !all_listed(line) {
-        return Written::refused(NOT_LISTED);
+    let by_rule = line::number(line);
+    if by_rule != DONE {
+        return Written::refused(by_rule);
     }
     if out.len() < FRAME_ROOM {
         return Written::refused(NO_ROOM);
@@ -188,6 +189,7 @@ pub fn write(key: &[u8], nonce: &[u8], digest: &[u8], line: &[u8], out: &mut [u8
 #[cfg(test)]
 mod tests {
     use super::*;
+    use crate::numbers::{NOT_LISTED, NOT_TRADE};
     use crate::stuffing::unstuff;
 
     #[test]
@@ -212,7 +214,7 @@ mod tests {
         let line_66 = [b'0'; 66];
         // Lengths of key, nonce and digest, the line, the room, the number.
         type Case<'a> = (usize, usize, usize, &'a [u8], usize, u8);
-        let cases: [Case; 9] = [
+        let cases: [Case; 13] = [
             (15, 12, 32, &line_66, 0, NOT_ITS_SIZE),
             (16, 13, 32, b"0", 276, NOT_ITS_SIZE),
             (16, 12, 31, b"x", 276, NOT_ITS_SIZE),
@@ -221,6 +223,10 @@ mod tests {
             (16, 12, 32, &[b'x'; 66], 0, TOO_LONG),
             (16, 12, 32, b"E", 0, NOT_LISTED),
             (16, 12, 32, b"0 a", 276, NOT_LISTED),
+            (15, 12, 32, b" ", 0, NOT_ITS_SIZE),
+            (16, 12, 32, &[b' '; 66], 0, TOO_LONG),
+            (16, 12, 32, &[b' '; 65], 0, NOT_TRADE),
+            (16, 12, 32, b"A12345678A", 276, NOT_TRADE),
             (16, 12, 32, b"0", 275, NO_ROOM),
         ];
         for (k, n, d, line, room, number) in cases {

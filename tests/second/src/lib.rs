@@ -13,6 +13,7 @@ pub mod kat;
 pub mod leaders;
 pub mod line;
 pub mod lines;
+pub mod near;
 pub mod numbers;
 pub mod padding;
 pub mod permutation;

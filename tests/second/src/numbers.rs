@@ -1,5 +1,6 @@
-//! The numbers that a call returns (document 01, 'Numbers returned') and the
-//! sizes that the refusals speak of. Each stands here once, under a name.
+//! The numbers that a call returns (document 01, 'Numbers returned', and the
+//! orders after it) and the sizes that the refusals speak of. Each stands here
+//! once, under a name.
 
 pub const DONE: u8 = 0;
 /// Unknown hash instance, or state size not permitted.
@@ -22,6 +23,8 @@ pub const OTHER_FONT: u8 = 8;
 pub const NOT_LISTED: u8 = 9;
 /// Reader's place beyond the stream's end.
 pub const BEYOND_END: u8 = 10;
+/// Line of listed bytes that is not the trade's (order W2).
+pub const NOT_TRADE: u8 = 13;
 
 pub const KEY: usize = 16;
 pub const NONCE: usize = 12;

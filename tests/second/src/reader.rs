@@ -2,10 +2,10 @@
 
 use crate::cipher::{decrypt, INSTANCE_1};
 use crate::frame::{associated, Fields};
-use crate::line::all_listed;
+use crate::line;
 use crate::numbers::{
-    BAD_FIELDS, BAD_STUFFING, BEYOND_END, DIGEST, DONE, KEY, LINE_MOST, NOT_ITS_SIZE, NOT_LISTED,
-    NO_ROOM, OTHER_FONT, STREAM_LIMIT, STRETCH_MOST, TOO_LONG, WRONG_SEAL,
+    BAD_FIELDS, BAD_STUFFING, BEYOND_END, DIGEST, DONE, KEY, LINE_MOST, NOT_ITS_SIZE, NO_ROOM,
+    OTHER_FONT, STREAM_LIMIT, STRETCH_MOST, TOO_LONG, WRONG_SEAL,
 };
 use crate::readings::PRODUCT;
 use crate::stream::next_stretch;
@@ -35,7 +35,7 @@ impl Judged {
     }
 }
 
-/// Order of a stretch: 7 for its length, 6, 7 for its fields, 8, 5, 9.
+/// Order of a stretch: 7 for its length, 6, 7 for its fields, 8, 5, 9, 13.
 fn judge(told: Told, stretch: &[u8]) -> Judged {
     if stretch.len() > STRETCH_MOST {
         return Judged::refused(BAD_FIELDS, 0);
@@ -62,8 +62,9 @@ fn judge(told: Told, stretch: &[u8]) -> Judged {
     if fields.seal != worked_out {
         return Judged::refused(WRONG_SEAL, count);
     }
-    if !all_listed(&line) {
-        return Judged::refused(NOT_LISTED, count);
+    let by_rule = line::number(&line);
+    if by_rule != DONE {
+        return Judged::refused(by_rule, count);
     }
     Judged {
         number: DONE,
@@ -165,7 +166,7 @@ impl<'a> Walker<'a> {
 mod tests {
     use super::*;
     use crate::frame::{framed, write};
-    use crate::numbers::{FRAME_ROOM, NONCE};
+    use crate::numbers::{FRAME_ROOM, NONCE, NOT_LISTED, NOT_TRADE};
 
     const KEY_1: [u8; KEY] = [9; KEY];
     const FONT: [u8; DIGEST] = [0x7e; DIGEST];
@@ -193,7 +194,7 @@ mod tests {
 
     #[test]
     fn a_written_line_is_given_out() {
-        for line in [&b"7"[..], b"A123456789A", &[b' '; 65]] {
+        for line in [&b"7"[..], b"A123456789A", &[b'0'; 65]] {
             let stream = frame(line);
             let mut out = [0xcc; LINE_MOST + 2];
             let reading = read(TOLD, &stream, 0, &mut out);
@@ -260,6 +261,8 @@ mod tests {
         assert_eq!(made(&[0; DIGEST], b"x", true), OTHER_FONT);
         assert_eq!(made(&FONT, b"x", true), WRONG_SEAL);
         assert_eq!(made(&FONT, b"x", false), NOT_LISTED);
+        assert_eq!(made(&FONT, b"A", true), WRONG_SEAL);
+        assert_eq!(made(&FONT, &[b' '; 65], false), NOT_TRADE);
         assert_eq!(made(&FONT, b"", false), BAD_FIELDS);
         assert_eq!(made(&FONT, &[b'1'; 66], false), BAD_FIELDS);
     }

@@ -80,7 +80,7 @@ pub static SIGNATURES: [Signature; 8] = [
         buffers: &["key", "nonce", "font", "line", "frame"],
         written: 1,
         outs: &["length", "calls"],
-        outcomes: &["0", "2", "3", "9", "4"],
+        outcomes: &["0", "2", "3", "9", "13", "4"],
     },
     Signature {
         call: Call::NextStretch,
@@ -98,7 +98,9 @@ pub static SIGNATURES: [Signature; 8] = [
         buffers: &["stream", "key", "font", "line"],
         written: 1,
         outs: &["first", "closing", "length", "calls"],
-        outcomes: &["line", "end", "2", "3", "4", "10", "7", "6", "8", "5", "9"],
+        outcomes: &[
+            "line", "end", "2", "3", "4", "10", "7", "6", "8", "5", "9", "13",
+        ],
     },
 ];
 

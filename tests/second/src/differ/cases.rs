@@ -7,6 +7,7 @@ use crate::stock::{line, spoil, stuffy, Stock};
 use crate::streams::{near_place, place, stream};
 use second::chance::Chance;
 use second::digest::{instances, sizes};
+use second::near::near_line;
 use second::numbers::{
     ASSOCIATED_LIMIT, CIPHER_LIMIT, DIGEST, FRAME_ROOM, KEY, LINE_MOST, MESSAGE_LIMIT, NONCE, SEAL,
 };
@@ -139,10 +140,11 @@ fn open(chance: &mut Chance, stock: &Stock) -> Vec<Vec<u8>> {
 
 fn write(chance: &mut Chance, stock: &Stock) -> Vec<Vec<u8>> {
     let mut line = line(chance);
-    match chance.below(12) {
+    match chance.below(14) {
         0 => line.clear(),
         1 => line.resize(chance.between(LINE_MOST, LINE_MOST + 2), b'7'),
         2 => line = long_or_short(chance, CIPHER_LIMIT),
+        3..=5 => line = near_line(chance),
         _ => {}
     }
     if chance.once_in(7) && !line.is_empty() {

@@ -4,6 +4,7 @@
 use second::chance::Chance;
 use second::cipher::{encrypt, INSTANCE_1};
 use second::frame::{framed, framed_escaping, framed_flipping, Fields};
+use second::near::{near_line, trade_line};
 use second::numbers::{DIGEST, KEY, LINE_MOST, NONCE};
 use second::readings::PRODUCT;
 use second::stuffing::{ESCAPE, MARK};
@@ -118,6 +119,12 @@ impl Stock {
         self.fields_of(chance, &line)
     }
 
+    /// Sealed as it should be, over listed bytes that are not the trade's line.
+    fn fields_not_trade(&self, chance: &mut Chance) -> Fields {
+        let line = near_line(chance);
+        self.fields_of(chance, &line)
+    }
+
     /// Field 03 of a length that no line has, sealed as it should be.
     fn fields_no_line(&self, chance: &mut Chance) -> Fields {
         let length = chance.one_of(&[0, LINE_MOST + 1, LINE_MOST + 2, 256]);
@@ -166,11 +173,11 @@ impl Stock {
     }
 
     fn wrong_frame(&self, chance: &mut Chance) -> Vec<u8> {
-        match chance.below(18) {
+        match chance.below(22) {
             0 => framed(&self.fields_other_key(chance).body()),
             1 => framed(&self.fields_other_font(chance).body()),
             2..=4 => framed(&self.fields_unlisted(chance).body()),
-            // 5 comes before 9, and 8 before 5.
+            // 5 comes before 9 and 13, and 8 before 5.
             5 => framed_flipping(self.fields_unlisted(chance), chance, |its| &mut its.seal),
             6 => framed_flipping(self.fields_other_font(chance), chance, |its| &mut its.seal),
             7 => framed_flipping(self.fields(chance), chance, |its| &mut its.seal),
@@ -181,12 +188,14 @@ impl Stock {
             14 => framed(&self.fields_no_line(chance).body()),
             15 => framed(&self.body_followed(chance)),
             16 => framed(&self.body_cut(chance)),
+            17 => framed_flipping(self.fields_not_trade(chance), chance, |its| &mut its.seal),
+            18..=20 => framed(&self.fields_not_trade(chance).body()),
             _ => self.needless_escape(chance),
         }
     }
 }
 
-/// A line of listed bytes, mostly short.
+/// A line of the trade, mostly short.
 pub fn line(chance: &mut Chance) -> Vec<u8> {
     let length = match chance.below(12) {
         0 => 1,
@@ -194,9 +203,7 @@ pub fn line(chance: &mut Chance) -> Vec<u8> {
         2 => chance.between(1, LINE_MOST),
         _ => chance.between(1, 14),
     };
-    (0..length)
-        .map(|_| chance.one_of(b"0123456789ABCD "))
-        .collect()
+    trade_line(chance, length)
 }
 
 /// Puts a byte into the line that is not listed: mostly one next to those that

@@ -8,6 +8,7 @@ use std::process::{Command, Stdio};
 use second::chance::Chance;
 use second::compose::compose;
 use second::lines::listing;
+use second::near::{near_line, trade_line};
 use second::numbers::{KEY, LINE_MOST, MESSAGE_LIMIT, NONCE, STREAM_LIMIT};
 use second::stuffing::{ESCAPE, MARK};
 
@@ -87,8 +88,8 @@ fn some_of(chance: &mut Chance, bytes: &[u8], length: usize) -> Vec<u8> {
 fn order(chance: &mut Chance) -> Vec<u8> {
     let mut nonce = some_of(chance, DIGITS, 2 * NONCE);
     let length = chance.between(1, LINE_MOST);
-    let mut line = some_of(chance, LISTED, length);
-    match chance.below(20) {
+    let mut line = trade_line(chance, length);
+    match chance.below(24) {
         0 => nonce.truncate(chance.below(2 * NONCE)),
         1 => nonce.push(b'0'),
         2 => nonce[0] = b'g',
@@ -99,6 +100,8 @@ fn order(chance: &mut Chance) -> Vec<u8> {
         7 => return nonce,
         8 => return Vec::new(),
         9 => return some_of(chance, &[0, 9, 32, 48, 65, 255], 60),
+        10..=12 => line = near_line(chance),
+        13 => line = some_of(chance, LISTED, length),
         _ => {}
     }
     [nonce, vec![b' '], line].concat()

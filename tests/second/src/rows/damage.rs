@@ -5,15 +5,16 @@ use super::stream::Case;
 use super::told;
 use crate::chance::Chance;
 use crate::frame::{framed, framed_escaping, framed_flipping, Fields};
+use crate::near::{near_line, trade_line};
 use crate::numbers::{LINE_MOST, NONCE};
 use crate::stuffing::{ESCAPE, MARK};
 
 const SEED: u64 = 0x4c75_6264_6876_616e;
-const STREAMS: usize = 420;
+const STREAMS: usize = 450;
 
 type Piece = fn(&mut Chance) -> Vec<u8>;
 
-const PIECES: [Piece; 28] = [
+const PIECES: [Piece; 30] = [
     bit_flipped,
     byte_dropped,
     byte_doubled,
@@ -26,6 +27,7 @@ const PIECES: [Piece; 28] = [
     other_key,
     other_font,
     not_listed,
+    not_trade,
     tags_exchanged,
     fields_exchanged,
     field_doubled,
@@ -40,6 +42,7 @@ const PIECES: [Piece; 28] = [
     nonce_changed,
     ciphertext_changed,
     not_listed_and_seal_changed,
+    not_trade_and_seal_changed,
     other_font_and_seal_changed,
     several,
 ];
@@ -68,9 +71,7 @@ fn line(chance: &mut Chance) -> Vec<u8> {
         1 => LINE_MOST,
         _ => 1 + chance.below(LINE_MOST),
     };
-    (0..length)
-        .map(|_| chance.one_of(b"0123456789ABCD "))
-        .collect()
+    trade_line(chance, length)
 }
 
 /// Nonces lean to marks and escapes, so that much is stuffed.
@@ -197,6 +198,16 @@ fn not_listed(chance: &mut Chance) -> Vec<u8> {
     framed(&fields_not_listed(chance).body())
 }
 
+/// Listed bytes, sealed as they should be, that are not the trade's line.
+fn fields_not_trade(chance: &mut Chance) -> Fields {
+    let line = near_line(chance);
+    fields_of(chance, &line)
+}
+
+fn not_trade(chance: &mut Chance) -> Vec<u8> {
+    framed(&fields_not_trade(chance).body())
+}
+
 fn tags_exchanged(chance: &mut Chance) -> Vec<u8> {
     let fields = good_fields(chance);
     let mut body = fields.body();
@@ -286,6 +297,11 @@ fn ciphertext_changed(chance: &mut Chance) -> Vec<u8> {
 /// 5 comes before 9.
 fn not_listed_and_seal_changed(chance: &mut Chance) -> Vec<u8> {
     framed_flipping(fields_not_listed(chance), chance, |its| &mut its.seal)
+}
+
+/// 5 comes before 13.
+fn not_trade_and_seal_changed(chance: &mut Chance) -> Vec<u8> {
+    framed_flipping(fields_not_trade(chance), chance, |its| &mut its.seal)
 }
 
 /// 8 comes before 5.

@@ -3,10 +3,15 @@
 
 use super::by_rule;
 use super::call::{Call, Case, Named};
+use super::trade::LINES as TRADE;
 use crate::numbers::{DIGEST, FRAME_ROOM, KEY, NONCE};
 
-/// The listed bytes in the order in which a line's rule takes them.
-const LISTED: &[u8; 15] = b"0123456789ABCD ";
+/// Listed bytes but the transit symbol, in the order in which a line's rule
+/// takes them.
+const LISTED: &[u8; 14] = b"0123456789BCD ";
+
+/// Stands in lines of odd seeds where there is room.
+const NUMBER: &[u8; 11] = b"A123456789A";
 
 const LINES: [usize; 5] = [1, 2, 17, 64, 65];
 
@@ -31,7 +36,7 @@ const ACCEPTED: Spoilt = Spoilt {
 };
 
 #[rustfmt::skip]
-const SPOILT: [Spoilt; 50] = [
+const SPOILT: [Spoilt; 56] = [
     // 2: a size that is not the exact one
     Spoilt { key: 15, ..ACCEPTED },
     Spoilt { key: 17, ..ACCEPTED },
@@ -60,6 +65,9 @@ const SPOILT: [Spoilt; 50] = [
     Spoilt { byte: Some(0xff), ..ACCEPTED },
     Spoilt { line: 1, byte: Some(0x2f), ..ACCEPTED },
     Spoilt { line: 65, byte: Some(0x3a), ..ACCEPTED },
+    // 13: one transit symbol; no digit
+    Spoilt { byte: Some(0x41), ..ACCEPTED },
+    Spoilt { line: 1, byte: Some(0x20), ..ACCEPTED },
     // 4: room too small, whatever the frame's own length
     Spoilt { room: 275, ..ACCEPTED },
     Spoilt { line: 1, room: 275, ..ACCEPTED },
@@ -72,20 +80,25 @@ const SPOILT: [Spoilt; 50] = [
     Spoilt { room: 277, ..ACCEPTED },
     Spoilt { byte: Some(0x30), ..ACCEPTED },
     Spoilt { byte: Some(0x39), ..ACCEPTED },
-    Spoilt { byte: Some(0x41), ..ACCEPTED },
+    Spoilt { byte: Some(0x42), ..ACCEPTED },
     Spoilt { byte: Some(0x44), ..ACCEPTED },
     Spoilt { byte: Some(0x20), ..ACCEPTED },
-    // the order of the numbers: 2 before 3, 9 and 4
+    // the order of the numbers: 2 before 3, 9, 13 and 4
     Spoilt { key: 15, line: 66, ..ACCEPTED },
     Spoilt { nonce: 13, byte: Some(0x45), ..ACCEPTED },
     Spoilt { digest: 31, room: 275, ..ACCEPTED },
+    Spoilt { nonce: 11, byte: Some(0x41), ..ACCEPTED },
     Spoilt { key: 17, nonce: 11, digest: 33, line: 0, byte: None, room: 0 },
     Spoilt { key: 16, nonce: 12, digest: 31, line: 66, byte: Some(0xff), room: 0 },
-    // 3 before 9 and 4
+    // 3 before 9, 13 and 4
+    Spoilt { line: 66, byte: Some(0x41), ..ACCEPTED },
     Spoilt { line: 66, byte: Some(0x45), ..ACCEPTED },
     Spoilt { line: 66, room: 0, ..ACCEPTED },
     Spoilt { line: 0, room: 275, ..ACCEPTED },
     Spoilt { line: 66, byte: Some(0x7e), room: 275, ..ACCEPTED },
+    // 13 before 4
+    Spoilt { byte: Some(0x41), room: 275, ..ACCEPTED },
+    Spoilt { line: 1, byte: Some(0x44), room: 0, ..ACCEPTED },
     // 9 before 4
     Spoilt { byte: Some(0x45), room: 275, ..ACCEPTED },
     Spoilt { line: 1, byte: Some(0x00), room: 0, ..ACCEPTED },
@@ -105,7 +118,12 @@ fn digest(seed: usize, length: usize) -> Vec<u8> {
 }
 
 fn line(seed: usize, length: usize) -> Vec<u8> {
-    by_rule(length, |i| LISTED[(i * 7 + seed) % LISTED.len()] as usize)
+    let mut line = by_rule(length, |i| LISTED[(i * 5 + seed) % LISTED.len()] as usize);
+    if seed % 2 == 1 && length >= NUMBER.len() {
+        let at = seed % (length - NUMBER.len() + 1);
+        line[at..at + NUMBER.len()].copy_from_slice(NUMBER);
+    }
+    line
 }
 
 impl Spoilt {
@@ -115,6 +133,11 @@ impl Spoilt {
         if let Some(byte) = self.byte {
             line[0] = byte;
         }
+        self.case_of(seed, line)
+    }
+
+    /// The same with a line of its own.
+    fn case_of(&self, seed: usize, line: Vec<u8>) -> Case {
         Case {
             call: Call::Write,
             key: key(self.key),
@@ -144,5 +167,9 @@ pub fn cases() -> Vec<Named> {
         }
     }
     cases.extend(SPOILT.iter().map(|spoilt| (spoilt.name(), spoilt.case(0))));
+    for (index, line) in TRADE.iter().enumerate() {
+        let name = format!("trade {}", index);
+        cases.push((name, ACCEPTED.case_of(0, line.to_vec())));
+    }
     cases
 }

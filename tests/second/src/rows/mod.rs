@@ -12,6 +12,7 @@ mod sound;
 pub mod stream;
 mod stretch;
 mod told;
+mod trade;
 
 use std::fs;
 use std::io;

@@ -4,6 +4,7 @@
 use super::by_rule;
 use super::stream::Case;
 use super::told;
+use super::trade::LINES;
 use crate::frame::{framed, Fields};
 use crate::numbers::{LINE_MOST, NONCE, STREAM_LIMIT, STRETCH_MOST};
 use crate::stuffing::{ESCAPE, MARK};
@@ -48,6 +49,7 @@ pub fn cases() -> Vec<Case> {
     cases.extend(places_at_the_end());
     cases.extend(line_buffers());
     cases.extend(line_lengths());
+    cases.extend(trade_lines());
     cases.extend(places_around_marks());
     cases
 }
@@ -114,12 +116,19 @@ fn line_buffers() -> Vec<Case> {
 fn line_lengths() -> Vec<Case> {
     vec![
         case(&told::frame(&nonce(), b"7")),
-        case(&told::frame(&nonce(), &[b'D'; LINE_MOST])),
-        case(&told::frame(&nonce(), &[b' '; LINE_MOST])),
+        case(&told::frame(&nonce(), &[b'7'; LINE_MOST])),
+        case(&sealed(b"D")),
+        case(&sealed(&[b'D'; LINE_MOST])),
         case(&sealed(b"")),
         case(&sealed(&[b'7'; LINE_MOST + 1])),
         case(&sealed(&[b'7'; 256])),
     ]
+}
+
+/// Lines at the edges of the trade's rule, sealed whether the writer takes them
+/// or not.
+fn trade_lines() -> Vec<Case> {
+    LINES.iter().map(|line| case(&sealed(line))).collect()
 }
 
 /// Every place around the marks of two frames.

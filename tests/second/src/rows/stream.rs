@@ -162,7 +162,9 @@ mod tests {
             .lines()
             .map(|row| row.split(' ').nth(6).unwrap())
             .collect();
-        for number in ["0", "2", "3", "4", "5", "6", "7", "8", "9", "10", "end"] {
+        for number in [
+            "0", "2", "3", "4", "5", "6", "7", "8", "9", "10", "13", "end",
+        ] {
             let times = numbers.iter().filter(|&&one| one == number).count();
             assert!(times >= 4, "{} occurs {} times", number, times);
         }
