@@ -1,2 +1,5 @@
 pub mod Lines
+pub mod Bytewise
+pub mod Trade
 pub mod Rule
+pub mod Passing

@@ -1,15 +1,17 @@
--- The rule of a line as a statement on lists: a line is accepted exactly if each of its bytes is a digit, a symbol or the blank.
--- Assumes nothing.
+-- The rule of a line as a statement on lists: a line is accepted exactly if each of its bytes is a digit, a symbol or the blank, and it is
+-- the trade's line. Assumes nothing.
 use mathlib.Core.Path.{_≡_, refl}
-use mathlib.Core.Bool.{Bool, true, false, cond}
+use mathlib.Core.Logic.{_↔_}
+use mathlib.Core.Bool.{Bool, true, false, not, cond}
 use mathlib.Core.List.{List, [], _∷_}
 use Prim.Native.Nat.{ℕ, _≤_}
 use native.Mathlib.Omega.{arith}
 use lib.Dec.{eqb, leb}
 use borrow.Author.Tests.{le-leb, lt-leb, leb-true, eqb-true}
 use Rattle.lists.specs.Never.{never}
-use Rattle.line.specs.declared.Judged.the-variants.{Accepted, Unlisted}
-use Rattle.line.specs.Lines.{firstDigit, lastDigit, transit, dash, blank, isListed, allListed, lineRule}
+use Rattle.line.specs.declared.Judged.the-variants.{Accepted, Unlisted, Trade}
+use Rattle.line.specs.Lines.{firstDigit, lastDigit, transit, dash, blank, isDigit, isListed, allListed, isTrade, lineRule}
+use Rattle.line.specs.Trade.{TradeLine, trade-is, is-trade}
 
 -- a listed byte
 pub data Listed (b : ℕ) : Type 0 where
@@ -24,14 +26,14 @@ AllListed (b ∷ s) = Listed b × AllListed s
 
 -- the test of a byte says what the statement says
 pub listed-is : (b : ℕ) → Listed b → isListed b ≡ true
-unfolding isListed
+unfolding isListed isDigit
 listed-is b (a-digit l h) = rw (le-leb firstDigit b l, le-leb b lastDigit h)
 listed-is b (a-symbol l h) =
     rw (le-leb firstDigit b (omega arith), lt-leb b lastDigit (omega arith), le-leb transit b l, le-leb b dash h)
 listed-is b (a-blank e) = rw e
 
 pub is-listed : (b : ℕ) → isListed b ≡ true → Listed b
-unfolding isListed
+unfolding isListed isDigit
 is-listed b = go (leb firstDigit b) refl (leb b lastDigit) refl (leb transit b) refl (leb b dash) refl
   where
     go : (t : Bool) → leb firstDigit b ≡ t → (u : Bool) → leb b lastDigit ≡ u
@@ -68,19 +70,29 @@ unfolding allListed
 is-all-listed [] e = tt
 is-all-listed (b ∷ s) e = both (isListed b) (allListed s) (is-listed b) (is-all-listed s) e
 
--- the rule: a line is accepted exactly if all its bytes are listed, and else holds one that isn't
-pub rule-accepted : (s : List ℕ) → AllListed s → lineRule s ≡ Accepted
-unfolding lineRule
-rule-accepted s a = rw (all-listed-is s a)
-
+-- the rule's answers, in their order
 pub rule-unlisted : (s : List ℕ) → (AllListed s → ⊥) → lineRule s ≡ Unlisted
 unfolding lineRule
 rule-unlisted s n = rw (refuted (allListed s) (is-all-listed s) n)
 
-pub accepted-rule : (s : List ℕ) → lineRule s ≡ Accepted → AllListed s
+pub rule-trade : (s : List ℕ) → AllListed s → (TradeLine s → ⊥) → lineRule s ≡ Trade
 unfolding lineRule
-accepted-rule s = go (allListed s) refl
+rule-trade s a n = rw (all-listed-is s a, refuted (isTrade s) (is-trade s) n)
+
+pub rule-accepted : (s : List ℕ) → AllListed s → TradeLine s → lineRule s ≡ Accepted
+unfolding lineRule
+rule-accepted s a t = rw (all-listed-is s a, trade-is s t)
+
+pub accepted-rule : (s : List ℕ) → lineRule s ≡ Accepted → AllListed s × TradeLine s
+unfolding lineRule
+accepted-rule s = go (allListed s) refl (isTrade s) refl
   where
-    go : (t : Bool) → allListed s ≡ t → cond t Accepted Unlisted ≡ Accepted → AllListed s
-    go true p e = is-all-listed s p
-    go false p e = absurd (let z : _≡_ {A = ℕ} 0 1 = cc e in omega arith)
+    go : (t : Bool) → allListed s ≡ t → (u : Bool) → isTrade s ≡ u → cond (not t) Unlisted (cond (not u) Trade Accepted) ≡ Accepted
+        → AllListed s × TradeLine s
+    go true p true q e = (is-all-listed s p, is-trade s q)
+    go true p false q e = absurd (let z : _≡_ {A = ℕ} 0 1 = cc e in omega arith)
+    go false p u q e = absurd (let z : _≡_ {A = ℕ} 0 1 = cc e in omega arith)
+
+-- a line is accepted exactly if all its bytes are listed and it is the trade's
+pub trade-line : (s : List ℕ) → (lineRule s ≡ Accepted) ↔ (AllListed s × TradeLine s)
+trade-line s = (accepted-rule s, λ (a, t). rule-accepted s a t)

@@ -1,34 +1,38 @@
--- `judge_line` meets its promise. The invariant: the bytes from i on are judged as the whole line is; the measure is what is left.
--- Assumes nothing.
-use mathlib.Core.Path.{_≡_, refl, sym, _∙_}
+-- `judge_line` meets its promise. The invariant: the bytes from i on, judged by what the others hold, are judged as the whole line is; the
+-- measure is what is left. Assumes nothing.
+use mathlib.Core.Path.{_≡_, sym, _∙_}
 use Prim.Native.Nat.{_-_}
 use lib.ListN.{length, drop}
 use borrow.Author.Tests.{not-true, not-false}
 use borrow.Author.Needs.{needs}
 use Rattle.line.specs.Lines.{lineRule}
-use Rattle.line.proofs.Steps.{line-on, line-stop, line-end}
+use Rattle.line.specs.Passing.{passed, pass-rule}
+use Rattle.line.proofs.Steps.{pass-on, pass-stop, pass-end}
 use Rattle.line.proofs.judge_line.Statement.{statement}
 use Rattle.line.proofs.judge_line.Tie as tie
 
 abbrev Inv-loop : tie.InvT-loop
-Inv-loop line i₀ i = lineRule (drop i line) ≡ lineRule line
+Inv-loop line met₀ i₀ met i = passed met (drop i line) ≡ lineRule line
 
 abbrev μ-loop : tie.MeasureT-loop
-μ-loop line i₀ i = length line - i
+μ-loop line met₀ i₀ met i = length line - i
 
 loop-holds : tie.Need-loop-holds Inv-loop μ-loop
-loop-holds c = refl
+loop-holds c = pass-rule _
 
-shared-slice-read-listed : tie.Need-shared-slice-read-listed Inv-loop μ-loop
-shared-slice-read-listed c = search needs
+shared-slice-read-b : tie.Need-shared-slice-read-b Inv-loop μ-loop
+shared-slice-read-b c = search needs
 
 listed-requires : tie.Need-listed-requires Inv-loop μ-loop
 listed-requires c κs = search needs
 
 returns : tie.Need-returns Inv-loop μ-loop
 returns c =
-    sym (line-stop _ _ (c .before .before .before .loop-test .taken) (sym (c .before .listed .ensures) ∙ not-true _ (c .if1 .taken)))
+    sym (pass-stop _ _ _ (c .before .before .before .loop-test .taken) (sym (c .before .listed .ensures) ∙ not-true _ (c .if1 .taken)))
     ∙ c .before .before .before .before .loop .inv
+
+pass-requires : tie.Need-pass-requires Inv-loop μ-loop
+pass-requires c κs = search needs
 
 add-i : tie.Need-add-i Inv-loop μ-loop
 add-i c = search needs
@@ -38,11 +42,15 @@ loop-less c = search needs
 
 loop-again : tie.Need-loop-again Inv-loop μ-loop
 loop-again c =
-    sym (line-on _ _ (c .before .before .before .loop-test .taken) (sym (c .before .listed .ensures) ∙ not-false _ (c .if1 .left)))
-    ∙ c .before .before .before .before .loop .inv
+    rw (c .pass .ensures)
+    (sym (pass-on _ _ _ (c .before .before .before .before .loop-test .taken) (sym (c .before .before .listed .ensures) ∙ not-false _ (c .before .if1 .left)))
+    ∙ c .before .before .before .before .before .loop .inv)
+
+judged-by-requires : tie.Need-judged-by-requires Inv-loop μ-loop
+judged-by-requires c κs = search needs
 
 returns-2 : tie.Need-returns-2 Inv-loop μ-loop
-returns-2 c = sym (line-end _ _ (c .loop-test .left)) ∙ c .before .loop .inv
+returns-2 c = c .judged-by .ensures ∙ sym (pass-end _ _ _ (c .before .loop-test .left)) ∙ c .before .before .loop .inv
 
 pub judge-line-spec : {M : Type 1} → statement M
 judge-line-spec =
@@ -51,10 +59,12 @@ judge-line-spec =
     Inv-loop
     μ-loop
     loop-holds
-    shared-slice-read-listed
+    shared-slice-read-b
     listed-requires
     returns
+    pass-requires
     add-i
     loop-less
     loop-again
+    judged-by-requires
     returns-2)
