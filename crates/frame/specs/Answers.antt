@@ -1,5 +1,5 @@
--- What `write` answers, and what the lent buffer then holds: document 01's order of refusals (2, 3, 9, 4), one line each.
--- Assumes nothing: these are definitions.
+-- What `write` answers, and what the lent buffer then holds: document 01's order of refusals, with order W2's behind 9
+-- (2, 3, 9, 13, 4), one line each. Assumes nothing: these are definitions.
 use mathlib.Core.Bool.{Bool, false, not, cond}
 use mathlib.Core.List.{List}
 use Prim.Native.Nat.{ℕ}
@@ -34,10 +34,11 @@ pub record WriteCall : Type 0 where
 abbrev pub refused : Written → List ℕ → WriteCall
 refused r frame = record { answer = r; frame = frame }
 
--- number 9, and later ones of the line's rule
+-- numbers 9 and 13, by the line's rule
 abbrev pub byRule : Judged → WriteCall → List ℕ → WriteCall
 byRule line-is.Accepted go frame = go
 byRule line-is.Unlisted go frame = refused written-is.Unlisted frame
+byRule line-is.Trade go frame = refused written-is.Trade frame
 
 -- number 4
 abbrev pub byRoom : List ℕ → WriteCall → WriteCall
@@ -56,12 +57,13 @@ writeCall t nonce line frame =
     (cond (not (lengthRight line)) (refused written-is.TooLong frame)
     (byRule (lineRule line) (byRoom frame (framedCall t nonce line frame)) frame))
 
--- document 01's number of each answer ('Numbers returned')
+-- the number of each answer (document 01, 'Numbers returned'; order W2)
 abbrev pub numberOf : Written → ℕ
 numberOf (written-is.Done length calls) = 0
 numberOf written-is.Sizes = 2
 numberOf written-is.TooLong = 3
 numberOf written-is.Unlisted = 9
+numberOf written-is.Trade = 13
 numberOf written-is.NoRoom = 4
 
 -- the frame's length, 0 on a refusal
@@ -70,6 +72,7 @@ lengthOf (written-is.Done length calls) = length
 lengthOf written-is.Sizes = 0
 lengthOf written-is.TooLong = 0
 lengthOf written-is.Unlisted = 0
+lengthOf written-is.Trade = 0
 lengthOf written-is.NoRoom = 0
 
 -- the count, 0 on a refusal
@@ -78,4 +81,5 @@ countOf (written-is.Done length calls) = calls
 countOf written-is.Sizes = 0
 countOf written-is.TooLong = 0
 countOf written-is.Unlisted = 0
+countOf written-is.Trade = 0
 countOf written-is.NoRoom = 0

@@ -13,7 +13,7 @@ use Rattle.line.specs.Lines.{longest, lineRule}
 use Rattle.line.specs.declared.Judged.{Judged}
 use Rattle.line.specs.declared.Judged.the-variants as line-is
 use Rattle.body.specs.Fields.{nonceLength, digestLength, shortest}
-use Rattle.frame.specs.declared.Written.the-variants.{Done, Sizes, TooLong, Unlisted, NoRoom}
+use Rattle.frame.specs.declared.Written.the-variants.{Done, Sizes, TooLong, Unlisted, Trade, NoRoom}
 use Rattle.framing.specs.Told.{Told, keyLength}
 use Rattle.framing.specs.Lengths.{frameRoom, Sealable}
 use Rattle.frame.specs.Answers.{sizesRight, lengthRight, WriteCall, refused, byRule, framedCall, writeCall}
@@ -62,6 +62,10 @@ module _ (t : Told) (nonce line o : List ℕ) where
     unfolding writeCall
     write-unlisted r = rw (sizes-right z, length-right z, r)
 
+    pub write-trade : lineRule line ≡ line-is.Trade → writeCall t nonce line o ≡ refused Trade o
+    unfolding writeCall
+    write-trade r = rw (sizes-right z, length-right z, r)
+
     pub write-no-room : lineRule line ≡ line-is.Accepted → length o < frameRoom → writeCall t nonce line o ≡ refused NoRoom o
     unfolding writeCall
     write-no-room r h = rw (sizes-right z, length-right z, r, lt-ltb (length o) frameRoom h)
@@ -73,7 +77,7 @@ module _ (t : Told) (nonce line o : List ℕ) where
 -- what the writer accepts
 pub record Accepts (t : Told) (nonce line : List ℕ) : Type 0 where
   pub sealable : Sealable t nonce line
-  pub listed : lineRule line ≡ line-is.Accepted
+  pub ruled : lineRule line ≡ line-is.Accepted
 
 -- done only for what it accepts, and with room
 pub done-accepts : (t : Told) (nonce line o : List ℕ) (n calls : ℕ) → writeCall t nonce line o .answer ≡ Done n calls
@@ -88,12 +92,13 @@ done-accepts t nonce line o n calls =
     by-room : Sealable t nonce line → lineRule line ≡ line-is.Accepted → (x : Bool) → ltb (length o) frameRoom ≡ x
         → room x .answer ≡ Done n calls → Accepts t nonce line × (frameRoom ≤ length o)
     by-room z r true p e = absurd (let i : _≡_ {A = ℕ} 0 1 = cc e in omega arith)
-    by-room z r false p e = (record { sealable = z; listed = r }, ltb-false (length o) frameRoom p)
+    by-room z r false p e = (record { sealable = z; ruled = r }, ltb-false (length o) frameRoom p)
 
     by-rule : Sealable t nonce line → (j : Judged) → lineRule line ≡ j
         → byRule j (room (ltb (length o) frameRoom)) o .answer ≡ Done n calls → Accepts t nonce line × (frameRoom ≤ length o)
     by-rule z line-is.Accepted r e = by-room z r (ltb (length o) frameRoom) refl e
     by-rule z line-is.Unlisted r e = absurd (let i : _≡_ {A = ℕ} 0 1 = cc e in omega arith)
+    by-rule z line-is.Trade r e = absurd (let i : _≡_ {A = ℕ} 0 1 = cc e in omega arith)
 
     by-sizes : (x : Bool) → sizesRight t nonce ≡ x → (y : Bool) → lengthRight line ≡ y
         → cond (not x) (refused Sizes o) (cond (not y) (refused TooLong o) (byRule (lineRule line) (room (ltb (length o) frameRoom)) o)) .answer

@@ -32,6 +32,8 @@ pub enum Written {
     TooLong,
     // A line that holds a byte not listed.
     Unlisted,
+    // A line of listed bytes that is not the trade's.
+    Trade,
     // A buffer of fewer than FRAME_ROOM bytes.
     NoRoom,
 }
@@ -103,9 +105,11 @@ pub fn write(key: &[u8], nonce: &[u8], font: &[u8], line: &[u8], frame: &mut [u8
     if !length_right(line) {
         return Written::TooLong;
     }
-    let Judged::Accepted = line::judge_line(line) else {
-        return Written::Unlisted;
-    };
+    match line::judge_line(line) {
+        Judged::Unlisted => return Written::Unlisted,
+        Judged::Trade => return Written::Trade,
+        Judged::Accepted => {}
+    }
     if frame.len() < FRAME_ROOM {
         return Written::NoRoom;
     }

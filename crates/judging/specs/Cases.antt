@@ -14,13 +14,13 @@ use Rattle.stuffing.specs.Stuffing.{longestStretch, unstuffed, WellStuffed}
 use Rattle.stuffing.specs.GoodStuffing.{well-or-not}
 use Rattle.stuffing.specs.Outcomes.{length-too-long, length-bad, length-good}
 use Rattle.line.specs.declared.Judged as line-judged
-use Rattle.line.specs.declared.Judged.the-variants.{Accepted, Unlisted}
+use Rattle.line.specs.declared.Judged.the-variants.{Accepted, Unlisted, Trade}
 use Rattle.line.specs.Lines.{lineRule}
 use Rattle.cipher.specs.Instances.{first}
 use Rattle.cipher.specs.Cipher.{Work, decrypted}
 use Rattle.body.specs.Fields.{Fields, fields, no-body, fieldsOf, associated}
 use Rattle.framing.specs.Told.{Told}
-use Rattle.judging.specs.Judged.{Judged, shape, stuffing, font, seal, unlisted, line}
+use Rattle.judging.specs.Judged.{Judged, shape, stuffing, font, seal, unlisted, trade, line}
 use Rattle.judging.specs.Judging.{byRule, judgeSealed, judgeFields, judge}
 
 same-differs : (a b : List ℕ) → same a b ≡ false → a ≡ b → ⊥
@@ -52,6 +52,8 @@ pub data Case (t : Told) (s : List ℕ) : Judged → Type 0 where
       → Case t s (seal (opening t nonce (t .font) cipher .calls))
   not-listed : (nonce cipher : List ℕ) → Holds s nonce (t .font) cipher (opening t nonce (t .font) cipher .seal)
       → lineRule (opening t nonce (t .font) cipher .text) ≡ Unlisted → Case t s (unlisted (opening t nonce (t .font) cipher .calls))
+  not-trade : (nonce cipher : List ℕ) → Holds s nonce (t .font) cipher (opening t nonce (t .font) cipher .seal)
+      → lineRule (opening t nonce (t .font) cipher .text) ≡ Trade → Case t s (trade (opening t nonce (t .font) cipher .calls))
   given : (nonce cipher : List ℕ) → Holds s nonce (t .font) cipher (opening t nonce (t .font) cipher .seal)
       → lineRule (opening t nonce (t .font) cipher .text) ≡ Accepted
       → Case t s (line (opening t nonce (t .font) cipher .text) (opening t nonce (t .font) cipher .calls))
@@ -87,6 +89,7 @@ module _ (t : Told) (s : List ℕ) where
       → Case t s (byRule r (opening t nonce (t .font) cipher))
   line-case nonce cipher h Accepted e = given nonce cipher h e
   line-case nonce cipher h Unlisted e = not-listed nonce cipher h e
+  line-case nonce cipher h Trade e = not-trade nonce cipher h e
 
   seal-case : (nonce cipher T : List ℕ) → Holds s nonce (t .font) cipher T
       → (b : Bool) → same (opening t nonce (t .font) cipher .seal) T ≡ b

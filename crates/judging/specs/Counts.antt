@@ -1,5 +1,5 @@
--- The count of a reading (document 01, 'Numbers returned'): 0 for 7, 6 and 8; for 5, 9 and a line n + 39, n being the length of the
--- line's ciphertext. Assumes nothing.
+-- The count of a reading (document 01, 'Numbers returned'; order W2): 0 for 7, 6 and 8; for 5, 9, 13 and a line n + 39, n being the length
+-- of the line's ciphertext. Assumes nothing.
 use mathlib.Core.Path.{_≡_, refl}
 use mathlib.Core.List.{List}
 use Prim.Native.Nat.{ℕ, _+_}
@@ -11,21 +11,22 @@ use Rattle.body.specs.Lengths.{length-associated}
 use Rattle.framing.specs.Told.{Told}
 use Rattle.framing.specs.Lengths.{besideLine}
 use Rattle.judging.specs.Sizes.{Sizes}
-use Rattle.judging.specs.Judged.{Judged, shape, stuffing, font, seal, unlisted, line, callsIn}
+use Rattle.judging.specs.Judged.{Judged, shape, stuffing, font, seal, unlisted, trade, line, callsIn}
 use Rattle.judging.specs.Judging.{judge}
-use Rattle.judging.specs.Cases.{Holds, Case, opening, judge-case, too-long, bad-stuffing, no-fields, other-font, other-seal, not-listed, given}
+use Rattle.judging.specs.Cases.{Holds, Case, opening, judge-case, too-long, bad-stuffing, no-fields, other-font, other-seal, not-listed, not-trade, given}
 
 -- the stretch's fields hold a ciphertext, and the count is that of opening one of its length
 abbrev pub OpenedWith : Told → List ℕ → ℕ → Type 0
 OpenedWith t s calls = (nonce cipher T : List ℕ) × Holds s nonce (t .font) cipher T × (calls ≡ length cipher + besideLine)
 
--- case by case, in document 01's order: 7, 6, 8, 5, 9, a line
+-- case by case, in the order of the numbers: 7, 6, 8, 5, 9, 13, a line
 abbrev pub Counted : Told → List ℕ → Judged → Type 0
 Counted t s shape = callsIn shape ≡ 0
 Counted t s stuffing = callsIn stuffing ≡ 0
 Counted t s font = callsIn font ≡ 0
 Counted t s (seal n) = OpenedWith t s (callsIn (seal n))
 Counted t s (unlisted n) = OpenedWith t s (callsIn (unlisted n))
+Counted t s (trade n) = OpenedWith t s (callsIn (trade n))
 Counted t s (line l n) = OpenedWith t s (callsIn (line l n))
 
 opening-calls : (t : Told) → Sizes t → (nonce cipher : List ℕ) → opening t nonce (t .font) cipher .calls ≡ length cipher + besideLine
@@ -42,4 +43,5 @@ read-calls t z s = by-case (judge t s) (judge-case t s)
     by-case _ (other-font nonce digest cipher T h n) = refl
     by-case _ (other-seal nonce cipher T h n) = (nonce, cipher, T, h, opening-calls t z nonce cipher)
     by-case _ (not-listed nonce cipher h e) = (nonce, cipher, _, h, opening-calls t z nonce cipher)
+    by-case _ (not-trade nonce cipher h e) = (nonce, cipher, _, h, opening-calls t z nonce cipher)
     by-case _ (given nonce cipher h e) = (nonce, cipher, _, h, opening-calls t z nonce cipher)

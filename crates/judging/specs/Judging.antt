@@ -1,5 +1,5 @@
--- What a stretch's bytes are found to be (document 01, 'Numbers returned', order of a stretch): 7 for its length, 6, 7 for its fields,
--- 8, 5, 9, else its line. Assumes nothing: these are definitions.
+-- What a stretch's bytes are found to be (document 01, 'Numbers returned', order of a stretch; order W2): 7 for its length, 6, 7 for its
+-- fields, 8, 5, 9, 13, else its line. Assumes nothing: these are definitions.
 use mathlib.Core.Bool.{not, cond}
 use mathlib.Core.List.{List}
 use Prim.Native.Nat.{ℕ}
@@ -9,20 +9,21 @@ use Rattle.stuffing.specs.declared.Unstuffed.the-variants as unstuffed-is
 use Rattle.stuffing.specs.Stuffing.{unstuffed}
 use Rattle.stuffing.specs.Answers.{lengthAnswer}
 use Rattle.line.specs.declared.Judged as line-judged
-use Rattle.line.specs.declared.Judged.the-variants.{Accepted, Unlisted}
+use Rattle.line.specs.declared.Judged.the-variants.{Accepted, Unlisted, Trade}
 use Rattle.line.specs.Lines.{lineRule}
 use Rattle.cipher.specs.Instances.{first}
 use Rattle.cipher.specs.Cipher.{Work, decrypted, accepted}
 use Rattle.body.specs.Fields.{Fields, fields, no-body, fieldsOf, associated}
 use Rattle.framing.specs.Told.{Told}
-use Rattle.judging.specs.Judged.{Judged, shape, stuffing, font, seal, unlisted, line}
+use Rattle.judging.specs.Judged.{Judged, shape, stuffing, font, seal, unlisted, trade, line}
 
--- by the rule of a line: 9
+-- by the rule of a line: 9, 13
 abbrev pub byRule : line-judged.Judged → Work → Judged
 byRule Unlisted w = unlisted (w .calls)
+byRule Trade w = trade (w .calls)
 byRule Accepted w = line (w .text) (w .calls)
 
--- what opening finds under the seal T: 5, then 9
+-- what opening finds under the seal T: 5, then 9 and 13
 abbrev pub judgeWork : Work → List ℕ → Judged
 judgeWork w T =
     cond (not (accepted (w .seal) T)) (seal (w .calls))

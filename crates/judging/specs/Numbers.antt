@@ -8,7 +8,7 @@ use Rattle.stuffing.specs.Stuffing.{unstuffed}
 use Rattle.stuffing.specs.Answers.{lengthAnswer, unstuffNumber}
 use Rattle.stuffing.specs.Outcomes.{length-too-long, length-bad, length-good}
 use Rattle.line.specs.declared.Judged as line-judged
-use Rattle.line.specs.declared.Judged.the-variants.{Accepted, Unlisted}
+use Rattle.line.specs.declared.Judged.the-variants.{Accepted, Unlisted, Trade}
 use Rattle.line.specs.Lines as lines
 use Rattle.line.specs.Lines.{lineRule}
 use Rattle.cipher.specs.Cipher.{Work}
@@ -17,7 +17,7 @@ use Rattle.body.specs.Answers.{judged, judgeNumber}
 use Rattle.framing.specs.Told.{Told}
 use Rattle.judging.specs.Judged.{Judged, numberIn}
 use Rattle.judging.specs.Judging.{byRule, judgeSealed, judgeFields, judge}
-use Rattle.judging.specs.Cases.{Stuffed, Holds, Case, opening, judge-case, judge-fields, judge-holds, too-long, bad-stuffing, no-fields, other-font, other-seal, not-listed, given}
+use Rattle.judging.specs.Cases.{Stuffed, Holds, Case, opening, judge-case, judge-fields, judge-holds, too-long, bad-stuffing, no-fields, other-font, other-seal, not-listed, not-trade, given}
 
 module _ (t : Told) (s : List ℕ) where
   -- a stretch that is too long or badly stuffed: 7, 6
@@ -34,6 +34,7 @@ module _ (t : Told) (s : List ℕ) where
       by-case _ (other-font nonce digest cipher T h m) = good (h .0)
       by-case _ (other-seal nonce cipher T h m) = good (h .0)
       by-case _ (not-listed nonce cipher h e) = good (h .0)
+      by-case _ (not-trade nonce cipher h e) = good (h .0)
       by-case _ (given nonce cipher h e) = good (h .0)
 
   -- a stretch that holds no body: 7
@@ -45,7 +46,7 @@ module _ (t : Told) (s : List ℕ) where
       by-fields no-body m = refl
       by-fields (fields nonce digest cipher T) m = absurd (m refl)
 
-  -- a stretch whose font and seal are right: 9, or a line
+  -- a stretch whose font and seal are right: 9, 13, or a line
   pub line-number : (nonce cipher : List ℕ) → Holds s nonce (t .font) cipher (opening t nonce (t .font) cipher .seal)
       → numberIn (judge t s) ≡ lines.numberOf (lineRule (opening t nonce (t .font) cipher .text))
   unfolding judgeSealed
@@ -56,3 +57,4 @@ module _ (t : Told) (s : List ℕ) where
       by-rule : (r : line-judged.Judged) (w : Work) → numberIn (byRule r w) ≡ lines.numberOf r
       by-rule Accepted w = refl
       by-rule Unlisted w = refl
+      by-rule Trade w = refl

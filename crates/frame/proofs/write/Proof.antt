@@ -6,7 +6,7 @@ use native.Mathlib.Omega.{arith}
 use lib.ListN.{take, length}
 use borrow.Author.Tests.{not-true, not-false}
 use borrow.Author.Needs.{needs}
-use Rattle.frame.specs.Outcomes.{right-sealable, write-sizes, write-too-long, write-unlisted, write-no-room}
+use Rattle.frame.specs.Outcomes.{right-sealable, write-sizes, write-too-long, write-unlisted, write-trade, write-no-room}
 use Rattle.frame.proofs.Answering.{met, scratch-holds, frame-fits, framed-met}
 use Rattle.framing.specs.Lengths.{Sealable}
 use Rattle.framing.specs.Frames.{sealedBody}
@@ -32,11 +32,11 @@ sealable c =
     right-sealable _ _ _ (sym (c .before .before .before .sizes-right .ensures) ∙ not-false _ (c .before .before .if1 .left))
     (sym (c .before .length-right .ensures) ∙ not-false _ (c .if2 .left))
 
-accepted : (c : tie.After-enum-told) → lineRule (start (c .before .before .before) .args .line .now) ≡ line-is.Accepted
-accepted c = sym (c .before .before .judge-line .ensures) ∙ c .enum-told .given .1
+accepted : (c : tie.After-enum-told3) → lineRule (start (c .before .before .before) .args .line .now) ≡ line-is.Accepted
+accepted c = sym (c .before .before .judge-line .ensures) ∙ c .enum-told3 .given .1
 
 -- the place where the line is known to be accepted, from behind the sealing
-abbrev earlier : tie.After-sealed-body → tie.After-enum-told
+abbrev earlier : tie.After-sealed-body → tie.After-enum-told3
 earlier c = c .before .before
 
 abbrev passed : tie.After-sealed-body → tie.Else2
@@ -67,14 +67,20 @@ judge-line-requires c κs = search needs
 enum-told : tie.Need-enum-told
 enum-told c = search needs
 
+returns-3 : tie.Need-returns-3
+returns-3 c = met (write-unlisted _ _ _ _ (sealable (c .before .before .before)) (sym (c .before .before .judge-line .ensures) ∙ c .enum-told .given .1))
+
 enum-told-2 : tie.Need-enum-told-2
 enum-told-2 c = search needs
 
-returns-3 : tie.Need-returns-3
-returns-3 c = met (write-unlisted _ _ _ _ (sealable (c .before .before .before)) (sym (c .before .before .judge-line .ensures) ∙ c .enum-told2 .given .1))
-
 returns-4 : tie.Need-returns-4
-returns-4 c = met (write-no-room _ _ _ _ (sealable (c .before .before .before .before)) (accepted (c .before)) (omega arith))
+returns-4 c = met (write-trade _ _ _ _ (sealable (c .before .before .before)) (sym (c .before .before .judge-line .ensures) ∙ c .enum-told2 .given .1))
+
+enum-told-3 : tie.Need-enum-told-3
+enum-told-3 c = search needs
+
+returns-5 : tie.Need-returns-5
+returns-5 c = met (write-no-room _ _ _ _ (sealable (c .before .before .before .before)) (accepted (c .before)) (omega arith))
 
 sealed-body-requires : tie.Need-sealed-body-requires
 sealed-body-requires c κs = sealable (c .before .before .before .before)
@@ -100,8 +106,8 @@ add-t22 c = search needs
 same-length : tie.Need-same-length
 same-length c = search needs
 
-returns-5 : tie.Need-returns-5
-returns-5 c =
+returns-6 : tie.Need-returns-6
+returns-6 c =
     let d = c .before .before .before .before .before .before in
     let p = c .before .before .put-frame in
     framed-met (sealable (passed d)) (accepted (earlier d)) _ (omega arith) _ _ _ (body-is d) (p .ensures .0) (p .ensures .1)
@@ -116,9 +122,11 @@ write-spec =
     returns-2
     judge-line-requires
     enum-told
-    enum-told-2
     returns-3
+    enum-told-2
     returns-4
+    enum-told-3
+    returns-5
     sealed-body-requires
     add-put-frame
     sub-put-frame
@@ -127,4 +135,4 @@ write-spec =
     put-frame-requires
     add-t22
     same-length
-    returns-5)
+    returns-6)
