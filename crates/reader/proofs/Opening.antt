@@ -11,7 +11,7 @@ use denote.Enum.Declared.{tagOf}
 use types.Run.{OneOf}
 use Rattle.lists.specs.Buffers.{over, copied, cleared, same}
 use Rattle.line.specs.declared.Judged as line-judged
-use Rattle.line.specs.declared.Judged.the-variants.{Accepted, Unlisted}
+use Rattle.line.specs.declared.Judged.the-variants.{Accepted, Unlisted, Trade}
 use Rattle.line.specs.Lines.{lineRule}
 use Rattle.ingage.specs.declared.Opened.{Opened}
 use Rattle.ingage.specs.declared.Opened.the-variants as opened
@@ -22,7 +22,7 @@ use Rattle.ingage.specs.Answers.{OpenCall, openCall}
 use Rattle.ingage.specs.Exactly.{Within, opened-within}
 use Rattle.ingage.proofs.Opened as opened-type
 use Rattle.reader.specs.declared.Answer.the-variants as answer-is
-use Rattle.judging.specs.Judged.{Judged, seal, unlisted, line}
+use Rattle.judging.specs.Judged.{Judged, seal, unlisted, trade, line}
 use Rattle.judging.specs.Judging.{judgeWork, judgeSealed}
 use Rattle.reader.proofs.Shown.{Shows, shown}
 
@@ -105,6 +105,12 @@ module _ (key nonce A C T : List ℕ) {room : List ℕ} (w : Within first key no
       told-unlisted j x y =
           let u : lineRule (work .text) ≡ Unlisted = ap lineRule (sym found-is) ∙ sym x ∙ y in
           rw (opens .sealed, u) (ap unlisted (opens .calls))
+
+      pub told-trade : (j : line-judged.Judged) → j ≡ lineRule lent → j ≡ Trade → judgeSealed key nonce A C T ≡ trade n
+      unfolding judgeSealed
+      told-trade j x y =
+          let u : lineRule (work .text) ≡ Trade = ap lineRule (sym found-is) ∙ sym x ∙ y in
+          rw (opens .sealed, u) (ap trade (opens .calls))
 
       told-line : (j : line-judged.Judged) → j ≡ lineRule lent → j ≡ Accepted → judgeSealed key nonce A C T ≡ line (work .text) n
       unfolding judgeSealed

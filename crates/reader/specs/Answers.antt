@@ -14,7 +14,7 @@ use Rattle.body.specs.Fields.{digestLength}
 use Rattle.reader.specs.declared.Answer.{Answer}
 use Rattle.reader.specs.declared.Reading.{Reading}
 use Rattle.reader.specs.declared.Answer.the-variants as answer-is
-use Rattle.judging.specs.Judged.{Judged, shape, stuffing, font, seal, unlisted, line}
+use Rattle.judging.specs.Judged.{Judged, shape, stuffing, font, seal, unlisted, trade, line}
 use Rattle.judging.specs.Readings.{ends}
 use Rattle.judging.specs.Judging.{judge}
 
@@ -48,6 +48,7 @@ answerOf stuffing = answer-is.Stuffing
 answerOf font = answer-is.Font
 answerOf (seal n) = answer-is.Seal n
 answerOf (unlisted n) = answer-is.Unlisted n
+answerOf (trade n) = answer-is.Trade n
 answerOf (line l n) = answer-is.Line (length l) n
 
 -- a line is written over the buffer's start; nothing else is written
@@ -57,6 +58,7 @@ lineOver stuffing o = o
 lineOver font o = o
 lineOver (seal n) o = o
 lineOver (unlisted n) o = o
+lineOver (trade n) o = o
 lineOver (line l n) o = over l o
 
 -- an answer with its places
@@ -80,7 +82,7 @@ readAnswer t s from o = readingOf (found t s from (length o))
 abbrev pub readOut : Told → List ℕ → ℕ → List ℕ → List ℕ
 readOut t s from o = buffer (found t s from (length o)) o
 
--- document 01's number of each answer
+-- the number of each answer (document 01, 'Numbers returned'; order W2)
 abbrev pub numberOf : Answer → ℕ
 numberOf answer-is.Sizes = 2
 numberOf answer-is.TooLong = 3
@@ -92,6 +94,7 @@ numberOf answer-is.Stuffing = 6
 numberOf answer-is.Font = 8
 numberOf (answer-is.Seal n) = 5
 numberOf (answer-is.Unlisted n) = 9
+numberOf (answer-is.Trade n) = 13
 numberOf (answer-is.Line k n) = 0
 
 -- the line's length, 0 where none is given
@@ -106,6 +109,7 @@ lengthOf answer-is.Stuffing = 0
 lengthOf answer-is.Font = 0
 lengthOf (answer-is.Seal n) = 0
 lengthOf (answer-is.Unlisted n) = 0
+lengthOf (answer-is.Trade n) = 0
 lengthOf (answer-is.Line k n) = k
 
 -- the count of the calls of the permutation
@@ -120,4 +124,5 @@ callsOf answer-is.Stuffing = 0
 callsOf answer-is.Font = 0
 callsOf (answer-is.Seal n) = n
 callsOf (answer-is.Unlisted n) = n
+callsOf (answer-is.Trade n) = n
 callsOf (answer-is.Line k n) = n

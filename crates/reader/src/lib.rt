@@ -60,10 +60,12 @@ pub enum Answer {
     Stuffing,
     // Sealed to another font.
     Font,
-    // The seal is not the one worked out; with the calls of the permutation made, as the next two.
+    // The seal is not the one worked out; with the calls of the permutation made, as the next three.
     Seal(usize),
     // The line holds a byte that is not listed.
     Unlisted(usize),
+    // The line's bytes are listed, but it is not the trade's line.
+    Trade(usize),
     // A line of that length is given.
     Line { length: usize, calls: usize },
 }
@@ -98,6 +100,7 @@ fn judge_sealed(
             let found = &text[0..length];
             match judge_line(found) {
                 line::Judged::Unlisted => return Answer::Unlisted(calls),
+                line::Judged::Trade => return Answer::Trade(calls),
                 line::Judged::Accepted => {
                     hand_out(found, line);
                     return Answer::Line { length, calls };

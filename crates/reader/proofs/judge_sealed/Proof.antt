@@ -1,9 +1,9 @@
 -- `judge_sealed` meets its promise: the sizes are right, so `open` answers done or another seal; the line found stands at the start of
 -- the buffer beside the caller's and is copied whole. Assumes nothing.
-use Rattle.reader.proofs.Opening.{told-seal, told-other, told-unlisted, gives}
+use Rattle.reader.proofs.Opening.{told-seal, told-other, told-unlisted, told-trade, gives}
 use Rattle.reader.proofs.Shown.{shown}
 use Rattle.judging.specs.Judging.{judgeSealed}
-use Rattle.judging.specs.Judged.{seal, unlisted}
+use Rattle.judging.specs.Judged.{seal, unlisted, trade}
 use native.Mathlib.Omega.{arith}
 use borrow.Author.Needs.{needs}
 use Rattle.reader.proofs.judge_sealed.Statement.{statement}
@@ -58,28 +58,42 @@ returns-2 c =
 enum-told-2 : tie.Need-enum-told-2
 enum-told-2 c = search needs
 
-hand-out-requires : tie.Need-hand-out-requires
-hand-out-requires c κs = search needs
-
 same-length-3 : tie.Need-same-length-3
 same-length-3 c = search needs
 
-same-length-4 : tie.Need-same-length-4
-same-length-4 c = search needs
-
 returns-3 : tie.Need-returns-3
 returns-3 c =
-    let s = c .before .before .before .before .before .before .before .before .before .before .before .before .before .before .before .before .before .before .before .before .before .before .before in
+    let s = c .before .before .before .before .before .before .before .before .before .before .before .before .before .before .before .before .before .before .before in
     let a = s .args in
-    let o = c .before .before .before .before .before .before .before .before .before .before .before .before .before .before .«open» in
-    gives (a .key .now) (a .nonce .now) (a .assoc .now) (a .cipher .now) (a .seal .now) (s .pre .0) (o .result) (o .ensures .0) _ (c .before .before .before .before .before .before .before .before .before .before .calls2 .given .1) _ (o .ensures .1)
-    _ (c .before .before .before .before .before .before .judge-line .ensures) (c .before .before .before .before .enum-told2 .given .1) (a .line .now) _ (omega (arith, s .pre .1 .0, s .pre .1 .1)) (c .before .before .hand-out .ensures)
+    let o = c .before .before .before .before .before .before .before .before .before .before .«open» in
+    shown (judgeSealed (a .key .now) (a .nonce .now) (a .assoc .now) (a .cipher .now) (a .seal .now)) (a .line .now) (trade _)
+    (told-trade (a .key .now) (a .nonce .now) (a .assoc .now) (a .cipher .now) (a .seal .now) (s .pre .0) (o .result) (o .ensures .0) _ (c .before .before .before .before .before .before .calls2 .given .1) _ (o .ensures .1) _ (c .before .before .judge-line .ensures) (c .enum-told2 .given .1))
+
+enum-told-3 : tie.Need-enum-told-3
+enum-told-3 c = search needs
+
+hand-out-requires : tie.Need-hand-out-requires
+hand-out-requires c κs = search needs
+
+same-length-4 : tie.Need-same-length-4
+same-length-4 c = search needs
 
 same-length-5 : tie.Need-same-length-5
 same-length-5 c = search needs
 
 returns-4 : tie.Need-returns-4
 returns-4 c =
+    let s = c .before .before .before .before .before .before .before .before .before .before .before .before .before .before .before .before .before .before .before .before .before .before .before in
+    let a = s .args in
+    let o = c .before .before .before .before .before .before .before .before .before .before .before .before .before .before .«open» in
+    gives (a .key .now) (a .nonce .now) (a .assoc .now) (a .cipher .now) (a .seal .now) (s .pre .0) (o .result) (o .ensures .0) _ (c .before .before .before .before .before .before .before .before .before .before .calls2 .given .1) _ (o .ensures .1)
+    _ (c .before .before .before .before .before .before .judge-line .ensures) (c .before .before .before .before .enum-told3 .given .1) (a .line .now) _ (omega (arith, s .pre .1 .0, s .pre .1 .1)) (c .before .before .hand-out .ensures)
+
+same-length-6 : tie.Need-same-length-6
+same-length-6 c = search needs
+
+returns-5 : tie.Need-returns-5
+returns-5 c =
     let s = c .before .before .before .before .before .before .before .before .before .before .before .before in
     let a = s .args in
     let o = c .before .before .before .«open» in
@@ -102,9 +116,12 @@ judge-sealed-spec =
     same-length-2
     returns-2
     enum-told-2
-    hand-out-requires
     same-length-3
-    same-length-4
     returns-3
+    enum-told-3
+    hand-out-requires
+    same-length-4
     same-length-5
-    returns-4)
+    returns-4
+    same-length-6
+    returns-5)
