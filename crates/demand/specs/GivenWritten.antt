@@ -33,7 +33,7 @@ use Rattle.reader.specs.declared.Answer.{Answer}
 use Rattle.reader.specs.declared.Reading.{Reading}
 use Rattle.reader.specs.declared.Answer.the-variants as answer-is
 use Rattle.judging.specs.Sizes.{Sizes}
-use Rattle.judging.specs.Judged.{Judged, shape, stuffing, seal, unlisted, line}
+use Rattle.judging.specs.Judged.{Judged, shape, stuffing, seal, unlisted, trade, line}
 use Rattle.judging.specs.Judged as judged-is
 use Rattle.judging.specs.Judging.{judge}
 use Rattle.judging.specs.Readings.{ends}
@@ -67,7 +67,7 @@ module _ (key nonce font L f : List ℕ) (w : written.Written) (f′ : List ℕ)
   wrote n k e =
       let y = done-accepts t nonce L f n k (sym (p .0) ∙ e) in
       let a = y .0 in
-      let z : writeCall t nonce L f ≡ framedCall t nonce L f = write-done t nonce L f (a .sealable) (a .listed) (y .1) in
+      let z : writeCall t nonce L f ≡ framedCall t nonce L f = write-done t nonce L f (a .sealable) (a .ruled) (y .1) in
       let same : written-is.Done n k ≡ written-is.Done (length (frameOf t nonce L)) (sealedLine t nonce L .calls) =
       sym e ∙ p .0 ∙ ap (λ (c : WriteCall). c .answer) z in
       let long : n ≡ length (frameOf t nonce L) = cc same in
@@ -151,7 +151,7 @@ made-written key font L s′ (nonce, v) =
       nonce-is = y .nonce-is;
       nonce-bytes = v .nonce-bytes;
       makes = λ f w f′ g p.
-          let z : writeCall t nonce L f ≡ framedCall t nonce L f = write-done t nonce L f y (v .accepts .listed) g in (
+          let z : writeCall t nonce L f ≡ framedCall t nonce L f = write-done t nonce L f y (v .accepts .ruled) g in (
             length (frameOf t nonce L),
             p .0 ∙ ap (λ (c : WriteCall). c .answer) z ∙ ap (written-is.Done (length (frameOf t nonce L))) (write-calls y),
             ap (take (length (frameOf t nonce L))) (p .1 ∙ ap (λ (c : WriteCall). c .frame) z)
@@ -195,6 +195,7 @@ answer-line stuffing n k e = absurd (let z : _≡_ {A = ℕ} 0 1 = cc e in omega
 answer-line judged-is.font n k e = absurd (let z : _≡_ {A = ℕ} 0 1 = cc e in omega arith)
 answer-line (seal m) n k e = absurd (let z : _≡_ {A = ℕ} 0 1 = cc e in omega arith)
 answer-line (unlisted m) n k e = absurd (let z : _≡_ {A = ℕ} 0 1 = cc e in omega arith)
+answer-line (trade m) n k e = absurd (let z : _≡_ {A = ℕ} 0 1 = cc e in omega arith)
 
 gave : (t : Told) (s : List ℕ) (from room p q n k : ℕ) → readingOf (found t s from room) ≡ gives p q n k → Gave t s from room p q n k
 unfolding found nextStretch

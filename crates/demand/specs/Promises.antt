@@ -35,6 +35,7 @@ isEnd answer-is.Stuffing = false
 isEnd answer-is.Font = false
 isEnd (answer-is.Seal n) = false
 isEnd (answer-is.Unlisted n) = false
+isEnd (answer-is.Trade n) = false
 isEnd (answer-is.Line k n) = false
 
 -- all that a caller sees of a reading: document 01's number and values, and the line's bytes in the buffer

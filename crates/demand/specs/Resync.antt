@@ -16,7 +16,7 @@ use Rattle.stream.specs.Places.{next-within, next-after}
 use Rattle.stream.specs.Shift.{Alike, moved, next-moved, next-shift}
 use Rattle.framing.specs.Told.{Told, told}
 use Rattle.reader.specs.declared.Answer.the-variants as answer-is
-use Rattle.judging.specs.Judged.{Judged, shape, stuffing, font, seal, unlisted, line, numberIn, lineIn, callsIn}
+use Rattle.judging.specs.Judged.{Judged, shape, stuffing, font, seal, unlisted, trade, line, numberIn, lineIn, callsIn}
 use Rattle.judging.specs.Judging.{judge}
 use Rattle.judging.specs.Readings.{ends, eqb-moved}
 use Rattle.judging.specs.Resync.{Mark}
@@ -37,6 +37,7 @@ seen-at i p stuffing l = refl
 seen-at i p font l = refl
 seen-at i p (seal n) l = refl
 seen-at i p (unlisted n) l = refl
+seen-at i p (trade n) l = refl
 seen-at i p (line w n) l = ap (λ (x : List ℕ). record { number = 0; ended = false; first = p .first - i; closing = p .closing - i; calls = n; line = x }) (take-over w l (length w) refl)
 
 -- places in order

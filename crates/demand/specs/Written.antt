@@ -72,7 +72,7 @@ module _ (t : Told) (nonce L : List ℕ) (a : Accepts t nonce L) where
       let C = sealedLine t nonce L .text in
       judge-line t (stuffed (sealedBody t nonce L)) nonce C
       (holds .0, holds .1 ∙ ap (λ (w : Work). fields nonce (t .font) C (w .seal)) (sym opened))
-      (ap (λ (w : Work). lineRule (w .text)) opened ∙ a .listed)
+      (ap (λ (w : Work). lineRule (w .text)) opened ∙ a .ruled)
       ∙ ap (λ (w : Work). line (w .text) (w .calls)) opened
       ∙ ap (line L) (write-calls (a .sealable))
 
@@ -106,7 +106,7 @@ module _ (t : Told) (z : Sizes t) (s : List ℕ) (bytes : Below 256 s) where
         record {
           accepts = record {
             sealable = record { key-is = z .key-is; nonce-is = y .nonce-is; font-is = z .font-is; line-from = omega arith; line-to = omega arith };
-            listed = a;
+            ruled = a;
           };
           nonce-bytes = nonce-below nonce cipher T y (is .0);
           makes = frame-is t nonce found

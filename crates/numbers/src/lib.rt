@@ -1,5 +1,5 @@
-// Document 01's number and values of what each call answers ('Numbers returned'), for callers that report them. The promises cite the
-// definitions beside those answers: specs/Answers.antt of digest, ingage, frame and reader.
+// The number and values of what each call answers (document 01, 'Numbers returned'; order W2), for callers that report them. The promises
+// cite the definitions beside those answers: specs/Answers.antt of digest, ingage, frame and reader.
 ghost use mathlib.Core.Path.{_≡_};
 ghost use Rattle.digest.specs.Answers as hashing;
 ghost use Rattle.ingage.specs.Answers.{sealNumber, sealCount, openNumber, openCount};
@@ -100,6 +100,7 @@ pub fn write_number(answer: Written) -> u32
         Written::Sizes => 2,
         Written::TooLong => 3,
         Written::Unlisted => 9,
+        Written::Trade => 13,
         Written::NoRoom => 4,
     }
 }
@@ -113,6 +114,7 @@ pub fn write_length(answer: Written) -> usize
         Written::Sizes => 0,
         Written::TooLong => 0,
         Written::Unlisted => 0,
+        Written::Trade => 0,
         Written::NoRoom => 0,
     }
 }
@@ -126,6 +128,7 @@ pub fn write_count(answer: Written) -> usize
         Written::Sizes => NO_CALLS,
         Written::TooLong => NO_CALLS,
         Written::Unlisted => NO_CALLS,
+        Written::Trade => NO_CALLS,
         Written::NoRoom => NO_CALLS,
     }
 }
@@ -145,6 +148,7 @@ pub fn read_number(answer: Answer) -> u32
         Answer::Font => 8,
         Answer::Seal(_) => 5,
         Answer::Unlisted(_) => 9,
+        Answer::Trade(_) => 13,
         Answer::Line {
             length: _,
             calls: _,
@@ -167,6 +171,7 @@ pub fn read_length(answer: Answer) -> usize
         Answer::Font => 0,
         Answer::Seal(_) => 0,
         Answer::Unlisted(_) => 0,
+        Answer::Trade(_) => 0,
         Answer::Line { length, calls: _ } => length,
     }
 }
@@ -186,6 +191,7 @@ pub fn read_count(answer: Answer) -> usize
         Answer::Font => NO_CALLS,
         Answer::Seal(calls) => calls,
         Answer::Unlisted(calls) => calls,
+        Answer::Trade(calls) => calls,
         Answer::Line { length: _, calls } => calls,
     }
 }
