@@ -9,10 +9,12 @@
 #include <string.h>
 #include <sys/mman.h>
 
-/* ESCAPED is what is XORed into a byte behind an escape, UNTOUCHED what stands in a buffer before a call, MOST the longest stream made
- * here, MORE_ROOM what a line buffer has at most beyond the longest line. */
+/* BETWEEN is how many digits stand between two transit symbols, ESCAPED what is XORed into a byte behind an escape, UNTOUCHED what stands
+ * in a buffer before a call, MOST the longest stream made here, MORE_ROOM what a line buffer has at most beyond the longest line. */
 enum {
     MARK = 0x7E,
+    TRANSIT = 'A',
+    BETWEEN = 9,
     ESCAPE = 0x7D,
     ESCAPED = 0x20,
     UNTOUCHED = 0xA5,
@@ -44,12 +46,12 @@ enum { MET_NUMBERS = 16, MET_NONE = MET_NUMBERS - 1, MET_LINES = MET_NUMBERS * M
 __attribute__((section("__libfuzzer_extra_counters"))) static uint8_t met[2048];
 
 /* How often each number was met, lines apart from the end of the stream; printed at the end. */
-static unsigned long lines_met, numbers_met[LUBDHVANI_BEYOND + 1];
+static unsigned long lines_met, numbers_met[LUBDHVANI_NOT_TRADE + 1];
 
 static void print_met(void)
 {
     printf("fuzz: lines %lu, ends %lu; refused", lines_met, numbers_met[LUBDHVANI_DONE]);
-    for (size_t i = 1; i <= LUBDHVANI_BEYOND; i++)
+    for (size_t i = 1; i <= LUBDHVANI_NOT_TRADE; i++)
         if (numbers_met[i] > 0)
             printf(", %zu: %lu times", i, numbers_met[i]);
     puts("");
@@ -94,17 +96,41 @@ static void append(const uint8_t *bytes, size_t length)
     built += length;
 }
 
-static int listed(uint8_t byte)
+static int is_digit(uint8_t byte)
 {
-    return (byte >= '0' && byte <= '9') || (byte >= 'A' && byte <= 'D') || byte == ' ';
+    return byte >= '0' && byte <= '9';
 }
 
-static int all_listed(const uint8_t *line, size_t length)
+static int listed(uint8_t byte)
 {
+    return is_digit(byte) || (byte >= 'A' && byte <= 'D') || byte == ' ';
+}
+
+static size_t digits(const uint8_t *line, size_t length)
+{
+    size_t met = 0;
     for (size_t i = 0; i < length; i++)
+        met += is_digit(line[i]);
+    return met;
+}
+
+/* The number of the line's rule: transit symbols none, or two with nine digits between. */
+static uint32_t ruled(const uint8_t *line, size_t length)
+{
+    size_t transits = 0, first = 0, last = 0;
+    for (size_t i = 0; i < length; i++) {
         if (!listed(line[i]))
-            return 0;
-    return 1;
+            return LUBDHVANI_UNLISTED;
+        if (line[i] != TRANSIT)
+            continue;
+        first = transits == 0 ? i : first;
+        last = i;
+        transits++;
+    }
+    if (digits(line, length) == 0)
+        return LUBDHVANI_NOT_TRADE;
+    const int enclosed = last - first == BETWEEN + 1 && digits(line + first + 1, BETWEEN) == BETWEEN;
+    return transits == 0 || (transits == 2 && enclosed) ? LUBDHVANI_DONE : LUBDHVANI_NOT_TRADE;
 }
 
 static void append_framed(const uint8_t *body, size_t length)
@@ -156,9 +182,7 @@ static void write_line(const uint8_t *its_key, const uint8_t *its_font, const ui
     uint32_t number = lubdhvani_write(its_key, LUBDHVANI_KEY, nonce, LUBDHVANI_NONCE, its_font, LUBDHVANI_DIGEST, line, n, frame,
                                       LUBDHVANI_FRAME, &length, &calls);
 
-    uint32_t expected = n < 1 || n > LUBDHVANI_LONGEST_LINE ? LUBDHVANI_TOO_LONG
-                        : !all_listed(line, n)              ? LUBDHVANI_UNLISTED
-                                                            : LUBDHVANI_DONE;
+    uint32_t expected = n < 1 || n > LUBDHVANI_LONGEST_LINE ? LUBDHVANI_TOO_LONG : ruled(line, n);
     must(number == expected, "the writer's number");
     must(number == LUBDHVANI_DONE ? calls == n + CALLS && length >= BESIDE_LINE + n + 2 && length <= LUBDHVANI_FRAME
                                   : calls == 0 && length == 0,
@@ -209,15 +233,23 @@ static void take_nonce(uint8_t nonce[LUBDHVANI_NONCE])
         nonce[i] = take();
 }
 
-/* Any bytes, or listed ones only. */
+/* Any bytes, or listed ones only; these mostly without transit symbols, or with two around digits where there is room. */
 static void take_line(uint8_t *line, size_t n, int any)
 {
-    static const char all[] = "0123456789ABCD ";
+    static const char all[] = "0123456789BCD A";
+    const uint8_t how = take();
     for (size_t i = 0; i < n; i++) {
         line[i] = take();
         if (!any)
-            line[i] = (uint8_t)all[line[i] % (sizeof all - 1)];
+            line[i] = (uint8_t)all[line[i] % (sizeof all - 1 - (how % 4 != 0))];
     }
+    const size_t between = how % 16 == 1 ? BETWEEN - 1 : how % 16 == 2 ? BETWEEN + 1 : BETWEEN;
+    if (any || how % 2 == 0 || n < between + 2)
+        return;
+    uint8_t *at = line + how % (n - between - 1);
+    for (size_t i = 1; i <= between; i++)
+        at[i] = (uint8_t)('0' + at[i] % 10);
+    at[0] = at[between + 1] = TRANSIT;
 }
 
 /* What a recipe can ask for. The order says which, and in its other bits how. */
@@ -360,8 +392,8 @@ static struct judged judge(const uint8_t *stretch, size_t length, const struct t
     must(j.number == LUBDHVANI_DONE || j.number == LUBDHVANI_BAD_SEAL, "a ciphertext is opened or its seal is wrong");
     for (size_t i = j.number == LUBDHVANI_DONE ? line : 0; i < sizeof j.line; i++)
         must(j.line[i] == 0, "nothing is left of a message whose seal is wrong, and nothing stands behind one that was opened");
-    if (j.number == LUBDHVANI_DONE && !all_listed(j.line, line))
-        j.number = LUBDHVANI_UNLISTED;
+    if (j.number == LUBDHVANI_DONE)
+        j.number = ruled(j.line, line);
     if (j.number == LUBDHVANI_DONE)
         j.length = line;
     return j;
@@ -408,7 +440,7 @@ static struct reading read_once(const uint8_t *stream, size_t place, const struc
     for (size_t i = 0; i < sizeof r.around; i++)
         must((i >= CANARY && i < CANARY + r.length) || r.around[i] == UNTOUCHED, "the reader writes the line only");
     must(memcmp(stream, building, built) == 0, "the stream stays");
-    must(r.number <= LUBDHVANI_BEYOND, "a number of the table");
+    must(r.number <= LUBDHVANI_BEYOND || r.number == LUBDHVANI_NOT_TRADE, "a number of the table");
     *(r.length > 0 ? &lines_met : &numbers_met[r.number]) += 1;
     return r;
 }

@@ -10,8 +10,8 @@
  *  - Buffers that are written overlap no other argument of the call.
  *  - `calls`, `length`, `first` and `closing` each point to a size_t of the caller's: never NULL, no two to the same one, none into a
  *    buffer of the call.
- *  - The return value is one of the numbers below. They are tested in the order 1, 2, 3, 9, 4, 10; the first that holds is given. A
- *    stretch is judged in the order 7 for its length, 6, 7 for its fields, 8, 5, 9.
+ *  - The return value is one of the numbers below. They are tested in the order 1, 2, 3, 9, 13, 4, 10; the first that holds is given. A
+ *    stretch is judged in the order 7 for its length, 6, 7 for its fields, 8, 5, 9, 13.
  *  - `calls` (and `length`, `first`, `closing`) are always written: counts of calls of the permutation, lengths, places.
  *  - Nothing is changed but what is named; the rest of a longer buffer stays as it was.
  *  - The library has no state of its own: calls on different buffers may run at the same time. Keys and states that a call works with are
@@ -63,7 +63,8 @@ enum {
     LUBDHVANI_BAD_SHAPE = 7,   /* a stretch over 274 bytes, or fields not as they must be */
     LUBDHVANI_OTHER_FONT = 8,  /* the font digest differs from the one asked for */
     LUBDHVANI_UNLISTED = 9,    /* the line holds a byte that is not listed */
-    LUBDHVANI_BEYOND = 10      /* the place is beyond the stream's end */
+    LUBDHVANI_BEYOND = 10,     /* the place is beyond the stream's end */
+    LUBDHVANI_NOT_TRADE = 13   /* the line's bytes are listed, but it is not the trade's line */
 };
 
 /* The permutation of 32 rounds on a state of `size` bytes, where it stands, and its inverse.
@@ -94,7 +95,8 @@ uint32_t lubdhvani_open(const uint8_t *key, size_t key_length, const uint8_t *no
 
 /* Writes the frame of a line, sealed to a font's digest.
  * 0: frame[0..*length] is the frame with both its marks, *calls = line_length + 39.
- * 2, 3 (line not 1 to 65 bytes), 9, 4 (room under 276): frame is untouched, *length and *calls are 0. */
+ * 2, 3 (line not 1 to 65 bytes), 9, 13, 4 (room under 276): frame is untouched, *length and *calls are 0.
+ * A line is the trade's if it has a digit and no transit symbol (A), or exactly two with exactly nine digits and no other byte between. */
 uint32_t lubdhvani_write(const uint8_t *key, size_t key_length, const uint8_t *nonce, size_t nonce_length, const uint8_t *font,
                          size_t font_length, const uint8_t *line, size_t line_length, uint8_t *frame, size_t room,
                          size_t *length, size_t *calls);
@@ -105,9 +107,9 @@ void lubdhvani_next_stretch(const uint8_t *stream, size_t stream_length, size_t 
 
 /* Judges the next stretch from a place and gives out its line.
  * 0 with *length > 0: line[0..*length] is the line. 0 with *length = 0: the end of the stream, *first = *closing = stream_length.
- * 5, 6, 7, 8, 9: the stretch from *first up to *closing is refused; line is untouched. Reading goes on from *closing in each of
+ * 5, 6, 7, 8, 9, 13: the stretch from *first up to *closing is refused; line is untouched. Reading goes on from *closing in each of
  * these cases. 2, 3, 4, 10: the call is refused, *first = *closing = from, line is untouched.
- * *calls is n + 39 for a line, 5 and 9, n being the length of the line's ciphertext; else 0. *length is 0 but for a line. */
+ * *calls is n + 39 for a line, 5, 9 and 13, n being the length of the line's ciphertext; else 0. *length is 0 but for a line. */
 uint32_t lubdhvani_read(const uint8_t *stream, size_t stream_length, size_t from, const uint8_t *key, size_t key_length,
                         const uint8_t *font, size_t font_length, uint8_t *line, size_t room, size_t *first, size_t *closing,
                         size_t *length, size_t *calls);

@@ -86,6 +86,22 @@ static void check_seal(void)
     check(all_are(0, back, n) && back[n] == 0xEE, "nothing of the message is left, and nothing behind it changed");
 }
 
+/* A line of blanks is not the trade's. */
+
+static void check_trade(void)
+{
+    static const uint8_t nonce[LUBDHVANI_NONCE] = "once only";
+    uint8_t blanks[LUBDHVANI_LONGEST_LINE], frame[LUBDHVANI_FRAME];
+    size_t length, calls;
+
+    memset(blanks, ' ', sizeof blanks);
+    memset(frame, 0xEE, sizeof frame);
+    check(lubdhvani_write(key, sizeof key, nonce, sizeof nonce, font, sizeof font, blanks, sizeof blanks, frame, sizeof frame, &length,
+                          &calls) == LUBDHVANI_NOT_TRADE,
+          "a line of blanks is refused");
+    check(length == 0 && calls == 0 && all_are(0xEE, frame, sizeof frame), "and no frame is written");
+}
+
 /* The composer's orders, and what the link does to the frame of each. */
 
 enum damage { WHOLE, FLIPPED, LOST, DOUBLED, NO_OPENING, NO_CLOSING, OTHER_FONT };
@@ -184,8 +200,25 @@ static void compose(void)
 
 /* The press: reads from place to place up to the end of the stream, and lists what it finds. */
 
-static const char *const meaning[] = {"",           "unknown instance", "wrong size",  "too long",      "no room",        "wrong seal",
-                                      "bad stuffing", "not a frame",      "other font", "unlisted byte", "beyond the end"};
+static const char *meaning(uint32_t number)
+{
+    switch (number) {
+    case LUBDHVANI_BAD_SEAL:
+        return "wrong seal";
+    case LUBDHVANI_BAD_STUFFING:
+        return "bad stuffing";
+    case LUBDHVANI_BAD_SHAPE:
+        return "not a frame";
+    case LUBDHVANI_OTHER_FONT:
+        return "other font";
+    case LUBDHVANI_UNLISTED:
+        return "unlisted byte";
+    case LUBDHVANI_NOT_TRADE:
+        return "not the trade's line";
+    default:
+        return "the call is refused";
+    }
+}
 
 static void press(void)
 {
@@ -206,7 +239,7 @@ static void press(void)
         if (number == LUBDHVANI_DONE)
             printf("%5zu  line     %.*s\n", first, (int)length, (const char *)line);
         else
-            printf("%5zu  refused  %u %s\n", first, (unsigned)number, number <= LUBDHVANI_BEYOND ? meaning[number] : "no number");
+            printf("%5zu  refused  %u %s\n", first, (unsigned)number, meaning(number));
 
         if (!(place < first && first < closing && closing < stream_length && row < EXPECTED)) {
             check(0, "reading goes on, from stretch to stretch, as many as there are");
@@ -232,6 +265,7 @@ int main(void)
     check_permutation();
     check_digest();
     check_seal();
+    check_trade();
     compose();
     press();
     puts(wrong ? "client-c: not as expected" : "client-c: all as expected");

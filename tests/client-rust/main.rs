@@ -22,6 +22,7 @@ mod lubdhvani {
     pub const BAD_SHAPE: u32 = 7;
     pub const OTHER_FONT: u32 = 8;
     pub const UNLISTED: u32 = 9;
+    pub const NOT_TRADE: u32 = 13;
 
     #[rustfmt::skip]
     extern "C" {
@@ -162,7 +163,7 @@ mod lubdhvani {
     }
 }
 
-use lubdhvani::{BAD_SEAL, BAD_SHAPE, BAD_STUFFING, DONE, INSTANCE, OTHER_FONT, UNLISTED};
+use lubdhvani::{BAD_SEAL, BAD_SHAPE, BAD_STUFFING, DONE, INSTANCE, NOT_TRADE, OTHER_FONT, UNLISTED};
 use lubdhvani::{DIGEST, FRAME, KEY, LONGEST_LINE, NONCE, SEAL};
 
 /// What the composer and the press share, beside the font's digest.
@@ -362,6 +363,7 @@ fn meaning(number: u32) -> &'static str {
         BAD_SHAPE => "not a frame",
         OTHER_FONT => "other font",
         UNLISTED => "unlisted byte",
+        NOT_TRADE => "not the trade's line",
         _ => "the call is refused",
     }
 }
