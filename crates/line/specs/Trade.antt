@@ -10,8 +10,8 @@ use lib.ListN.{length}
 use borrow.Author.Tests.{eqb-true}
 use Rattle.lists.specs.Never.{never}
 use Rattle.lists.specs.Free.{Free}
-use Rattle.line.specs.Lines.{firstDigit, lastDigit, transit, isDigit, isTransit, anyDigit, allDigits, transits, before, behind, between, nine, nineDigits, transitsRight, isTrade}
-use Rattle.line.specs.Bytewise.{is-digit, digit-is, is-transit, not-transit, transit-apart, digit-apart, transits-more, before-none, behind-all, transits-same, before-more, behind-same, any-found, all-same}
+use Rattle.line.specs.Lines.{firstDigit, lastDigit, transit, isDigit, isTransit, anyDigit, allDigits, transits, before, behind, between, nine, transitsRight, isTrade}
+use Rattle.line.specs.Bytewise.{is-digit, digit-is, is-transit, not-transit, transit-apart, digit-apart, transits-more, before-none, behind-all, transits-same, before-more, behind-same}
 
 abbrev pub Digit : ℕ → Type 0
 Digit b = (firstDigit ≤ b) × (b ≤ lastDigit)
@@ -29,8 +29,8 @@ pub data HasDigit : List ℕ → Type 0 where
 -- no transit symbol and at least one digit; or bytes without a transit symbol, one, nine digits, one, and bytes without one
 pub data TradeLine (s : List ℕ) : Type 0 where
   no-transit : Free transit s → HasDigit s → TradeLine s
-  two-transits : (f d e : List ℕ) → s ≡ f ++ (transit ∷ (d ++ (transit ∷ e))) → Free transit f → Free transit e → length d ≡ nine → Digits d
-      → TradeLine s
+  two-transits : (front middle back : List ℕ) → s ≡ front ++ (transit ∷ (middle ++ (transit ∷ back))) → Free transit front → Free transit back
+      → length middle ≡ nine → Digits middle → TradeLine s
 
 the-transit : isTransit transit ≡ true
 unfolding isTransit
