@@ -4,7 +4,7 @@ use std::fmt::Write;
 
 use crate::digest::digest;
 use crate::numbers::{DIGEST, DONE, KEY, LINE_MOST, MESSAGE_LIMIT, STREAM_LIMIT};
-use crate::reader::{Told, Walker};
+use crate::reader::{Told, Walker, ALL};
 
 /// The key file's bytes, or the refusal.
 pub fn usable_key(file: Option<Vec<u8>>) -> Result<Vec<u8>, &'static str> {
@@ -50,7 +50,7 @@ fn rows(
     let mut rows = String::new();
     let (mut given, mut refused) = (0, 0);
     loop {
-        let reading = walker.next(told, &mut line);
+        let reading = walker.next(told, ALL, &mut line);
         if reading.end {
             break;
         }

@@ -25,6 +25,8 @@ pub const NOT_LISTED: u8 = 9;
 pub const BEYOND_END: u8 = 10;
 /// Line of listed bytes that is not the trade's (order W2).
 pub const NOT_TRADE: u8 = 13;
+/// The stretch takes more work than is allowed (order W5).
+pub const OVER_WORK: u8 = 15;
 
 pub const KEY: usize = 16;
 pub const NONCE: usize = 12;
@@ -40,6 +42,8 @@ pub const LINE_LEAST: usize = 1;
 pub const LINE_MOST: usize = 65;
 pub const FRAME_ROOM: usize = 276;
 pub const STRETCH_MOST: usize = 274;
+/// A line of n bytes takes n + 39 calls of the permutation.
+pub const BESIDE_LINE: usize = 39;
 
 /// The answer of a call that reports a number and its calls of the permutation.
 #[derive(Clone, Copy, Debug, PartialEq, Eq)]

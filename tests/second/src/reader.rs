@@ -4,8 +4,8 @@ use crate::cipher::{decrypt, INSTANCE_1};
 use crate::frame::{associated, Fields};
 use crate::line;
 use crate::numbers::{
-    BAD_FIELDS, BAD_STUFFING, BEYOND_END, DIGEST, DONE, KEY, LINE_MOST, NOT_ITS_SIZE, NO_ROOM,
-    OTHER_FONT, STREAM_LIMIT, STRETCH_MOST, TOO_LONG, WRONG_SEAL,
+    BAD_FIELDS, BAD_STUFFING, BESIDE_LINE, BEYOND_END, DIGEST, DONE, KEY, LINE_MOST, NOT_ITS_SIZE,
+    NO_ROOM, OTHER_FONT, OVER_WORK, STREAM_LIMIT, STRETCH_MOST, TOO_LONG, WRONG_SEAL,
 };
 use crate::readings::PRODUCT;
 use crate::stream::next_stretch;
@@ -17,6 +17,18 @@ pub struct Told<'a> {
     pub key: &'a [u8],
     pub digest: &'a [u8],
 }
+
+/// What it is told anew at each call: the calls of the permutation that one
+/// stretch is allowed (order W5).
+#[derive(Clone, Copy, Debug, PartialEq, Eq)]
+pub struct Asked {
+    pub allowed: usize,
+}
+
+/// Every stretch is allowed all the work it takes.
+pub const ALL: Asked = Asked {
+    allowed: usize::MAX,
+};
 
 /// A stretch judged: its line where the number is 0, else an empty one.
 struct Judged {
@@ -35,8 +47,8 @@ impl Judged {
     }
 }
 
-/// Order of a stretch: 7 for its length, 6, 7 for its fields, 8, 5, 9, 13.
-fn judge(told: Told, stretch: &[u8]) -> Judged {
+/// Order of a stretch: 7 for its length, 6, 7 for its fields, 8, 15, 5, 9, 13.
+fn judge(told: Told, asked: Asked, stretch: &[u8]) -> Judged {
     if stretch.len() > STRETCH_MOST {
         return Judged::refused(BAD_FIELDS, 0);
     }
@@ -50,6 +62,9 @@ fn judge(told: Told, stretch: &[u8]) -> Judged {
     };
     if fields.digest != told.digest {
         return Judged::refused(OTHER_FONT, 0);
+    }
+    if fields.ciphertext.len() + BESIDE_LINE > asked.allowed {
+        return Judged::refused(OVER_WORK, 0);
     }
     let (line, worked_out, count) = decrypt(
         &PRODUCT,
@@ -105,7 +120,7 @@ impl Reading {
 
 /// The public call. Writes the line into the first bytes of `out`; on a
 /// refusal, of the call or of the stretch, nothing.
-pub fn read(told: Told, stream: &[u8], place: usize, out: &mut [u8]) -> Reading {
+pub fn read(told: Told, asked: Asked, stream: &[u8], place: usize, out: &mut [u8]) -> Reading {
     if told.key.len() != KEY || told.digest.len() != DIGEST {
         return Reading::call_refused(NOT_ITS_SIZE, place);
     }
@@ -130,7 +145,7 @@ pub fn read(told: Told, stream: &[u8], place: usize, out: &mut [u8]) -> Reading 
         };
     }
     let closing = part.first + part.length;
-    let judged = judge(told, &stream[part.first..closing]);
+    let judged = judge(told, asked, &stream[part.first..closing]);
     out[..judged.line.len()].copy_from_slice(&judged.line);
     Reading {
         first: part.first,
@@ -155,8 +170,8 @@ impl<'a> Walker<'a> {
 
     /// Reads from the place reached and goes on to the closing mark; at the end
     /// of the stream it stands at its length, on a refused call it stays.
-    pub fn next(&mut self, told: Told, out: &mut [u8]) -> Reading {
-        let reading = read(told, self.stream, self.place, out);
+    pub fn next(&mut self, told: Told, asked: Asked, out: &mut [u8]) -> Reading {
+        let reading = read(told, asked, self.stream, self.place, out);
         self.place = reading.closing;
         reading
     }
@@ -183,7 +198,7 @@ mod tests {
 
     fn number(stream: &[u8]) -> u8 {
         let mut out = [0xcc; LINE_MOST];
-        let reading = read(TOLD, stream, 0, &mut out);
+        let reading = read(TOLD, ALL, stream, 0, &mut out);
         assert!(!reading.end);
         if reading.number != DONE {
             assert_eq!(out, [0xcc; LINE_MOST]);
@@ -197,7 +212,7 @@ mod tests {
         for line in [&b"7"[..], b"A123456789A", &[b'0'; 65]] {
             let stream = frame(line);
             let mut out = [0xcc; LINE_MOST + 2];
-            let reading = read(TOLD, &stream, 0, &mut out);
+            let reading = read(TOLD, ALL, &stream, 0, &mut out);
             let expected = Reading {
                 first: 1,
                 closing: stream.len() - 1,
@@ -215,7 +230,7 @@ mod tests {
     #[test]
     fn run_and_compared() {
         for stream in [&b""[..], b"~", b"~~", b"A~", b"~A"] {
-            let reading = read(TOLD, stream, 0, &mut [0; LINE_MOST]);
+            let reading = read(TOLD, ALL, stream, 0, &mut [0; LINE_MOST]);
             assert!(reading.end);
             assert_eq!(
                 (reading.first, reading.closing),
@@ -242,11 +257,11 @@ mod tests {
         stream.extend(frame(b"123"));
         let mut walker = Walker::new(&stream);
         let mut out = [0; LINE_MOST];
-        assert_eq!(walker.next(TOLD, &mut out).number, BAD_STUFFING);
+        assert_eq!(walker.next(TOLD, ALL, &mut out).number, BAD_STUFFING);
         assert_eq!(walker.place, 3);
-        assert_eq!(walker.next(TOLD, &mut out).number, DONE);
+        assert_eq!(walker.next(TOLD, ALL, &mut out).number, DONE);
         assert_eq!(&out[..3], b"123");
-        assert!(walker.next(TOLD, &mut out).end);
+        assert!(walker.next(TOLD, ALL, &mut out).end);
         assert_eq!(walker.place, stream.len());
     }
 
@@ -265,6 +280,41 @@ mod tests {
         assert_eq!(made(&FONT, &[b' '; 65], false), NOT_TRADE);
         assert_eq!(made(&FONT, b"", false), BAD_FIELDS);
         assert_eq!(made(&FONT, &[b'1'; 66], false), BAD_FIELDS);
+    }
+
+    #[test]
+    fn a_ceiling_on_the_work() {
+        let good = frame(b"123");
+        let mut bad = Fields::sealing(&KEY_1, &[1; NONCE], &FONT, b"xyz").0;
+        let unlisted = framed(&bad.body());
+        bad.seal[15] ^= 1;
+        let wrong = framed(&bad.body());
+        bad.digest[0] ^= 1;
+        let other = framed(&bad.body());
+        // The stream, and what its stretch is with all of the work allowed.
+        let cases = [
+            (good, DONE, 42),
+            (unlisted, NOT_LISTED, 42),
+            (wrong, WRONG_SEAL, 42),
+        ];
+        for (stream, number, count) in cases {
+            for (allowed, expected) in [(0, OVER_WORK), (41, OVER_WORK), (42, number), (43, number)]
+            {
+                let reading = read(TOLD, Asked { allowed }, &stream, 0, &mut [0; LINE_MOST]);
+                assert_eq!(reading.number, expected);
+                assert_eq!(reading.count, if expected == OVER_WORK { 0 } else { count });
+                assert_eq!((reading.first, reading.closing), (1, stream.len() - 1));
+            }
+        }
+        for (stream, number) in [
+            (&other[..], OTHER_FONT),
+            (b"~}A~", BAD_STUFFING),
+            (b"~A~", BAD_FIELDS),
+        ] {
+            let reading = read(TOLD, Asked { allowed: 0 }, stream, 0, &mut [0; LINE_MOST]);
+            assert_eq!((reading.number, reading.count), (number, 0));
+        }
+        assert!(read(TOLD, Asked { allowed: 0 }, b"~", 0, &mut [0; LINE_MOST]).end);
     }
 
     #[test]
@@ -288,7 +338,7 @@ mod tests {
                 digest: &digest,
             };
             let mut out = vec![0xcc; room];
-            let reading = read(told, stream, place, &mut out);
+            let reading = read(told, ALL, stream, place, &mut out);
             assert_eq!(reading, Reading::call_refused(number, place));
             assert_eq!(out, vec![0xcc; room]);
         }

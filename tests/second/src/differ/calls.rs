@@ -2,6 +2,7 @@
 //! case of it is, and what an answer is.
 
 use crate::memory::Stand;
+use second::reader::Asked;
 
 #[derive(Clone, Copy, Debug, PartialEq, Eq)]
 pub enum Call {
@@ -24,7 +25,7 @@ pub struct Signature {
     pub number: Option<&'static str>,
     pub buffers: &'static [&'static str],
     pub written: usize,
-    /// The numbers that go out through pointers.
+    /// The numbers that go out, through pointers or in a struct.
     pub outs: &'static [&'static str],
     /// Every answer it can give: a test that misses one has not tested it.
     pub outcomes: &'static [&'static str],
@@ -97,9 +98,9 @@ pub static SIGNATURES: [Signature; 8] = [
         number: Some("from"),
         buffers: &["stream", "key", "font", "line"],
         written: 1,
-        outs: &["first", "closing", "length", "calls"],
+        outs: &["first", "closing", "length", "calls", "given"],
         outcomes: &[
-            "line", "end", "2", "3", "4", "10", "7", "6", "8", "5", "9", "13",
+            "line", "end", "2", "3", "4", "10", "7", "6", "8", "15", "5", "9", "13",
         ],
     },
 ];
@@ -129,6 +130,8 @@ pub struct Case {
     pub call: Call,
     /// The instance or the place asked for; else 0.
     pub number: usize,
+    /// What a reader is told anew.
+    pub asked: Asked,
     pub buffers: Vec<Buffer>,
     /// What stands in every number that goes out, before the call.
     pub before: usize,
@@ -151,9 +154,7 @@ impl Answer {
         match (call, &self.outs[..]) {
             (Call::NextStretch, [first, closing]) if first < closing => "stretch".to_string(),
             (Call::NextStretch, _) => "none".to_string(),
-            (Call::Read, [_, _, length, _]) if self.number == 0 && *length > 0 => {
-                "line".to_string()
-            }
+            (Call::Read, [.., given]) if *given > 0 => "line".to_string(),
             (Call::Read, _) if self.number == 0 => "end".to_string(),
             _ => self.number.to_string(),
         }

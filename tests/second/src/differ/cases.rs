@@ -9,9 +9,11 @@ use second::chance::Chance;
 use second::digest::{instances, sizes};
 use second::near::near_line;
 use second::numbers::{
-    ASSOCIATED_LIMIT, CIPHER_LIMIT, DIGEST, FRAME_ROOM, KEY, LINE_MOST, MESSAGE_LIMIT, NONCE, SEAL,
+    ASSOCIATED_LIMIT, BESIDE_LINE, CIPHER_LIMIT, DIGEST, FRAME_ROOM, KEY, LINE_MOST, MESSAGE_LIMIT,
+    NONCE, SEAL,
 };
 use second::permutation::PERMITTED;
+use second::reader::Asked;
 
 /// A size is wrong once in so many times, and a room too small.
 const WRONG_SIZE: usize = 14;
@@ -45,6 +47,7 @@ pub fn case(chance: &mut Chance, stock: &Stock) -> Case {
     let mut case = Case {
         call,
         number,
+        asked: asked(chance),
         buffers,
         before: chance.word() as usize,
     };
@@ -180,6 +183,18 @@ fn read(chance: &mut Chance, stock: &Stock) -> (Call, usize, Vec<Vec<u8>>) {
     let (key, font) = (sized(chance, key), sized(chance, font));
     let line = room(chance, LINE_MOST);
     (Call::Read, from, vec![stream, key, font, line])
+}
+
+/// Mostly all the work; else none, or around the count of a line of 1 to 65
+/// bytes, or the largest number.
+fn asked(chance: &mut Chance) -> Asked {
+    let allowed = match chance.below(12) {
+        0 => chance.one_of(&[0, 1, BESIDE_LINE - 1, BESIDE_LINE]),
+        1..=4 => BESIDE_LINE + chance.between(1, LINE_MOST + 2),
+        5 => chance.one_of(&[usize::MAX, 1 << 63, VAST, VAST + BESIDE_LINE + LINE_MOST]),
+        _ => BESIDE_LINE + LINE_MOST,
+    };
+    Asked { allowed }
 }
 
 /// Mostly as it is; else of another size, one more or less among them.

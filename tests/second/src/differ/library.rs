@@ -74,13 +74,26 @@ extern "C" {
         key_length: usize,
         font: *const u8,
         font_length: usize,
+        asked: Anew,
         line: *mut u8,
         room: usize,
-        first: *mut usize,
-        closing: *mut usize,
-        length: *mut usize,
-        calls: *mut usize,
-    ) -> u32;
+    ) -> Reading;
+}
+
+/// The structs of the header.
+#[repr(C)]
+struct Anew {
+    allowed: usize,
+}
+
+#[repr(C)]
+struct Reading {
+    first: usize,
+    closing: usize,
+    length: usize,
+    calls: usize,
+    number: u32,
+    given: u32,
 }
 
 /// Memory for every buffer of a call, and a vast one.
@@ -180,8 +193,18 @@ unsafe fn called(case: &Case, puts: &[Put], outs: &[*mut usize]) -> u32 {
             call!(lubdhvani_next_stretch: [stream] (case.number, first, closing));
             0
         }
-        (Call::Read, [stream, key, font, line], &[first, closing, length, calls]) => {
-            call!(lubdhvani_read: [stream] (case.number) [key, font, line] (first, closing, length, calls))
+        (Call::Read, [stream, key, font, line], &[first, closing, length, calls, given]) => {
+            let asked = Anew {
+                allowed: case.asked.allowed,
+            };
+            let reading =
+                call!(lubdhvani_read: [stream] (case.number) [key, font] (asked) [line] ());
+            *first = reading.first;
+            *closing = reading.closing;
+            *length = reading.length;
+            *calls = reading.calls;
+            *given = reading.given as usize;
+            reading.number
         }
         _ => unreachable!("a case has its call's buffers"),
     }

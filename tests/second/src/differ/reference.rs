@@ -2,6 +2,7 @@
 
 use crate::calls::{Answer, Call, Case};
 use crate::memory::Ground;
+use second::numbers::DONE;
 use second::reader::{read, Told};
 use second::{cipher, digest, frame, permutation, stream};
 
@@ -52,12 +53,13 @@ fn answered(case: &Case, lent: &mut [&mut [u8]]) -> (u32, Vec<usize>) {
         }
         (Call::Read, [stream, key, digest, line]) => {
             let told = Told { key, digest };
-            let reading = read(told, stream, case.number, line);
+            let reading = read(told, case.asked, stream, case.number, line);
             let outs = vec![
                 reading.first,
                 reading.closing,
                 reading.length,
                 reading.count,
+                usize::from(reading.number == DONE && !reading.end),
             ];
             (reading.number.into(), outs)
         }

@@ -1,6 +1,7 @@
 //! The expected outputs of the product's test programs, one file of rows each.
 //! Where a test program reads cases, its standard input is made here too.
 
+mod beat;
 mod call;
 mod damage;
 mod digest;

@@ -4,12 +4,13 @@
 use std::fmt::Write;
 use std::ops::Range;
 
-use super::{damage, in_bytes, limit, sound, stretch, told};
+use super::{beat, damage, in_bytes, limit, sound, stretch, told};
 use crate::numbers::{DIGEST, KEY, LINE_MOST};
+use crate::reader::Asked;
 use crate::stream::next_stretch;
 
-/// A stream, the place to start from, and the lengths of line buffer, key and
-/// font digest. A case has a name of its own, or its number.
+/// A stream, the place to start from, the lengths of line buffer, key and font
+/// digest, and the work allowed. A case has a name of its own, or its number.
 pub struct Case {
     name: Option<&'static str>,
     stream: Vec<u8>,
@@ -17,10 +18,14 @@ pub struct Case {
     room: usize,
     key: usize,
     digest: usize,
+    allowed: usize,
 }
 
+/// Enough for every stretch, in the four bytes that a number of a case has.
+const ALL_WORK: usize = 0xffff_ffff;
+
 impl Case {
-    /// From the stream's start, and all lengths as they should be.
+    /// From the stream's start, all lengths as they should be, all work allowed.
     pub fn of(stream: &[u8]) -> Case {
         Case {
             name: None,
@@ -29,6 +34,7 @@ impl Case {
             room: LINE_MOST,
             key: KEY,
             digest: DIGEST,
+            allowed: ALL_WORK,
         }
     }
 
@@ -55,10 +61,14 @@ impl Case {
         Case { digest, ..self }
     }
 
+    pub fn allowed(self, allowed: usize) -> Case {
+        Case { allowed, ..self }
+    }
+
     /// As the case file holds it: the lengths of the name, of the stream, of
-    /// its first and of its last bytes, the byte between those, the place, and
-    /// the lengths of line buffer, key and font digest; then the name and the
-    /// first and the last bytes of the stream.
+    /// its first and of its last bytes, the byte between those, the place, the
+    /// lengths of line buffer, key and font digest, and the work allowed; then
+    /// the name and the first and the last bytes of the stream.
     fn stored(&self, name: &str) -> Vec<u8> {
         let run = longest_run(&self.stream);
         let (first, last) = (&self.stream[..run.start], &self.stream[run.end..]);
@@ -73,6 +83,7 @@ impl Case {
             self.room,
             self.key,
             self.digest,
+            self.allowed,
         ];
         [
             head.map(in_bytes).concat(),
@@ -86,8 +97,11 @@ impl Case {
     fn read_to_end(&self, rows: &mut String, name: &str) {
         let mut start = self.place;
         loop {
+            let asked = Asked {
+                allowed: self.allowed,
+            };
             let (reading, line) =
-                told::reading(self.key, self.digest, &self.stream, start, self.room);
+                told::reading(self.key, self.digest, asked, &self.stream, start, self.room);
             let part = next_stretch(&self.stream, start);
             writeln!(
                 rows,
@@ -135,6 +149,7 @@ fn cases() -> Vec<Case> {
     cases.extend(damage::cases());
     cases.extend(stretch::cases());
     cases.extend(limit::cases());
+    cases.extend(beat::cases());
     cases
 }
 
@@ -163,7 +178,7 @@ mod tests {
             .map(|row| row.split(' ').nth(6).unwrap())
             .collect();
         for number in [
-            "0", "2", "3", "4", "5", "6", "7", "8", "9", "10", "13", "end",
+            "0", "2", "3", "4", "5", "6", "7", "8", "9", "10", "13", "15", "end",
         ] {
             let times = numbers.iter().filter(|&&one| one == number).count();
             assert!(times >= 4, "{} occurs {} times", number, times);

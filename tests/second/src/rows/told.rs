@@ -4,7 +4,7 @@
 use super::by_rule;
 use crate::frame::write;
 use crate::numbers::{DIGEST, DONE, FRAME_ROOM, KEY, LINE_MOST};
-use crate::reader::{read, Reading, Told};
+use crate::reader::{read, Asked, Reading, Told};
 
 pub fn key() -> Vec<u8> {
     key_of(KEY)
@@ -35,6 +35,7 @@ pub fn frame(nonce: &[u8], line: &[u8]) -> Vec<u8> {
 pub fn reading(
     key: usize,
     digest: usize,
+    asked: Asked,
     stream: &[u8],
     place: usize,
     room: usize,
@@ -45,7 +46,7 @@ pub fn reading(
         digest: &digest,
     };
     let mut out = vec![0; room.max(LINE_MOST)];
-    let reading = read(told, stream, place, &mut out[..room]);
+    let reading = read(told, asked, stream, place, &mut out[..room]);
     let line = if reading.length == 0 {
         "-".to_string()
     } else {
