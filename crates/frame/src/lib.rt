@@ -19,8 +19,8 @@ pub const KEY_LENGTH: usize = 16;
 // The room that a frame asks for, whatever its own length (document 01, number 4).
 pub const FRAME_ROOM: usize = 276;
 
-// What the writer counts beside one call for each byte of the line (document 01, 'Numbers returned').
-const BESIDE_LINE: usize = 39;
+// What writer and reader count beside one call for each byte of the line (document 01, 'Numbers returned').
+pub const BESIDE_LINE: usize = 39;
 
 // What writing a frame comes to.
 pub enum Written {

@@ -11,7 +11,7 @@ use Rattle.body.specs.Lengths.{length-associated}
 use Rattle.framing.specs.Told.{Told}
 use Rattle.framing.specs.Lengths.{besideLine}
 use Rattle.judging.specs.Sizes.{Sizes}
-use Rattle.judging.specs.Judged.{Judged, shape, stuffing, font, seal, unlisted, trade, line, callsIn}
+use Rattle.judging.specs.Judged.{Judged, shape, stuffing, font, work, seal, unlisted, trade, line, callsIn}
 use Rattle.judging.specs.Judging.{judge}
 use Rattle.judging.specs.Cases.{Holds, Case, opening, judge-case, too-long, bad-stuffing, no-fields, other-font, other-seal, not-listed, not-trade, given}
 
@@ -24,12 +24,13 @@ abbrev pub Counted : Told → List ℕ → Judged → Type 0
 Counted t s shape = callsIn shape ≡ 0
 Counted t s stuffing = callsIn stuffing ≡ 0
 Counted t s font = callsIn font ≡ 0
+Counted t s work = callsIn work ≡ 0
 Counted t s (seal n) = OpenedWith t s (callsIn (seal n))
 Counted t s (unlisted n) = OpenedWith t s (callsIn (unlisted n))
 Counted t s (trade n) = OpenedWith t s (callsIn (trade n))
 Counted t s (line l n) = OpenedWith t s (callsIn (line l n))
 
-opening-calls : (t : Told) → Sizes t → (nonce cipher : List ℕ) → opening t nonce (t .font) cipher .calls ≡ length cipher + besideLine
+pub opening-calls : (t : Told) → Sizes t → (nonce cipher : List ℕ) → opening t nonce (t .font) cipher .calls ≡ length cipher + besideLine
 opening-calls t z nonce cipher =
     omega (arith, open-calls-first (t .key) nonce (associated (t .font)) cipher, length-associated (t .font) (z .font-is))
 

@@ -3,11 +3,12 @@
 use mathlib.Core.List.{List, []}
 use Prim.Native.Nat.{ℕ}
 
--- 7, 6, 8; 5, 9 and 13 with the calls of the permutation made; a line with them
+-- 7, 6, 8, 15; 5, 9 and 13 with the calls of the permutation made; a line with them
 pub data Judged : Type 0 where
   shape : Judged
   stuffing : Judged
   font : Judged
+  work : Judged
   seal : ℕ → Judged
   unlisted : ℕ → Judged
   trade : ℕ → Judged
@@ -17,6 +18,7 @@ abbrev pub numberIn : Judged → ℕ
 numberIn shape = 7
 numberIn stuffing = 6
 numberIn font = 8
+numberIn work = 15
 numberIn (seal n) = 5
 numberIn (unlisted n) = 9
 numberIn (trade n) = 13
@@ -27,6 +29,7 @@ abbrev pub lineIn : Judged → List ℕ
 lineIn shape = []
 lineIn stuffing = []
 lineIn font = []
+lineIn work = []
 lineIn (seal n) = []
 lineIn (unlisted n) = []
 lineIn (trade n) = []
@@ -37,6 +40,7 @@ abbrev pub callsIn : Judged → ℕ
 callsIn shape = 0
 callsIn stuffing = 0
 callsIn font = 0
+callsIn work = 0
 callsIn (seal n) = n
 callsIn (unlisted n) = n
 callsIn (trade n) = n

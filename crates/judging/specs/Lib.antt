@@ -4,6 +4,8 @@ pub mod Judging
 pub mod Cases
 pub mod Numbers
 pub mod Counts
+pub mod Ceiling
+pub mod Allowance
 pub mod Readings
 pub mod Resync
 pub mod Reaching

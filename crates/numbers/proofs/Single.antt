@@ -28,6 +28,8 @@ use Rattle.numbers.proofs.read_length.Kinds as read-length-kinds
 use Rattle.numbers.proofs.read_length.Reads as read-length-reads
 use Rattle.numbers.proofs.read_count.Kinds as read-count-kinds
 use Rattle.numbers.proofs.read_count.Reads as read-count-reads
+use Rattle.numbers.proofs.read_given.Kinds as read-given-kinds
+use Rattle.numbers.proofs.read_given.Reads as read-given-reads
 
 pub digest-number-single : (κs : Lfts 0) (a : Dens κs digest-number-kinds.ps) (r r′ : ℕ) (x x′ : AtExit (endedOf 0 digest-number-kinds.ps digest-number-kinds.r) κs)
     → digest-number-reads.Post κs a r x → digest-number-reads.Post κs a r′ x′ → r ≡ r′
@@ -76,3 +78,7 @@ read-length-single κs a r r′ x x′ p q = p ∙ sym q
 pub read-count-single : (κs : Lfts 0) (a : Dens κs read-count-kinds.ps) (r r′ : ℕ) (x x′ : AtExit (endedOf 0 read-count-kinds.ps read-count-kinds.r) κs)
     → read-count-reads.Post κs a r x → read-count-reads.Post κs a r′ x′ → r ≡ r′
 read-count-single κs a r r′ x x′ p q = p ∙ sym q
+
+pub read-given-single : (κs : Lfts 0) (a : Dens κs read-given-kinds.ps) (r r′ : ℕ) (x x′ : AtExit (endedOf 0 read-given-kinds.ps read-given-kinds.r) κs)
+    → read-given-reads.Post κs a r x → read-given-reads.Post κs a r′ x′ → r ≡ r′
+read-given-single κs a r r′ x x′ p q = p ∙ sym q

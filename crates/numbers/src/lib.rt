@@ -146,6 +146,7 @@ pub fn read_number(answer: Answer) -> u32
         Answer::Shape => 7,
         Answer::Stuffing => 6,
         Answer::Font => 8,
+        Answer::Work => 15,
         Answer::Seal(_) => 5,
         Answer::Unlisted(_) => 9,
         Answer::Trade(_) => 13,
@@ -169,6 +170,7 @@ pub fn read_length(answer: Answer) -> usize
         Answer::Shape => 0,
         Answer::Stuffing => 0,
         Answer::Font => 0,
+        Answer::Work => 0,
         Answer::Seal(_) => 0,
         Answer::Unlisted(_) => 0,
         Answer::Trade(_) => 0,
@@ -189,9 +191,34 @@ pub fn read_count(answer: Answer) -> usize
         Answer::Shape => NO_CALLS,
         Answer::Stuffing => NO_CALLS,
         Answer::Font => NO_CALLS,
+        Answer::Work => NO_CALLS,
         Answer::Seal(calls) => calls,
         Answer::Unlisted(calls) => calls,
         Answer::Trade(calls) => calls,
         Answer::Line { length: _, calls } => calls,
+    }
+}
+
+// 1 where a line is given, else 0.
+pub fn read_given(answer: Answer) -> u32
+    ensures { λ r. ⌜ r ≡ reading.givenOf answer ⌝ }
+{
+    match answer {
+        Answer::Line {
+            length: _,
+            calls: _,
+        } => 1,
+        Answer::Sizes => 0,
+        Answer::TooLong => 0,
+        Answer::NoRoom => 0,
+        Answer::Beyond => 0,
+        Answer::End => 0,
+        Answer::Shape => 0,
+        Answer::Stuffing => 0,
+        Answer::Font => 0,
+        Answer::Work => 0,
+        Answer::Seal(_) => 0,
+        Answer::Unlisted(_) => 0,
+        Answer::Trade(_) => 0,
     }
 }

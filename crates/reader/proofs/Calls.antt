@@ -11,26 +11,28 @@ use Rattle.stream.specs.Places.{Within, next-within, next-equal}
 use Rattle.line.specs.Lines.{longest}
 use Rattle.framing.specs.Told.{keyLength, Told, told}
 use Rattle.body.specs.Fields.{digestLength}
+use Rattle.reader.specs.declared.Asked.{Asked}
 use Rattle.reader.specs.declared.Answer.{Answer}
 use Rattle.reader.specs.declared.Reading.{Reading}
 use Rattle.reader.specs.declared.Answer.the-variants as answer-is
 use Rattle.judging.specs.Sizes.{Sizes}
 use Rattle.judging.specs.Judging.{judge}
+use Rattle.judging.specs.Ceiling as ceiling
 use Rattle.reader.specs.Answers.{longestStream, sizedTold, Found, call, stretch, found, readingAt, readingOf, buffer, answerOf, lineOver, readAnswer, readOut}
 
 -- the places that `next_span` gives
 pub within : (s : List ℕ) (from : ℕ) (p : Span) → p ≡ nextSpan s from → Within (length s) p
 within s from p e = rw e (next-within s from)
 
-module _ (key font s : List ℕ) (from : ℕ) (o : List ℕ) where
+module _ (key font : List ℕ) (b : Asked) (s : List ℕ) (from : ℕ) (o : List ℕ) where
   abbrev t : Told
   t = told key font
 
   -- what a return has to show
   abbrev pub Met : Reading → List ℕ → Type 0
-  Met r w = (r ≡ readAnswer t s from o) × (w ≡ readOut t s from o)
+  Met r w = (r ≡ readAnswer t b s from o) × (w ≡ readOut t b s from o)
 
-  met : (f : Found) → found t s from (length o) ≡ f → (r : Reading) → r ≡ readingOf f → Met r (buffer f o)
+  met : (f : Found) → found t b s from (length o) ≡ f → (r : Reading) → r ≡ readingOf f → Met r (buffer f o)
   met f e r q = (q ∙ ap readingOf (sym e), ap (λ (x : Found). buffer x o) (sym e))
 
   -- where the call is refused, and at the stream's end
@@ -85,11 +87,11 @@ module _ (key font s : List ℕ) (from : ℕ) (o : List ℕ) where
               a (x ∙ ap (λ (n : ℕ). readingAt (span n n) answer-is.End) last)
 
           -- the stretch that stands there, judged
-          pub at-stretch : (p .first ≡ p .closing → ⊥) → (a : Answer) (w : List ℕ) → a ≡ answerOf (judge t (bytesAt s p))
-              → w ≡ lineOver (judge t (bytesAt s p)) o → Met (readingAt p a) w
+          pub at-stretch : (p .first ≡ p .closing → ⊥) → (a : Answer) (w : List ℕ) → a ≡ answerOf (ceiling.within (b .allowed) (judge t (bytesAt s p)))
+              → w ≡ lineOver (ceiling.within (b .allowed) (judge t (bytesAt s p))) o → Met (readingAt p a) w
           unfolding found nextStretch
           at-stretch q a w x y =
-              let m = met (stretch p (judge t (bytesAt s p))) (rw (
+              let m = met (stretch p (ceiling.within (b .allowed) (judge t (bytesAt s p)))) (rw (
                 sized,
                 le-ltb longestStream (length s) h,
                 le-ltb (length o) longest r,

@@ -2,9 +2,10 @@
 use mathlib.Core.Path.{_≡_, refl, ap, subst, _∙_}
 use mathlib.Core.Bool.{true, false}
 use mathlib.Core.List.{List}
-use Prim.Native.Nat.{ℕ, _+_, _-_}
+use Prim.Native.Nat.{ℕ, _+_, _-_, _≤_, _<_}
 use native.Mathlib.Omega.{arith}
-use lib.ListN.{length, take, drop}
+use lib.ListN.{length, take, drop, length-drop}
+use lib.Seq.{length-take-le}
 use Rattle.lists.specs.Below.{Below}
 use Rattle.lists.specs.Buffers.{same}
 use Rattle.line.specs.Lines.{longest}
@@ -18,7 +19,11 @@ use Rattle.body.specs.Places.{nonceAt, associatedAt, digestAt, cipherAt, sealAt
 use Rattle.body.specs.OneToOne.{body-fields}
 use Rattle.framing.specs.Told.{Told}
 use Rattle.judging.specs.Sizes.{Sizes}
-use Rattle.judging.specs.Judged.{shape, font}
+use Rattle.framing.specs.Lengths.{besideLine}
+use Rattle.judging.specs.Judged.{shape, font, work, callsIn}
+use Rattle.judging.specs.Ceiling as ceiling
+use Rattle.judging.specs.Allowance.{no-ceiling, enough-allowed, not-enough, sealed-work}
+use Rattle.cipher.specs.Results.{open-calls-first}
 use Rattle.judging.specs.Judging.{judgeSealed, judgeFields}
 
 -- the parts of a body that are lent on
@@ -76,16 +81,38 @@ told-shape : (f : Fields) → judged f ≡ judged-is.Shape → f ≡ no-body
 told-shape no-body q = refl
 told-shape (fields nonce digest cipher seal) q = absurd (let z : _≡_ {A = ℕ} 0 1 = cc q in omega arith)
 
-pub no-fields : (t : Told) (b : List ℕ) → judged (fieldsOf b) ≡ judged-is.Shape → judgeFields t (fieldsOf b) ≡ shape
-no-fields t b q = ap (judgeFields t) (told-shape (fieldsOf b) q)
+pub no-fields : (t : Told) (a : ℕ) (b : List ℕ) → judged (fieldsOf b) ≡ judged-is.Shape → ceiling.within a (judgeFields t (fieldsOf b)) ≡ shape
+no-fields t a b q = no-ceiling a shape (ap (judgeFields t) (told-shape (fieldsOf b) q)) refl
 
-module _ (t : Told) (b : List ℕ) (n : ℕ) (p : Parts b n) where
-  pub other-font : same (digestIn b) (t .font) ≡ false → judgeFields t (fieldsOf b) ≡ font
-  other-font e = ap (judgeFields t) (p .fields-are) ∙ rw e
+module _ (t : Told) (a : ℕ) (b : List ℕ) (n : ℕ) (p : Parts b n) where
+  pub other-font : same (digestIn b) (t .font) ≡ false → ceiling.within a (judgeFields t (fieldsOf b)) ≡ font
+  other-font e = no-ceiling a font (ap (judgeFields t) (p .fields-are) ∙ rw e) refl
 
-  pub its-font : same (digestIn b) (t .font) ≡ true
+  its-font : same (digestIn b) (t .font) ≡ true
       → judgeFields t (fieldsOf b) ≡ judgeSealed (t .key) (nonceIn b) (associatedIn b) (cipherIn n b) (sealIn n b)
   its-font e = ap (judgeFields t) (p .fields-are) ∙ rw (e, p .associated-is)
+
+  -- opening it takes n + 39 calls of the permutation, whatever is found
+  its-work : same (digestIn b) (t .font) ≡ true → callsIn (judgeFields t (fieldsOf b)) ≡ n + besideLine
+  its-work e =
+      let long : length (cipherIn n b) ≡ n =
+      length-take-le (cipherAt + n - cipherAt) (drop cipherAt b) (omega (arith, length-drop cipherAt b, p .length-is)) ∙ omega arith in
+      ap callsIn (its-font e)
+      ∙ sealed-work (t .key) (nonceIn b) (associatedIn b) (cipherIn n b) (sealIn n b)
+      ∙ omega (
+        arith,
+        open-calls-first (t .key) (nonceIn b) (associatedIn b) (cipherIn n b),
+        ap length (p .associated-is),
+        length-associated (digestIn b) (p .sized .digest-is),
+        long,
+      )
+
+  pub over-work : same (digestIn b) (t .font) ≡ true → a < n + besideLine → ceiling.within a (judgeFields t (fieldsOf b)) ≡ work
+  over-work e h = not-enough a (judgeFields t (fieldsOf b)) (omega (arith, its-work e, h))
+
+  pub in-work : same (digestIn b) (t .font) ≡ true → n + besideLine ≤ a
+      → ceiling.within a (judgeFields t (fieldsOf b)) ≡ judgeSealed (t .key) (nonceIn b) (associatedIn b) (cipherIn n b) (sealIn n b)
+  in-work e h = enough-allowed a (judgeFields t (fieldsOf b)) (omega (arith, its-work e, h)) ∙ its-font e
 
   -- what `open` asks of them
   pub within : Sizes t → (o : List ℕ) → length o ≡ longest → Within first (t .key) (nonceIn b) (associatedIn b) (cipherIn n b) (sealIn n b) o

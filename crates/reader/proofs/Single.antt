@@ -8,5 +8,5 @@ use Rattle.reader.proofs.read.Kinds as kinds
 use Rattle.reader.proofs.read.Reads.{Post}
 
 pub read-single : (κs : Lfts 4) (a : Dens κs kinds.ps) (r r′ : Reading) (x x′ : AtExit (endedOf 4 kinds.ps kinds.r) κs)
-    → Post κs a r x → Post κs a r′ x′ → (r ≡ r′) × (x .1 .1 .1 .1 .0 .now ≡ x′ .1 .1 .1 .1 .0 .now)
+    → Post κs a r x → Post κs a r′ x′ → (r ≡ r′) × (x .1 .1 .1 .1 .1 .0 .now ≡ x′ .1 .1 .1 .1 .1 .0 .now)
 read-single κs a r r′ x x′ p q = (p .0 ∙ sym (q .0), p .1 ∙ sym (q .1))

@@ -11,12 +11,14 @@ use Rattle.stream.specs.Stretches.{span, nextSpan, nextStretch}
 use Rattle.line.specs.Lines.{longest}
 use Rattle.framing.specs.Told.{keyLength, Told}
 use Rattle.body.specs.Fields.{digestLength}
+use Rattle.reader.specs.declared.Asked.{Asked}
 use Rattle.reader.specs.declared.Answer.{Answer}
 use Rattle.reader.specs.declared.Reading.{Reading}
 use Rattle.reader.specs.declared.Answer.the-variants as answer-is
-use Rattle.judging.specs.Judged.{Judged, shape, stuffing, font, seal, unlisted, trade, line}
+use Rattle.judging.specs.Judged.{Judged, shape, stuffing, font, work, seal, unlisted, trade, line}
 use Rattle.judging.specs.Readings.{ends}
 use Rattle.judging.specs.Judging.{judge}
+use Rattle.judging.specs.Ceiling.{within}
 
 -- the longest stream in bytes (document 01, number 3)
 abbrev pub longestStream : ℕ
@@ -31,21 +33,22 @@ pub data Found : Type 0 where
   call : ℕ → Answer → Found
   stretch : Span → Judged → Found
 
--- of a stream from a place, with room for so many bytes of a line
-unfoldable pub found : Told → List ℕ → ℕ → ℕ → Found
-found t s from room =
+-- of a stream from a place, with room for so many bytes of a line; a stretch is judged within the work allowed
+unfoldable pub found : Told → Asked → List ℕ → ℕ → ℕ → Found
+found t a s from room =
     cond (not (sizedTold t)) (call from answer-is.Sizes)
     (cond (ltb longestStream (length s)) (call from answer-is.TooLong)
     (cond (ltb room longest) (call from answer-is.NoRoom)
     (cond (ltb (length s) from) (call from answer-is.Beyond)
     (cond (ends (nextSpan s from)) (call (length s) answer-is.End)
-    (stretch (nextSpan s from) (judge t (nextStretch s from)))))))
+    (stretch (nextSpan s from) (within (a .allowed) (judge t (nextStretch s from))))))))
 
 -- the answer for a stretch
 abbrev pub answerOf : Judged → Answer
 answerOf shape = answer-is.Shape
 answerOf stuffing = answer-is.Stuffing
 answerOf font = answer-is.Font
+answerOf work = answer-is.Work
 answerOf (seal n) = answer-is.Seal n
 answerOf (unlisted n) = answer-is.Unlisted n
 answerOf (trade n) = answer-is.Trade n
@@ -56,6 +59,7 @@ abbrev pub lineOver : Judged → List ℕ → List ℕ
 lineOver shape o = o
 lineOver stuffing o = o
 lineOver font o = o
+lineOver work o = o
 lineOver (seal n) o = o
 lineOver (unlisted n) o = o
 lineOver (trade n) o = o
@@ -76,11 +80,11 @@ buffer (call at a) o = o
 buffer (stretch p j) o = lineOver j o
 
 -- the two of a call of `read` with the line buffer o
-abbrev pub readAnswer : Told → List ℕ → ℕ → List ℕ → Reading
-readAnswer t s from o = readingOf (found t s from (length o))
+abbrev pub readAnswer : Told → Asked → List ℕ → ℕ → List ℕ → Reading
+readAnswer t a s from o = readingOf (found t a s from (length o))
 
-abbrev pub readOut : Told → List ℕ → ℕ → List ℕ → List ℕ
-readOut t s from o = buffer (found t s from (length o)) o
+abbrev pub readOut : Told → Asked → List ℕ → ℕ → List ℕ → List ℕ
+readOut t a s from o = buffer (found t a s from (length o)) o
 
 -- the number of each answer (document 01, 'Numbers returned'; order W2)
 abbrev pub numberOf : Answer → ℕ
@@ -92,6 +96,7 @@ numberOf answer-is.End = 0
 numberOf answer-is.Shape = 7
 numberOf answer-is.Stuffing = 6
 numberOf answer-is.Font = 8
+numberOf answer-is.Work = 15
 numberOf (answer-is.Seal n) = 5
 numberOf (answer-is.Unlisted n) = 9
 numberOf (answer-is.Trade n) = 13
@@ -107,6 +112,7 @@ lengthOf answer-is.End = 0
 lengthOf answer-is.Shape = 0
 lengthOf answer-is.Stuffing = 0
 lengthOf answer-is.Font = 0
+lengthOf answer-is.Work = 0
 lengthOf (answer-is.Seal n) = 0
 lengthOf (answer-is.Unlisted n) = 0
 lengthOf (answer-is.Trade n) = 0
@@ -122,7 +128,24 @@ callsOf answer-is.End = 0
 callsOf answer-is.Shape = 0
 callsOf answer-is.Stuffing = 0
 callsOf answer-is.Font = 0
+callsOf answer-is.Work = 0
 callsOf (answer-is.Seal n) = n
 callsOf (answer-is.Unlisted n) = n
 callsOf (answer-is.Trade n) = n
 callsOf (answer-is.Line k n) = n
+
+-- 1 where a line is given, else 0: it tells a line from the end of the stream, which has the number 0 too
+abbrev pub givenOf : Answer → ℕ
+givenOf answer-is.Sizes = 0
+givenOf answer-is.TooLong = 0
+givenOf answer-is.NoRoom = 0
+givenOf answer-is.Beyond = 0
+givenOf answer-is.End = 0
+givenOf answer-is.Shape = 0
+givenOf answer-is.Stuffing = 0
+givenOf answer-is.Font = 0
+givenOf answer-is.Work = 0
+givenOf (answer-is.Seal n) = 0
+givenOf (answer-is.Unlisted n) = 0
+givenOf (answer-is.Trade n) = 0
+givenOf (answer-is.Line k n) = 1

@@ -10,6 +10,7 @@ ghost use Rattle.cipher.specs.Instances.{first as firstInstance};
 ghost use Rattle.ingage.specs.Exactly.{Within};
 ghost use Rattle.body.specs.Fields.{fieldsOf};
 ghost use Rattle.judging.specs.Judging.{judgeSealed, judgeFields, judge};
+ghost use Rattle.judging.specs.Ceiling.{within};
 ghost use Rattle.reader.specs.Answers.{answerOf, lineOver, readingAt, readAnswer, readOut};
 ghost use Rattle.framing.specs.Told.{told};
 ghost use Rattle.judging.specs.Sizes.{Sizes};
@@ -23,6 +24,7 @@ use body::NONCE_AT;
 use body::NONCE_LENGTH;
 use body::SEAL_LENGTH;
 use body::judge_body;
+use frame::BESIDE_LINE;
 use frame::KEY_LENGTH;
 use ingage::Opened;
 use ingage::open;
@@ -36,6 +38,14 @@ use stuffing::unstuff;
 
 // The longest stream in bytes (document 01, number 3).
 pub const LONGEST_STREAM: usize = 65536;
+
+// All the work that a stretch can take, in calls of the permutation: that of the longest line.
+pub const ALL_WORK: usize = LONGEST_LINE + BESIDE_LINE;
+
+// What a reader is told anew at each call: how many calls of the permutation one stretch is allowed.
+pub struct Asked {
+    pub allowed: usize,
+}
 
 // What one read call answers: the place of the stretch's first byte, that of its closing mark, where the next call starts, and what is
 // found there.
@@ -60,6 +70,8 @@ pub enum Answer {
     Stuffing,
     // Sealed to another font.
     Font,
+    // Opening it takes more calls of the permutation than are allowed; none was made.
+    Work,
     // The seal is not the one worked out; with the calls of the permutation made, as the next three.
     Seal(usize),
     // The line holds a byte that is not listed.
@@ -112,12 +124,13 @@ fn judge_sealed(
     }
 }
 
-// Judges a body by its fields, the font it was sealed to, its seal and its line.
-fn judge_fields(body: &[u8], key: &[u8], font: &[u8], line: &mut [u8]) -> Answer
+// Judges a body by its fields, the font it was sealed to, the work that opening it takes, its seal and its line. The work is compared with what
+// is allowed before any call of the permutation.
+fn judge_fields(body: &[u8], key: &[u8], font: &[u8], asked: Asked, line: &mut [u8]) -> Answer
     requires { ⌜ Sizes (told (now key) (now font)) ⌝ }
     requires { ⌜ longest ≤ length (now line) ⌝ }
-    ensures { λ r. ⌜ r ≡ answerOf (judgeFields (told (now (key .entry)) (now (font .entry))) (fieldsOf (now (body .entry)))) ⌝ }
-    ensures { λ _. ⌜ now (line .exit) ≡ lineOver (judgeFields (told (now (key .entry)) (now (font .entry))) (fieldsOf (now (body .entry)))) (now (line .entry)) ⌝ }
+    ensures { λ r. ⌜ r ≡ answerOf (within (asked .allowed) (judgeFields (told (now (key .entry)) (now (font .entry))) (fieldsOf (now (body .entry))))) ⌝ }
+    ensures { λ _. ⌜ now (line .exit) ≡ lineOver (within (asked .allowed) (judgeFields (told (now (key .entry)) (now (font .entry))) (fieldsOf (now (body .entry))))) (now (line .entry)) ⌝ }
 {
     let n = match judge_body(body) {
         body::Judged::Shape => return Answer::Shape,
@@ -126,6 +139,9 @@ fn judge_fields(body: &[u8], key: &[u8], font: &[u8], line: &mut [u8]) -> Answer
     let digest = &body[DIGEST_AT..DIGEST_AT + DIGEST_LENGTH];
     if !compare(digest, font) {
         return Answer::Font;
+    }
+    if asked.allowed < n + BESIDE_LINE {
+        return Answer::Work;
     }
     let nonce = &body[NONCE_AT..NONCE_AT + NONCE_LENGTH];
     let assoc = &body[ASSOCIATED_AT..DIGEST_AT + DIGEST_LENGTH];
@@ -137,11 +153,11 @@ fn judge_fields(body: &[u8], key: &[u8], font: &[u8], line: &mut [u8]) -> Answer
 }
 
 // Judges the bytes of a stretch.
-fn judge_stretch(stretch: &[u8], key: &[u8], font: &[u8], line: &mut [u8]) -> Answer
+fn judge_stretch(stretch: &[u8], key: &[u8], font: &[u8], asked: Asked, line: &mut [u8]) -> Answer
     requires { ⌜ Sizes (told (now key) (now font)) ⌝ }
     requires { ⌜ longest ≤ length (now line) ⌝ }
-    ensures { λ r. ⌜ r ≡ answerOf (judge (told (now (key .entry)) (now (font .entry))) (now (stretch .entry))) ⌝ }
-    ensures { λ _. ⌜ now (line .exit) ≡ lineOver (judge (told (now (key .entry)) (now (font .entry))) (now (stretch .entry))) (now (line .entry)) ⌝ }
+    ensures { λ r. ⌜ r ≡ answerOf (within (asked .allowed) (judge (told (now (key .entry)) (now (font .entry))) (now (stretch .entry)))) ⌝ }
+    ensures { λ _. ⌜ now (line .exit) ≡ lineOver (within (asked .allowed) (judge (told (now (key .entry)) (now (font .entry))) (now (stretch .entry)))) (now (line .entry)) ⌝ }
 {
     let mut body = [0u8; LONGEST_STRETCH];
     let n = match unstuff(stretch, &mut body) {
@@ -151,7 +167,7 @@ fn judge_stretch(stretch: &[u8], key: &[u8], font: &[u8], line: &mut [u8]) -> An
         Unstuffed::NoRoom => return Answer::Shape,
         Unstuffed::Length(n) => n,
     };
-    judge_fields(&body[0..n], key, font, line)
+    judge_fields(&body[0..n], key, font, asked, line)
 }
 
 // An answer with one place for both.
@@ -166,9 +182,16 @@ fn at(place: usize, answer: Answer) -> Reading
 }
 
 // Judges the next stretch from a place. A line that is given is written to the start of line; nothing else is written.
-pub fn read(stream: &[u8], from: usize, key: &[u8], font: &[u8], line: &mut [u8]) -> Reading
-    ensures { λ r. ⌜ r ≡ readAnswer (told (now (key .entry)) (now (font .entry))) (now (stream .entry)) from (now (line .entry)) ⌝ }
-    ensures { λ _. ⌜ now (line .exit) ≡ readOut (told (now (key .entry)) (now (font .entry))) (now (stream .entry)) from (now (line .entry)) ⌝ }
+pub fn read(
+    stream: &[u8],
+    from: usize,
+    key: &[u8],
+    font: &[u8],
+    asked: Asked,
+    line: &mut [u8],
+) -> Reading
+    ensures { λ r. ⌜ r ≡ readAnswer (told (now (key .entry)) (now (font .entry))) asked (now (stream .entry)) from (now (line .entry)) ⌝ }
+    ensures { λ _. ⌜ now (line .exit) ≡ readOut (told (now (key .entry)) (now (font .entry))) asked (now (stream .entry)) from (now (line .entry)) ⌝ }
 {
     if key.len() != KEY_LENGTH {
         return at(from, Answer::Sizes);
@@ -191,7 +214,7 @@ pub fn read(stream: &[u8], from: usize, key: &[u8], font: &[u8], line: &mut [u8]
     if first == closing {
         return at(closing, Answer::End);
     }
-    let answer = judge_stretch(&stream[first..closing], key, font, line);
+    let answer = judge_stretch(&stream[first..closing], key, font, asked, line);
     Reading {
         first,
         closing,

@@ -1,9 +1,10 @@
 -- `judge_fields` meets its promise: the length that `judge_body` tells fixes where each value stands, so the parts lent on are the values.
 -- Assumes nothing.
-use Rattle.reader.proofs.Parts.{Parts, parts, no-fields, other-font, its-font, within}
+use Rattle.reader.proofs.Parts.{Parts, parts, no-fields, other-font, over-work, in-work, within}
 use Rattle.reader.proofs.Shown.{shown, passed}
 use Rattle.judging.specs.Judging.{judgeFields}
-use Rattle.judging.specs.Judged.{shape, font}
+use Rattle.judging.specs.Judged.{shape, font, work}
+use Rattle.judging.specs.Ceiling as ceiling
 use Rattle.framing.specs.Told.{told}
 use Rattle.body.specs.Fields.{fieldsOf}
 use Rattle.lists.specs.Below.{below-all}
@@ -30,8 +31,8 @@ returns : tie.Need-returns
 returns c =
     let s = c .before .before .before .before .before .before .before in
     let a = s .args in
-    shown (judgeFields (told (a .key .now) (a .font .now)) (fieldsOf (a .body .now))) (a .line .now) shape
-    (no-fields (told (a .key .now) (a .font .now)) (a .body .now) (sym (c .before .before .judge-body .ensures) ∙ c .enum-told .given .1))
+    shown (ceiling.within (a .asked .allowed) (judgeFields (told (a .key .now) (a .font .now)) (fieldsOf (a .body .now)))) (a .line .now) shape
+    (no-fields (told (a .key .now) (a .font .now)) (a .asked .allowed) (a .body .now) (sym (c .before .before .judge-body .ensures) ∙ c .enum-told .given .1))
 
 enum-known-n : tie.Need-enum-known-n
 enum-known-n c = search needs
@@ -55,8 +56,18 @@ returns-2 : tie.Need-returns-2
 returns-2 c =
     let s = c .before .before .before .before .before .before .before .before .before .before .before in
     let a = s .args in
-    shown (judgeFields (told (a .key .now) (a .font .now)) (fieldsOf (a .body .now))) (a .line .now) font
-    (other-font (told (a .key .now) (a .font .now)) (a .body .now) _ (found (c .before .before .before .before)) (sym (c .before .compare .ensures) ∙ not-true _ (c .if1 .taken)))
+    shown (ceiling.within (a .asked .allowed) (judgeFields (told (a .key .now) (a .font .now)) (fieldsOf (a .body .now)))) (a .line .now) font
+    (other-font (told (a .key .now) (a .font .now)) (a .asked .allowed) (a .body .now) _ (found (c .before .before .before .before)) (sym (c .before .compare .ensures) ∙ not-true _ (c .if1 .taken)))
+
+add-if2 : tie.Need-add-if2
+add-if2 c = omega (arith, found (c .before .before .before .before) .length-is)
+
+returns-3 : tie.Need-returns-3
+returns-3 c =
+    let s = c .before .before .before .before .before .before .before .before .before .before .before .before .before in
+    let a = s .args in
+    shown (ceiling.within (a .asked .allowed) (judgeFields (told (a .key .now) (a .font .now)) (fieldsOf (a .body .now)))) (a .line .now) work
+    (over-work (told (a .key .now) (a .font .now)) (a .asked .allowed) (a .body .now) _ (found (c .before .before .before .before .before .before)) (sym (c .before .before .before .compare .ensures) ∙ not-false _ (c .before .before .if1 .left)) (c .if2 .taken))
 
 add-nonce : tie.Need-add-nonce
 add-nonce c = search needs
@@ -68,7 +79,7 @@ part-nonce-start : tie.Need-part-nonce-start
 part-nonce-start c = search needs
 
 part-nonce-end : tie.Need-part-nonce-end
-part-nonce-end c = omega (arith, found (c .before .before .before .before) .length-is)
+part-nonce-end c = omega (arith, found (c .before .before .before .before .before .before) .length-is)
 
 add-assoc : tie.Need-add-assoc
 add-assoc c = search needs
@@ -80,10 +91,10 @@ part-assoc-start : tie.Need-part-assoc-start
 part-assoc-start c = search needs
 
 part-assoc-end : tie.Need-part-assoc-end
-part-assoc-end c = omega (arith, found (c .before .before .before .before .before) .length-is)
+part-assoc-end c = omega (arith, found (c .before .before .before .before .before .before .before) .length-is)
 
 add-cipher : tie.Need-add-cipher
-add-cipher c = omega (arith, found (c .before .before .before .before .before .before) .length-is)
+add-cipher c = omega (arith, found (c .before .before .before .before .before .before .before .before) .length-is)
 
 sub-cipher : tie.Need-sub-cipher
 sub-cipher c = search needs
@@ -92,16 +103,16 @@ part-cipher-start : tie.Need-part-cipher-start
 part-cipher-start c = search needs
 
 part-cipher-end : tie.Need-part-cipher-end
-part-cipher-end c = omega (arith, found (c .before .before .before .before .before .before) .length-is)
+part-cipher-end c = omega (arith, found (c .before .before .before .before .before .before .before .before) .length-is)
 
 add-seal-at : tie.Need-add-seal-at
-add-seal-at c = omega (arith, found (c .before .before .before .before .before .before .before) .length-is)
+add-seal-at c = omega (arith, found (c .before .before .before .before .before .before .before .before .before) .length-is)
 
 add-seal-at-2 : tie.Need-add-seal-at-2
-add-seal-at-2 c = omega (arith, found (c .before .before .before .before .before .before .before) .length-is)
+add-seal-at-2 c = omega (arith, found (c .before .before .before .before .before .before .before .before .before) .length-is)
 
 add-seal : tie.Need-add-seal
-add-seal c = omega (arith, found (c .before .before .before .before .before .before .before) .length-is)
+add-seal c = omega (arith, found (c .before .before .before .before .before .before .before .before .before) .length-is)
 
 sub-seal : tie.Need-sub-seal
 sub-seal c = search needs
@@ -110,26 +121,26 @@ part-seal-start : tie.Need-part-seal-start
 part-seal-start c = search needs
 
 part-seal-end : tie.Need-part-seal-end
-part-seal-end c = omega (arith, found (c .before .before .before .before .before .before .before) .length-is)
+part-seal-end c = omega (arith, found (c .before .before .before .before .before .before .before .before .before) .length-is)
 
 slice-aggregate-judge-sealed : tie.Need-slice-aggregate-judge-sealed
 slice-aggregate-judge-sealed c = search needs
 
 judge-sealed-requires : tie.Need-judge-sealed-requires
 judge-sealed-requires c κs =
-    let s = c .before .before .before .before .before .before .before .before .before .before .before .before .before .before .before .before .before in
+    let s = c .before .before .before .before .before .before .before .before .before .before .before .before .before .before .before .before .before .before .before in
     let a = s .args in
-    (within (told (a .key .now) (a .font .now)) (a .body .now) _ (found (c .before .before .before .before .before .before .before .before .before .before)) (s .pre .0) _ refl, (refl, s .pre .1))
+    (within (told (a .key .now) (a .font .now)) (a .asked .allowed) (a .body .now) _ (found (c .before .before .before .before .before .before .before .before .before .before .before .before)) (s .pre .0) _ refl, (refl, s .pre .1))
 
 same-length : tie.Need-same-length
 same-length c = search needs
 
-returns-3 : tie.Need-returns-3
-returns-3 c =
-    let s = c .before .before .before .before .before .before .before .before .before .before .before .before .before .before .before .before .before .before .before .before .before in
+returns-4 : tie.Need-returns-4
+returns-4 c =
+    let s = c .before .before .before .before .before .before .before .before .before .before .before .before .before .before .before .before .before .before .before .before .before .before .before in
     let a = s .args in
-    passed (judgeFields (told (a .key .now) (a .font .now)) (fieldsOf (a .body .now))) _ (a .line .now) _ _
-    (its-font (told (a .key .now) (a .font .now)) (a .body .now) _ (found (c .before .before .before .before .before .before .before .before .before .before .before .before .before .before)) (sym (c .before .before .before .before .before .before .before .before .before .before .before .compare .ensures) ∙ not-false _ (c .before .before .before .before .before .before .before .before .before .before .if1 .left)))
+    passed (ceiling.within (a .asked .allowed) (judgeFields (told (a .key .now) (a .font .now)) (fieldsOf (a .body .now)))) _ (a .line .now) _ _
+    (in-work (told (a .key .now) (a .font .now)) (a .asked .allowed) (a .body .now) _ (found (c .before .before .before .before .before .before .before .before .before .before .before .before .before .before .before .before)) (sym (c .before .before .before .before .before .before .before .before .before .before .before .before .before .compare .ensures) ∙ not-false _ (c .before .before .before .before .before .before .before .before .before .before .before .before .if1 .left)) (omega arith))
     (c .before .before .before .judge-sealed .ensures)
 
 pub judge-fields-spec : {M : Type 1} → statement M
@@ -146,6 +157,8 @@ judge-fields-spec =
     part-digest-end
     compare-requires
     returns-2
+    add-if2
+    returns-3
     add-nonce
     sub-nonce
     part-nonce-start
@@ -167,4 +180,4 @@ judge-fields-spec =
     slice-aggregate-judge-sealed
     judge-sealed-requires
     same-length
-    returns-3)
+    returns-4)

@@ -3,9 +3,11 @@
 use Rattle.reader.proofs.Unstuffing.{told-long, told-bad, told-small, told-fits, told-body}
 use Rattle.reader.proofs.Shown.{shown, passed}
 use Rattle.judging.specs.Judging.{judge}
+use Rattle.judging.specs.Ceiling as ceiling
 use Rattle.judging.specs.Judged.{shape, stuffing}
 use Rattle.framing.specs.Told.{told}
-use mathlib.Core.Path.{sym, _∙_}
+use Rattle.judging.specs.Allowance.{no-ceiling}
+use mathlib.Core.Path.{refl, sym, ap, _∙_}
 use native.Mathlib.Omega.{arith}
 use borrow.Author.Needs.{needs}
 use Rattle.reader.proofs.judge_stretch.Statement.{statement}
@@ -24,8 +26,8 @@ returns : tie.Need-returns
 returns c =
     let s = c .before .before .before .before .before .before .before .before .before in
     let a = s .args in
-    shown (judge (told (a .key .now) (a .font .now)) (a .stretch .now)) (a .line .now) shape
-    (told-long (told (a .key .now) (a .font .now)) (a .stretch .now) _ (sym (c .before .before .before .unstuff .ensures .0) ∙ c .enum-told .given .1))
+    shown (ceiling.within (a .asked .allowed) (judge (told (a .key .now) (a .font .now)) (a .stretch .now))) (a .line .now) shape
+    (no-ceiling (a .asked .allowed) shape (told-long (told (a .key .now) (a .font .now)) (a .stretch .now) _ (sym (c .before .before .before .unstuff .ensures .0) ∙ c .enum-told .given .1)) refl)
 
 enum-told-2 : tie.Need-enum-told-2
 enum-told-2 c = search needs
@@ -34,8 +36,8 @@ returns-2 : tie.Need-returns-2
 returns-2 c =
     let s = c .before .before .before .before .before .before .before .before .before in
     let a = s .args in
-    shown (judge (told (a .key .now) (a .font .now)) (a .stretch .now)) (a .line .now) stuffing
-    (told-bad (told (a .key .now) (a .font .now)) (a .stretch .now) _ (sym (c .before .before .before .unstuff .ensures .0) ∙ c .enum-told2 .given .1))
+    shown (ceiling.within (a .asked .allowed) (judge (told (a .key .now) (a .font .now)) (a .stretch .now))) (a .line .now) stuffing
+    (no-ceiling (a .asked .allowed) stuffing (told-bad (told (a .key .now) (a .font .now)) (a .stretch .now) _ (sym (c .before .before .before .unstuff .ensures .0) ∙ c .enum-told2 .given .1)) refl)
 
 enum-told-3 : tie.Need-enum-told-3
 enum-told-3 c = search needs
@@ -71,8 +73,8 @@ returns-4 : tie.Need-returns-4
 returns-4 c =
     let s = c .before .before .before .before .before .before .before .before .before .before .before .before .before .before .before .before in
     let a = s .args in
-    passed (judge (told (a .key .now) (a .font .now)) (a .stretch .now)) _ (a .line .now) _ _
-    (told-body (told (a .key .now) (a .font .now)) (a .stretch .now) _ _ _ (sym (c .before .before .before .before .before .before .before .before .before .before .unstuff .ensures .0) ∙ c .before .before .before .before .before .before .before .n .given .1) (c .before .before .before .before .before .before .before .before .before .before .unstuff .ensures .1)) (c .before .before .judge-fields .ensures)
+    passed (ceiling.within (a .asked .allowed) (judge (told (a .key .now) (a .font .now)) (a .stretch .now))) _ (a .line .now) _ _
+    (ap (ceiling.within (a .asked .allowed)) (told-body (told (a .key .now) (a .font .now)) (a .stretch .now) _ _ _ (sym (c .before .before .before .before .before .before .before .before .before .before .unstuff .ensures .0) ∙ c .before .before .before .before .before .before .before .n .given .1) (c .before .before .before .before .before .before .before .before .before .before .unstuff .ensures .1))) (c .before .before .judge-fields .ensures)
 
 pub judge-stretch-spec : {M : Type 1} → statement M
 judge-stretch-spec =
