@@ -24,6 +24,7 @@ use denote.Triple.Entry.{Args, Vals, onEntry}
 use Rattle.lists.specs.Below.{Below}
 use Rattle.ingage.specs.Exactly.{Bytes}
 use Rattle.ingage.proofs.«open» as opens
+use Rattle.reader.proofs.Asked as Q
 use Rattle.reader.proofs.read as reads
 
 -- well typed entries are bytes
@@ -52,7 +53,7 @@ module _ {M : Type 1} (𝓤 : URA M) (H : Heap 𝓤) (A : Atoms 𝓤) (W : Given
     pub read-bytes : ent 𝓤 (onEntry 𝓤 H A reads.signature (κ₀, (κ₁, (κ₂, (κ₃, tt)))) (q₀, (q₁, (q₂, (q₃, tt)))) a vss)
         (H .⇛ (guard 𝓤 (Below 256 (now (a .0))) (onEntry 𝓤 H A reads.signature (κ₀, (κ₁, (κ₂, (κ₃, tt)))) (q₀, (q₁, (q₂, (q₃, tt)))) a vss)))
     read-bytes =
-        qed W ((‵ (flft κ₀ q₀) ⊛ others) ∷ ‵ (owns (ShrSlice (named 0) κ₀ u8 ∷ usize ∷ ShrSlice (named 1) κ₁ u8 ∷ ShrSlice (named 2) κ₂ u8 ∷ MutSlice (named 3) κ₃ u8 ∷ []) a vss) ∷ [])
+        qed W ((‵ (flft κ₀ q₀) ⊛ others) ∷ ‵ (owns (ShrSlice (named 0) κ₀ u8 ∷ usize ∷ ShrSlice (named 1) κ₁ u8 ∷ ShrSlice (named 2) κ₂ u8 ∷ Q.the-row ∷ MutSlice (named 3) κ₃ u8 ∷ []) a vss) ∷ [])
         {P = H .⇛ (guard 𝓤 (Below 256 (now (a .0))) (onEntry 𝓤 H A reads.signature (κ₀, (κ₁, (κ₂, (κ₃, tt)))) (q₀, (q₁, (q₂, (q₃, tt)))) a vss))} (
         updating ! $ split ! $ move ! (2 ∷ []) $ fsplit ! $ move ! (0 ∷ 2 ∷ []) $
         use2 W (later (given (Below 256 (now (a .0))) (‵ (ShrSlice (named 0) κ₀ u8 .own (a .0) (vss .0)) ⊛ ‵ (flft κ₀ q₀)))) (slice-bytes (named 0) κ₀ q₀ (a .0) (vss .0)) $ await ! tt $ learn ! (λ b.

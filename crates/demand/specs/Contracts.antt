@@ -11,10 +11,10 @@ use Rattle.reader.proofs.read.Kinds as read-kinds
 use Rattle.reader.proofs.read.Reads as read-reads
 use Rattle.demand.specs.Promises.{Reads, Writes}
 
--- the arguments are stream, place, key, font digest and line buffer
+-- the arguments are stream, place, key, font digest, what is asked, and line buffer
 pub read-promises : (κs : Lfts 4) (a : Dens κs read-kinds.ps) (r : Reading) (x : AtExit (endedOf 4 read-kinds.ps read-kinds.r) κs)
     → read-reads.Post κs a r x
-    → Reads (a .1 .1 .0 .now) (a .1 .1 .1 .0 .now) (a .0 .now) (a .1 .0) (a .1 .1 .1 .1 .0 .now) r (x .1 .1 .1 .1 .0 .now)
+    → Reads (a .1 .1 .0 .now) (a .1 .1 .1 .0 .now) (a .1 .1 .1 .1 .0) (a .0 .now) (a .1 .0) (a .1 .1 .1 .1 .1 .0 .now) r (x .1 .1 .1 .1 .1 .0 .now)
 read-promises κs a r x p = p
 
 -- the arguments are key, nonce, font digest, line and frame buffer

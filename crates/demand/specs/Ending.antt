@@ -11,6 +11,7 @@ use Rattle.line.specs.Lines.{longest}
 use Rattle.stream.specs.Stretches.{span, nextSpan}
 use Rattle.stream.specs.Places.{Next, nothing, something, next-cases}
 use Rattle.framing.specs.Told.{told}
+use Rattle.reader.specs.declared.Asked.{Asked}
 use Rattle.reader.specs.declared.Reading.{Reading}
 use Rattle.reader.specs.declared.Answer.the-variants as answer-is
 use Rattle.judging.specs.Sizes.{Sizes}
@@ -21,25 +22,25 @@ use Rattle.demand.specs.GivenWritten.{told-sized}
 use Rattle.demand.specs.Reaching.{Ended, at-end, before-end, stretch-seen}
 
 -- calls of which some first ones are made until the end
-pub record Ends (key font s : List ℕ) (from : ℕ) (seen : List Seen) : Type 0 where
+pub record Ends (key font : List ℕ) (asked : Asked) (s : List ℕ) (from : ℕ) (seen : List Seen) : Type 0 where
   pub to-end : List Seen
   pub more : List Seen
   pub parts : seen ≡ to-end ++ more
-  pub run : Run key font s 0 from to-end
+  pub run : Run key font asked s 0 from to-end
   pub ended : Ended to-end
 
-module _ (key font s : List ℕ) (z : Sizes (told key font)) (h : length s ≤ longestStream) where
+module _ (key font : List ℕ) (asked : Asked) (s : List ℕ) (z : Sizes (told key font)) (h : length s ≤ longestStream) where
   end-seen : (from : ℕ) → from ≤ length s → nextSpan s from ≡ span (length s) (length s)
-      → (l : List ℕ) (r : Reading) (l′ : List ℕ) → longest ≤ length l → Reads key font s from l r l′ → isEnd (r .answer) ≡ true
+      → (l : List ℕ) (r : Reading) (l′ : List ℕ) → longest ≤ length l → Reads key font asked s from l r l′ → isEnd (r .answer) ≡ true
   end-seen from f e l r l′ g p =
       let t = told key font in
-      let q : found t s from (length l) ≡ call (length s) answer-is.End =
-      sized t s from (length l) h g f (told-sized t (z .key-is) (z .font-is)) ∙ rw (e, eq-eqb (length s) (length s) refl) in
+      let q : found t asked s from (length l) ≡ call (length s) answer-is.End =
+      sized t asked s from (length l) h g f (told-sized t (z .key-is) (z .font-is)) ∙ rw (e, eq-eqb (length s) (length s) refl) in
       ap (λ (x : Reading). isEnd (x .answer)) (p .0 ∙ ap readingOf q)
 
-  end-on : (from : ℕ) → from ≤ length s → (r : Reading) (l l′ : List ℕ) (rest : List Seen) → longest ≤ length l → Reads key font s from l r l′
-      → (from < r .closing → r .closing < length s → Ends key font s (r .closing) rest)
-      → Next s from (nextSpan s from) → Ends key font s from (seenFrom 0 r l′ ∷ rest)
+  end-on : (from : ℕ) → from ≤ length s → (r : Reading) (l l′ : List ℕ) (rest : List Seen) → longest ≤ length l → Reads key font asked s from l r l′
+      → (from < r .closing → r .closing < length s → Ends key font asked s (r .closing) rest)
+      → Next s from (nextSpan s from) → Ends key font asked s from (seenFrom 0 r l′ ∷ rest)
   end-on from f r l l′ rest g p on (nothing e no-one) = record {
     to-end = seenFrom 0 r l′ ∷ [];
     more = rest;
@@ -48,10 +49,10 @@ module _ (key font s : List ℕ) (z : Sizes (told key font)) (h : length s ≤ l
     ended = at-end (end-seen from f e l r l′ g p);
   }
   end-on from f r l l′ rest g p on (something x) =
-      let y = stretch-seen key font s z h from f x l r l′ g p in
+      let y = stretch-seen key font asked s z h from f x l r l′ g p in
       one-more (y .1) (on (rw (y .0) (omega (arith, x .later, x .stretch .some))) (rw (y .0) (x .stretch .ends)))
     where
-      one-more : isEnd (r .answer) ≡ false → Ends key font s (r .closing) rest → Ends key font s from (seenFrom 0 r l′ ∷ rest)
+      one-more : isEnd (r .answer) ≡ false → Ends key font asked s (r .closing) rest → Ends key font asked s from (seenFrom 0 r l′ ∷ rest)
       one-more e u = record {
         to-end = seenFrom 0 r l′ ∷ u .to-end;
         more = u .more;
@@ -61,7 +62,7 @@ module _ (key font s : List ℕ) (z : Sizes (told key font)) (h : length s ≤ l
       }
 
   pub run-ends : (from : ℕ) {seen : List Seen} → from ≤ length s → length s < from + length seen
-      → Run key font s 0 from seen → Ends key font s from seen
+      → Run key font asked s 0 from seen → Ends key font asked s from seen
   run-ends from f k none = absurd (omega (arith, f, k))
   run-ends from f k (next r l l′ {rest} g p q) =
       end-on from f r l l′ rest g p (λ a b. run-ends (r .closing) (omega (arith, b)) (omega (arith, k, a)) q) (next-cases s from)

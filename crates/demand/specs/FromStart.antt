@@ -9,6 +9,7 @@ use native.Mathlib.Omega.{arith}
 use lib.ListN.{length, take, drop, length-take}
 use Rattle.lists.specs.Never.{never}
 use Rattle.framing.specs.Told.{told}
+use Rattle.reader.specs.declared.Asked.{Asked}
 use Rattle.reader.specs.declared.Reading.{Reading}
 use Rattle.judging.specs.Sizes.{Sizes}
 use Rattle.judging.specs.Resync.{Mark}
@@ -31,12 +32,12 @@ countedFrom i v = record {
 counted-seen : (i : ℕ) (r : Reading) (l′ : List ℕ) → countedFrom i (seenFrom 0 r l′) ≡ seenFrom i r l′
 counted-seen i r l′ = simp unary-clauses refl
 
-run-counted : {key font s : List ℕ} {i from : ℕ} {seen : List Seen} → Run key font s 0 from seen → Run key font s i from (map (countedFrom i) seen)
+run-counted : {key font : List ℕ} {asked : Asked} {s : List ℕ} {i from : ℕ} {seen : List Seen} → Run key font asked s 0 from seen → Run key font asked s i from (map (countedFrom i) seen)
 run-counted none = none
 run-counted {i = i} (next r l l′ g p q) = rw (counted-seen i r l′) (next r l l′ g p (run-counted q))
 
 -- fewer calls
-run-take : {key font s : List ℕ} {i from : ℕ} {seen : List Seen} (n : ℕ) → Run key font s i from seen → Run key font s i from (take n seen)
+run-take : {key font : List ℕ} {asked : Asked} {s : List ℕ} {i from : ℕ} {seen : List Seen} (n : ℕ) → Run key font asked s i from seen → Run key font asked s i from (take n seen)
 run-take zero q = none
 run-take (suc n) none = none
 run-take (suc n) (next r l l′ g p q) = next r l l′ g p (run-take n q)
@@ -58,25 +59,25 @@ end-together (before-end a k) (at-end b) e = absurd (differ b a (sym (head-eq-of
 end-together (before-end a k) (before-end b m) e = ap₂ _∷_ (head-eq-of-cons-eq e) (end-together k m (tail-eq-of-cons-eq e))
 
 -- runs made until the end, from places that are abreast, see the same
-pub ended-alike : (key font x y : List ℕ) (i j : ℕ) → length x ≤ longestStream → length y ≤ longestStream
+pub ended-alike : (key font : List ℕ) (asked : Asked) (x y : List ℕ) (i j : ℕ) → length x ≤ longestStream → length y ≤ longestStream
     → {a b : ℕ} → Abreast x i a y j b → {rx ry : List Seen}
-    → Run key font x i a rx → Ended rx → Run key font y j b ry → Ended ry → rx ≡ ry
-ended-alike key font x y i j hx hy w {rx} {ry} p a q b =
+    → Run key font asked x i a rx → Ended rx → Run key font asked y j b ry → Ended ry → rx ≡ ry
+ended-alike key font asked x y i j hx hy w {rx} {ry} p a q b =
     let l : length (take (length ry) rx) ≡ length (take (length rx) ry) =
     omega (arith, length-take (length ry) rx, length-take (length rx) ry) in
-    end-together a b (runs key font x y i j hx hy w l (run-take (length ry) p) (run-take (length rx) q))
+    end-together a b (runs key font asked x y i j hx hy w l (run-take (length ry) p) (run-take (length rx) q))
 
--- two streams equal from a mark on, each read from its start to its end with the same key and font: both runs come to the mark, and what
--- is seen behind it, with places counted from it, is the same
-pub resync-from-start : (key font x y : List ℕ) (i j : ℕ) → Sizes (told key font) → length x ≤ longestStream → length y ≤ longestStream
+-- two streams equal from a mark on, each read from its start to its end with the same key and font and one allowance for both: both runs
+-- come to the mark, and what is seen behind it, with places counted from it, is the same
+pub resync-from-start : (key font : List ℕ) (asked : Asked) (x y : List ℕ) (i j : ℕ) → Sizes (told key font) → length x ≤ longestStream → length y ≤ longestStream
     → Mark x i → Mark y j → drop i x ≡ drop j y → {sx sy : List Seen}
-    → Run key font x 0 0 sx → Ended sx → Run key font y 0 0 sy → Ended sy
-    → (u : Reaches key font x i sx) × (v : Reaches key font y j sy) × (map (countedFrom i) (u .after) ≡ map (countedFrom j) (v .after))
-resync-from-start key font x y i j z hx hy m n e p a q b =
-    let u = run-reaches key font x z hx i m 0 (omega arith) p a in
-    let v = run-reaches key font y z hy j n 0 (omega arith) q b in (
+    → Run key font asked x 0 0 sx → Ended sx → Run key font asked y 0 0 sy → Ended sy
+    → (u : Reaches key font asked x i sx) × (v : Reaches key font asked y j sy) × (map (countedFrom i) (u .after) ≡ map (countedFrom j) (v .after))
+resync-from-start key font asked x y i j z hx hy m n e p a q b =
+    let u = run-reaches key font asked x z hx i m 0 (omega arith) p a in
+    let v = run-reaches key font asked y z hy j n 0 (omega arith) q b in (
       u,
       v,
-      ended-alike key font x y i j hx hy (at-marks m n e)
+      ended-alike key font asked x y i j hx hy (at-marks m n e)
           (run-counted (u .run)) (ended-counted i (u .ended)) (run-counted (v .run)) (ended-counted j (v .ended)),
     )

@@ -1,7 +1,8 @@
 -- The buyer's demand 3, second half, from the promises of `read` and `write` alone: a line is given exactly when the bytes between its
 -- marks are those that a write call makes for that line under that key and font and some nonce, and every frame that a write call makes,
--- standing anywhere in a stream, is read as its line. That the stream is bytes is a premise of `given-is-written`; what `read` is passed meets
--- it by its type (Bytes.antt, `read-bytes`). Assumes nothing.
+-- standing anywhere in a stream, is read as its line. That a line is given asks that the calls of the permutation it takes are allowed; that
+-- a line given is one written holds whatever is allowed. That the stream is bytes is a premise of `given-is-written`; what `read` is passed
+-- meets it by its type (Bytes.antt, `read-bytes`). Assumes nothing.
 use mathlib.Core.Path.{_≡_, refl, sym, ap, ap₂, _∙_}
 use mathlib.Core.Bool.{Bool, true, false, not, cond}
 use mathlib.Core.List.{List, [], _∷_, _++_, append-assoc}
@@ -29,13 +30,17 @@ use Rattle.framing.specs.Frames.{sealedLine, sealedBody, framed, frameOf}
 use Rattle.framing.specs.Lengths.{frameRoom, besideLine, length-framed, stretch-some, write-calls}
 use Rattle.frame.specs.Answers.{WriteCall, framedCall, writeCall}
 use Rattle.frame.specs.Outcomes.{Accepts, done-accepts, write-done}
+use Rattle.reader.specs.declared.Asked.{Asked}
 use Rattle.reader.specs.declared.Answer.{Answer}
 use Rattle.reader.specs.declared.Reading.{Reading}
 use Rattle.reader.specs.declared.Answer.the-variants as answer-is
 use Rattle.judging.specs.Sizes.{Sizes}
-use Rattle.judging.specs.Judged.{Judged, shape, stuffing, seal, unlisted, trade, line}
+use Rattle.judging.specs.Judged.{Judged, shape, stuffing, work, seal, unlisted, trade, line}
 use Rattle.judging.specs.Judged as judged-is
+use Rattle.judging.specs.Judged.{numberIn}
 use Rattle.judging.specs.Judging.{judge}
+use Rattle.judging.specs.Ceiling.{within}
+use Rattle.judging.specs.Allowance.{enough-allowed, not-work}
 use Rattle.judging.specs.Readings.{ends}
 use Rattle.reader.specs.Answers.{longestStream, sizedTold, Found, call, stretch, found, readingAt, readingOf, buffer, answerOf}
 use Rattle.demand.specs.Promises.{Reads, Writes}
@@ -80,12 +85,13 @@ module _ (key nonce font L f : List ℕ) (w : written.Written) (f′ : List ℕ)
       }
 
 -- what a call finds where the next stretch is the one written
-module _ (t : Told) (z : Sizes t) (s : List ℕ) (from room : ℕ) (h : length s ≤ longestStream) (g : longest ≤ room) (f : from ≤ length s) where
-  pub found-next : (p : Span) → nextSpan s from ≡ p → (p .first ≡ p .closing → ⊥) → found t s from room ≡ stretch p (judge t (nextStretch s from))
+module _ (t : Told) (asked : Asked) (z : Sizes t) (s : List ℕ) (from room : ℕ) (h : length s ≤ longestStream) (g : longest ≤ room) (f : from ≤ length s) where
+  pub found-next : (p : Span) → nextSpan s from ≡ p → (p .first ≡ p .closing → ⊥) → found t asked s from room ≡ stretch p (within (asked .allowed) (judge t (nextStretch s from)))
   found-next p e d =
-      sized t s from room h g f (told-sized t (z .key-is) (z .font-is)) ∙ rw (e, ne-eqb (p .first) (p .closing) d)
+      sized t asked s from room h g f (told-sized t (z .key-is) (z .font-is)) ∙ rw (e, ne-eqb (p .first) (p .closing) d)
 
--- every frame that a write call makes, standing anywhere in a stream within the limit, is read from its opening mark as its line
+-- every frame that a write call makes, standing anywhere in a stream within the limit, is read from its opening mark as its line, where
+-- its calls are allowed
 module _ (key nonce font L f : List ℕ) (w : written.Written) (f′ : List ℕ) (p : Writes key nonce font L f w f′) (n k : ℕ) (e : w ≡ written-is.Done n k) where
   is : Wrote key nonce font L f w f′ p n k
   is = wrote key nonce font L f w f′ p n k e
@@ -102,11 +108,12 @@ module _ (key nonce font L f : List ℕ) (w : written.Written) (f′ : List ℕ)
   unfolding b frameOf
   frame-length = is .long ∙ length-framed b
 
-  pub frame-read : (a c l : List ℕ) (r : Reading) (l′ : List ℕ) → length (a ++ (take n f′ ++ c)) ≤ longestStream → longest ≤ length l
-      → Reads key font (a ++ (take n f′ ++ c)) (length a) l r l′
+  pub frame-read : (asked : Asked) → k ≤ asked .allowed
+      → (a c l : List ℕ) (r : Reading) (l′ : List ℕ) → length (a ++ (take n f′ ++ c)) ≤ longestStream → longest ≤ length l
+      → Reads key font asked (a ++ (take n f′ ++ c)) (length a) l r l′
       → (r ≡ gives (length a + 1) (length a + n - 1) (length L) k) × (l′ ≡ over L l)
   unfolding b
-  frame-read a c l r l′ h g q =
+  frame-read asked enough a c l r l′ h g q =
       let t = told key font in
       let y = is .accepts .sealable in
       let some : 0 < length (stuffed b) = stretch-some y in
@@ -119,9 +126,9 @@ module _ (key nonce font L f : List ℕ) (w : written.Written) (f′ : List ℕ)
       ap (judge t) bytes ∙ written-given t nonce L (is .accepts) ∙ ap (line L) (sym (is .calls)) in
       let at : length a ≤ length s = omega (arith, length-append a (take n f′ ++ c)) in
       let there = span (length a + 1) (length a + 1 + length (stuffed b)) in
-      let found-is : found t s (length a) (length l) ≡ stretch there (line L k) =
-      found-next t (record { key-is = y .key-is; font-is = y .font-is }) s (length a) (length l) h g at there sp (λ u. omega (arith, u))
-      ∙ ap (stretch there) j in
+      let found-is : found t asked s (length a) (length l) ≡ stretch there (line L k) =
+      found-next t asked (record { key-is = y .key-is; font-is = y .font-is }) s (length a) (length l) h g at there sp (λ u. omega (arith, u))
+      ∙ ap (stretch there) (ap (within (asked .allowed)) j ∙ enough-allowed (asked .allowed) (line L k) enough) in
       let last : length a + 1 + length (stuffed b) ≡ length a + n - 1 = omega (arith, frame-length) in (
         q .0 ∙ ap readingOf found-is ∙ ap (λ (m : ℕ). gives (length a + 1) m (length L) k) last,
         q .1 ∙ ap (λ (x : Found). buffer x l) found-is,
@@ -169,11 +176,11 @@ written-made key font L k s′ m =
     ((m .nonce, record { accepts = o .accepts; nonce-bytes = m .nonce-bytes; makes = sym (o .frame) ∙ u }), o .calls)
 
 -- what a call that gives a line found
-pub record Gave (t : Told) (s : List ℕ) (from room p q n k : ℕ) : Type 0 where
+pub record Gave (t : Told) (asked : Asked) (s : List ℕ) (from room p q n k : ℕ) : Type 0 where
   pub sizes : Sizes t
   pub the-line : List ℕ
   pub long : length the-line ≡ n
-  pub found-is : found t s from room ≡ stretch (span p q) (line the-line k)
+  pub found-is : found t asked s from room ≡ stretch (span p q) (line the-line k)
   pub judged : judge t (bytesAt s (span p q)) ≡ line the-line k
 
 sized-told : (t : Told) → sizedTold t ≡ true → Sizes t
@@ -193,13 +200,14 @@ answer-line (line L m) n k e =
 answer-line shape n k e = absurd (let z : _≡_ {A = ℕ} 0 1 = cc e in omega arith)
 answer-line stuffing n k e = absurd (let z : _≡_ {A = ℕ} 0 1 = cc e in omega arith)
 answer-line judged-is.font n k e = absurd (let z : _≡_ {A = ℕ} 0 1 = cc e in omega arith)
+answer-line work n k e = absurd (let z : _≡_ {A = ℕ} 0 1 = cc e in omega arith)
 answer-line (seal m) n k e = absurd (let z : _≡_ {A = ℕ} 0 1 = cc e in omega arith)
 answer-line (unlisted m) n k e = absurd (let z : _≡_ {A = ℕ} 0 1 = cc e in omega arith)
 answer-line (trade m) n k e = absurd (let z : _≡_ {A = ℕ} 0 1 = cc e in omega arith)
 
-gave : (t : Told) (s : List ℕ) (from room p q n k : ℕ) → readingOf (found t s from room) ≡ gives p q n k → Gave t s from room p q n k
+gave : (t : Told) (asked : Asked) (s : List ℕ) (from room p q n k : ℕ) → readingOf (found t asked s from room) ≡ gives p q n k → Gave t asked s from room p q n k
 unfolding found nextStretch
-gave t s from room p q n k =
+gave t asked s from room p q n k =
     go (sizedTold t) refl (ltb longestStream (length s)) refl (ltb room longest) refl (ltb (length s) from) refl (ends (nextSpan s from)) refl
   where
     -- no refusal of a call is a line, nor is the end
@@ -212,12 +220,14 @@ gave t s from room p q n k =
         (cond b (call from answer-is.TooLong)
         (cond c (call from answer-is.NoRoom)
         (cond d (call from answer-is.Beyond)
-        (cond e (call (length s) answer-is.End) (stretch (nextSpan s from) (judge t (nextStretch s from)))))))) ≡ gives p q n k
-        → Gave t s from room p q n k
+        (cond e (call (length s) answer-is.End) (stretch (nextSpan s from) (within (asked .allowed) (judge t (nextStretch s from))))))))) ≡ gives p q n k
+        → Gave t asked s from room p q n k
     go true u false v false w false x false y r =
         let o : nextSpan s from ≡ span p q = ap (λ (g : Reading). span (g .first) (g .closing)) r in
-        let z = answer-line (judge t (nextStretch s from)) n k (ap (λ (g : Reading). g .answer) r) in
-        let j : judge t (bytesAt s (span p q)) ≡ line (z .0) k = ap (λ (g : Span). judge t (bytesAt s g)) (sym o) ∙ z .1 in
+        let z = answer-line (within (asked .allowed) (judge t (nextStretch s from))) n k (ap (λ (g : Reading). g .answer) r) in
+        let its : judge t (nextStretch s from) ≡ line (z .0) k =
+        not-work (asked .allowed) (judge t (nextStretch s from)) (line (z .0) k) (z .1) (λ e. omega (arith, ap numberIn e)) in
+        let j : judge t (bytesAt s (span p q)) ≡ line (z .0) k = ap (λ (g : Span). judge t (bytesAt s g)) (sym o) ∙ its in
         record {
           sizes = sized-told t u;
           the-line = z .0;
@@ -232,12 +242,12 @@ gave t s from room p q n k =
     go false u b v c w d x e y r = absurd (let z : _≡_ {A = ℕ} 0 1 = cc (said r) in omega arith)
 
 -- a call: its arguments, and an answer and a buffer that its promise admits
-module _ (key font s : List ℕ) (bytes : Below 256 s) (from : ℕ) (l : List ℕ) (r : Reading) (l′ : List ℕ) (c : Reads key font s from l r l′) where
+module _ (key font : List ℕ) (asked : Asked) (s : List ℕ) (bytes : Below 256 s) (from : ℕ) (l : List ℕ) (r : Reading) (l′ : List ℕ) (c : Reads key font asked s from l r l′) where
   -- a line that is given is what a write call makes of it, with the same count
   pub given-is-written : (p q n k : ℕ) → r ≡ gives p q n k → Made key font (take n l′) k (bytesAt s (span p q))
   given-is-written p q n k e =
       let t = told key font in
-      let g = gave t s from (length l) p q n k (sym (c .0) ∙ e) in
+      let g = gave t asked s from (length l) p q n k (sym (c .0) ∙ e) in
       let L = g .the-line in
       let v = given-made t (g .sizes) (bytesAt s (span p q)) (part-below p q) L k (g .judged) in
       let same : line L k ≡ line L (length L + besideLine) = sym (g .judged) ∙ made-given t (bytesAt s (span p q)) L v in
@@ -252,12 +262,13 @@ module _ (key font s : List ℕ) (bytes : Below 256 s) (from : ℕ) (l : List �
       part-below : (p q : ℕ) → Below 256 (bytesAt s (span p q))
       part-below p q = below-take 256 (q - p) (drop p s) (below-drop 256 p s bytes)
 
--- and every stretch that a write call makes gives its line, read from its opening mark
-pub written-is-given : (key font L : List ℕ) (k : ℕ) (s : List ℕ) (p q : ℕ) → length s ≤ longestStream → Stretch s p q
-    → Made key font L k (bytesAt s (span p q)) → (l : List ℕ) (r : Reading) (l′ : List ℕ) → longest ≤ length l → Reads key font s (p - 1) l r l′
+-- and every stretch that a write call makes gives its line, read from its opening mark, where its calls are allowed
+pub written-is-given : (key font : List ℕ) (asked : Asked) (L : List ℕ) (k : ℕ) → k ≤ asked .allowed
+    → (s : List ℕ) (p q : ℕ) → length s ≤ longestStream → Stretch s p q
+    → Made key font L k (bytesAt s (span p q)) → (l : List ℕ) (r : Reading) (l′ : List ℕ) → longest ≤ length l → Reads key font asked s (p - 1) l r l′
     → (r ≡ gives p q (length L) k) × (l′ ≡ over L l)
 unfolding nextStretch
-written-is-given key font L k s p q h x m l r l′ g c =
+written-is-given key font asked L k enough s p q h x m l r l′ g c =
     let t = told key font in
     let v = written-made key font L k (bytesAt s (span p q)) m in
     let y = v .0 .1 .accepts .sealable in
@@ -265,7 +276,7 @@ written-is-given key font L k s p q h x m l r l′ g c =
     let at : p - 1 ≤ length s = omega (arith, x .some, x .ends) in
     let j : judge t (nextStretch s (p - 1)) ≡ line L k =
     ap (λ (o : Span). judge t (bytesAt s o)) sp ∙ made-given t (bytesAt s (span p q)) L (v .0) ∙ ap (line L) (sym (v .1)) in
-    let found-is : found t s (p - 1) (length l) ≡ stretch (span p q) (line L k) =
-    found-next t (record { key-is = y .key-is; font-is = y .font-is }) s (p - 1) (length l) h g at (span p q) sp (λ u. omega (arith, u, x .some))
-    ∙ ap (stretch (span p q)) j in
+    let found-is : found t asked s (p - 1) (length l) ≡ stretch (span p q) (line L k) =
+    found-next t asked (record { key-is = y .key-is; font-is = y .font-is }) s (p - 1) (length l) h g at (span p q) sp (λ u. omega (arith, u, x .some))
+    ∙ ap (stretch (span p q)) (ap (within (asked .allowed)) j ∙ enough-allowed (asked .allowed) (line L k) enough) in
     (c .0 ∙ ap readingOf found-is, c .1 ∙ ap (λ (o : Found). buffer o l) found-is)

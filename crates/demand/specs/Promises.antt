@@ -9,14 +9,16 @@ use Rattle.line.specs.Lines.{longest}
 use Rattle.frame.specs.declared.Written.{Written}
 use Rattle.framing.specs.Told.{told}
 use Rattle.frame.specs.Answers.{writeCall}
+use Rattle.reader.specs.declared.Asked.{Asked}
 use Rattle.reader.specs.declared.Answer.{Answer}
 use Rattle.reader.specs.declared.Answer.the-variants as answer-is
 use Rattle.reader.specs.declared.Reading.{Reading}
 use Rattle.reader.specs.Answers.{readAnswer, readOut, numberOf, lengthOf, callsOf}
 
--- a read call with this key and font, of the stream s from a place, with the line buffer l before it, may answer r and leave l′ in it
-abbrev pub Reads : List ℕ → List ℕ → List ℕ → ℕ → List ℕ → Reading → List ℕ → Type 0
-Reads key font s from l r l′ = (r ≡ readAnswer (told key font) s from l) × (l′ ≡ readOut (told key font) s from l)
+-- a read call with this key and font, and what it is asked, of the stream s from a place, with the line buffer l before it, may answer r
+-- and leave l′ in it
+abbrev pub Reads : List ℕ → List ℕ → Asked → List ℕ → ℕ → List ℕ → Reading → List ℕ → Type 0
+Reads key font asked s from l r l′ = (r ≡ readAnswer (told key font) asked s from l) × (l′ ≡ readOut (told key font) asked s from l)
 
 -- a write call of the line L under this key, nonce and font, with the buffer f before it, may answer w and leave f′ in it
 abbrev pub Writes : List ℕ → List ℕ → List ℕ → List ℕ → List ℕ → Written → List ℕ → Type 0
@@ -33,6 +35,7 @@ isEnd answer-is.End = true
 isEnd answer-is.Shape = false
 isEnd answer-is.Stuffing = false
 isEnd answer-is.Font = false
+isEnd answer-is.Work = false
 isEnd (answer-is.Seal n) = false
 isEnd (answer-is.Unlisted n) = false
 isEnd (answer-is.Trade n) = false
@@ -60,7 +63,7 @@ seenFrom i r l′ = record {
 
 -- some read calls one after the other with room enough for a line, the first from a place, each next one from where the one before
 -- closed; and what is seen of them with places counted from place i. Each call may have a line buffer of its own
-pub data Run (key font s : List ℕ) (i : ℕ) : ℕ → List Seen → Type 0 where
-  none : {from : ℕ} → Run key font s i from []
-  next : {from : ℕ} (r : Reading) (l l′ : List ℕ) {rest : List Seen} → longest ≤ length l → Reads key font s from l r l′
-      → Run key font s i (r .closing) rest → Run key font s i from (seenFrom i r l′ ∷ rest)
+pub data Run (key font : List ℕ) (asked : Asked) (s : List ℕ) (i : ℕ) : ℕ → List Seen → Type 0 where
+  none : {from : ℕ} → Run key font asked s i from []
+  next : {from : ℕ} (r : Reading) (l l′ : List ℕ) {rest : List Seen} → longest ≤ length l → Reads key font asked s from l r l′
+      → Run key font asked s i (r .closing) rest → Run key font asked s i from (seenFrom i r l′ ∷ rest)

@@ -12,10 +12,12 @@ use Rattle.stream.specs.declared.Span.{Span}
 use Rattle.stream.specs.Stretches.{bytesAt, nextSpan, nextStretch}
 use Rattle.stream.specs.Places as places
 use Rattle.framing.specs.Told.{told}
+use Rattle.reader.specs.declared.Asked.{Asked}
 use Rattle.reader.specs.declared.Reading.{Reading}
 use Rattle.reader.specs.declared.Answer.the-variants as answer-is
 use Rattle.judging.specs.Sizes.{Sizes}
 use Rattle.judging.specs.Judging.{judge}
+use Rattle.judging.specs.Ceiling.{within}
 use Rattle.judging.specs.Readings.{ends}
 use Rattle.judging.specs.Resync.{Mark}
 use Rattle.judging.specs.Reaching.{UpTo, closes, behind, up-to}
@@ -40,42 +42,42 @@ ClosedBy i [] = Unit {0}
 ClosedBy i (v ∷ l) = (v .closing ≤ i) × ClosedBy i l
 
 -- some calls that close at place i or before it, and then calls from place i to the end
-pub record Reaches (key font s : List ℕ) (i : ℕ) (seen : List Seen) : Type 0 where
+pub record Reaches (key font : List ℕ) (asked : Asked) (s : List ℕ) (i : ℕ) (seen : List Seen) : Type 0 where
   pub before : List Seen
   pub after : List Seen
   pub parts : seen ≡ before ++ after
   pub closed : ClosedBy i before
-  pub run : Run key font s 0 i after
+  pub run : Run key font asked s 0 i after
   pub ended : Ended after
 
-module _ (key font s : List ℕ) (z : Sizes (told key font)) (h : length s ≤ longestStream) where
+module _ (key font : List ℕ) (asked : Asked) (s : List ℕ) (z : Sizes (told key font)) (h : length s ≤ longestStream) where
   -- where the next stretch is the same, a call may answer the same
   same-reads : (from i : ℕ) → from ≤ length s → i ≤ length s → nextSpan s from ≡ nextSpan s i
-      → (l : List ℕ) (r : Reading) (l′ : List ℕ) → longest ≤ length l → Reads key font s from l r l′ → Reads key font s i l r l′
+      → (l : List ℕ) (r : Reading) (l′ : List ℕ) → longest ≤ length l → Reads key font asked s from l r l′ → Reads key font asked s i l r l′
   unfolding nextStretch
   same-reads from i f k e l r l′ g p =
       let t = told key font in
       let y = told-sized t (z .key-is) (z .font-is) in
-      let q : found t s from (length l) ≡ found t s i (length l) =
-      sized t s from (length l) h g f y
-      ∙ ap (λ (o : Span). cond (ends o) (call (length s) answer-is.End) (stretch o (judge t (bytesAt s o)))) e
-      ∙ sym (sized t s i (length l) h g k y) in
+      let q : found t asked s from (length l) ≡ found t asked s i (length l) =
+      sized t asked s from (length l) h g f y
+      ∙ ap (λ (o : Span). cond (ends o) (call (length s) answer-is.End) (stretch o (within (asked .allowed) (judge t (bytesAt s o))))) e
+      ∙ sym (sized t asked s i (length l) h g k y) in
       (p .0 ∙ ap readingOf q, p .1 ∙ ap (λ (o : Found). buffer o l) q)
 
   -- a call that finds a stretch closes where it does, and is not the end
   pub stretch-seen : (from : ℕ) → from ≤ length s → places.Found s from (nextSpan s from)
-      → (l : List ℕ) (r : Reading) (l′ : List ℕ) → longest ≤ length l → Reads key font s from l r l′
+      → (l : List ℕ) (r : Reading) (l′ : List ℕ) → longest ≤ length l → Reads key font asked s from l r l′
       → (r .closing ≡ nextSpan s from .closing) × (isEnd (r .answer) ≡ false)
   stretch-seen from f x l r l′ g p =
       let t = told key font in
       let o = nextSpan s from in
-      let j = judge t (nextStretch s from) in
-      let q : found t s from (length l) ≡ stretch o j = found-next t z s from (length l) h g f o refl (λ u. omega (arith, u, x .stretch .some)) in
+      let j = within (asked .allowed) (judge t (nextStretch s from)) in
+      let q : found t asked s from (length l) ≡ stretch o j = found-next t asked z s from (length l) h g f o refl (λ u. omega (arith, u, x .stretch .some)) in
       let a : r ≡ readingOf (stretch o j) = p .0 ∙ ap readingOf q in
       (ap (λ (x : Reading). x .closing) a, ap (λ (x : Reading). isEnd (x .answer)) a ∙ ap (λ (v : Seen). v .ended) (seen-at 0 o j l))
 
   -- a call that closes at place i or before it, and then others that reach it
-  one-more : (i : ℕ) (v : Seen) (rest : List Seen) → v .closing ≤ i → Reaches key font s i rest → Reaches key font s i (v ∷ rest)
+  one-more : (i : ℕ) (v : Seen) (rest : List Seen) → v .closing ≤ i → Reaches key font asked s i rest → Reaches key font asked s i (v ∷ rest)
   one-more i v rest c u = record {
     before = v ∷ u .before;
     after = u .after;
@@ -86,9 +88,9 @@ module _ (key font s : List ℕ) (z : Sizes (told key font)) (h : length s ≤ l
   }
 
   module _ (i : ℕ) (m : Mark s i) where
-    reach-on : (from : ℕ) → from ≤ i → (r : Reading) (l l′ : List ℕ) (rest : List Seen) → longest ≤ length l → Reads key font s from l r l′
-        → Run key font s 0 (r .closing) rest → Ended (seenFrom 0 r l′ ∷ rest)
-        → (r .closing ≤ i → Ended rest → Reaches key font s i rest) → UpTo s from i → Reaches key font s i (seenFrom 0 r l′ ∷ rest)
+    reach-on : (from : ℕ) → from ≤ i → (r : Reading) (l l′ : List ℕ) (rest : List Seen) → longest ≤ length l → Reads key font asked s from l r l′
+        → Run key font asked s 0 (r .closing) rest → Ended (seenFrom 0 r l′ ∷ rest)
+        → (r .closing ≤ i → Ended rest → Reaches key font asked s i rest) → UpTo s from i → Reaches key font asked s i (seenFrom 0 r l′ ∷ rest)
     reach-on from f r l l′ rest g p q e on (behind b) = record {
       before = [];
       after = seenFrom 0 r l′ ∷ rest;
@@ -103,6 +105,6 @@ module _ (key font s : List ℕ) (z : Sizes (told key font)) (h : length s ≤ l
         one-more i (seenFrom 0 r l′) rest (omega (arith, k)) (on k (not-last e (y .1)))
 
     -- calls from any place up to the mark, made until the end
-    pub run-reaches : (from : ℕ) {seen : List Seen} → from ≤ i → Run key font s 0 from seen → Ended seen → Reaches key font s i seen
+    pub run-reaches : (from : ℕ) {seen : List Seen} → from ≤ i → Run key font asked s 0 from seen → Ended seen → Reaches key font asked s i seen
     run-reaches from f (next r l l′ {rest} g p q) e =
         reach-on from f r l l′ rest g p q e (λ c k. run-reaches (r .closing) c q k) (up-to s from i f m)

@@ -15,9 +15,11 @@ use Rattle.stream.specs.Stretches.{nextSpan, nextStretch}
 use Rattle.stream.specs.Places.{next-within, next-after}
 use Rattle.stream.specs.Shift.{Alike, moved, next-moved, next-shift}
 use Rattle.framing.specs.Told.{Told, told}
+use Rattle.reader.specs.declared.Asked.{Asked}
 use Rattle.reader.specs.declared.Answer.the-variants as answer-is
-use Rattle.judging.specs.Judged.{Judged, shape, stuffing, font, seal, unlisted, trade, line, numberIn, lineIn, callsIn}
+use Rattle.judging.specs.Judged.{Judged, shape, stuffing, font, work, seal, unlisted, trade, line, numberIn, lineIn, callsIn}
 use Rattle.judging.specs.Judging.{judge}
+use Rattle.judging.specs.Ceiling.{within}
 use Rattle.judging.specs.Readings.{ends, eqb-moved}
 use Rattle.judging.specs.Resync.{Mark}
 use Rattle.reader.specs.Answers.{longestStream, sizedTold, Found, call, stretch, found, readingAt, readingOf, buffer, answerOf, lineOver}
@@ -35,6 +37,7 @@ pub seen-at : (i : ℕ) (p : Span) (j : Judged) (l : List ℕ) → seenFrom i (r
 seen-at i p shape l = refl
 seen-at i p stuffing l = refl
 seen-at i p font l = refl
+seen-at i p work l = refl
 seen-at i p (seal n) l = refl
 seen-at i p (unlisted n) l = refl
 seen-at i p (trade n) l = refl
@@ -56,18 +59,18 @@ pub record Abreast (x : List ℕ) (i a : ℕ) (y : List ℕ) (j b : ℕ) : Type 
   pub same : a - i ≡ b - j
 
 -- what a call finds within the limits and with room
-module _ (t : Told) (s : List ℕ) (from room : ℕ) (h : length s ≤ longestStream) (g : longest ≤ room) (f : from ≤ length s) where
-  unsized : sizedTold t ≡ false → found t s from room ≡ call from answer-is.Sizes
+module _ (t : Told) (asked : Asked) (s : List ℕ) (from room : ℕ) (h : length s ≤ longestStream) (g : longest ≤ room) (f : from ≤ length s) where
+  unsized : sizedTold t ≡ false → found t asked s from room ≡ call from answer-is.Sizes
   unfolding found
   unsized e = rw e
 
-  pub sized : sizedTold t ≡ true → found t s from room
-      ≡ cond (ends (nextSpan s from)) (call (length s) answer-is.End) (stretch (nextSpan s from) (judge t (nextStretch s from)))
+  pub sized : sizedTold t ≡ true → found t asked s from room
+      ≡ cond (ends (nextSpan s from)) (call (length s) answer-is.End) (stretch (nextSpan s from) (within (asked .allowed) (judge t (nextStretch s from))))
   unfolding found
   sized e = rw (e, le-ltb longestStream (length s) h, le-ltb room longest g, le-ltb (length s) from f)
 
 -- one call in each stream sees the same, and ends at places that are abreast again
-module _ (t : Told) (x : List ℕ) (i a : ℕ) (y : List ℕ) (j b : ℕ) (hx : length x ≤ longestStream) (hy : length y ≤ longestStream)
+module _ (t : Told) (asked : Asked) (x : List ℕ) (i a : ℕ) (y : List ℕ) (j b : ℕ) (hx : length x ≤ longestStream) (hy : length y ≤ longestStream)
     (w : Abreast x i a y j b) (l m : List ℕ) (gx : longest ≤ length l) (gy : longest ≤ length m) where
   abbrev Goal : Found → Found → Type 0
   Goal f e =
@@ -91,7 +94,7 @@ module _ (t : Told) (x : List ℕ) (i a : ℕ) (y : List ℕ) (j b : ℕ) (hx : 
         },
       )
 
-  at-stretch : Goal (stretch (nextSpan x a) (judge t (nextStretch x a))) (stretch (nextSpan y b) (judge t (nextStretch y b)))
+  at-stretch : Goal (stretch (nextSpan x a) (within (asked .allowed) (judge t (nextStretch x a)))) (stretch (nextSpan y b) (within (asked .allowed) (judge t (nextStretch y b))))
   at-stretch =
       let n = next-shift (w .alike) in
       let ax : a ≤ nextSpan x a .first = next-after x a (w .alike .in-x) in
@@ -100,8 +103,8 @@ module _ (t : Told) (x : List ℕ) (i a : ℕ) (y : List ℕ) (j b : ℕ) (hx : 
       let cx = on a (nextSpan x a .first) (nextSpan x a .closing) ax (next-within x a .order) in
       let cy = on b (nextSpan y b .first) (nextSpan y b .closing) by (next-within y b .order) in
       let c-is = farther i a (nextSpan x a .closing) j b (nextSpan y b .closing) (w .after-i) cx (w .after-j) cy (w .same) (n .closing) in
-      let jx = judge t (nextStretch x a) in
-      let jy = judge t (nextStretch y b) in (
+      let jx = within (asked .allowed) (judge t (nextStretch x a)) in
+      let jy = within (asked .allowed) (judge t (nextStretch y b)) in (
         seen-at i (nextSpan x a) jx l ∙ rw (f-is, c-is, n .bytes) refl ∙ sym (seen-at j (nextSpan y b) jy m),
         record {
           alike = n .on;
@@ -120,20 +123,20 @@ module _ (t : Told) (x : List ℕ) (i a : ℕ) (y : List ℕ) (j b : ℕ) (hx : 
       next-moved y b (w .alike .in-y) ∙ ap (λ (s : List ℕ). moved b (nextSpan s 0)) (sym (w .alike .rest)) in
       ap ends ex ∙ eqb-moved (p .first) (p .closing) a ∙ sym (eqb-moved (p .first) (p .closing) b) ∙ ap ends (sym ey)
 
-  by-end : (q : Bool) → Goal (cond q (call (length x) answer-is.End) (stretch (nextSpan x a) (judge t (nextStretch x a))))
-      (cond q (call (length y) answer-is.End) (stretch (nextSpan y b) (judge t (nextStretch y b))))
+  by-end : (q : Bool) → Goal (cond q (call (length x) answer-is.End) (stretch (nextSpan x a) (within (asked .allowed) (judge t (nextStretch x a)))))
+      (cond q (call (length y) answer-is.End) (stretch (nextSpan y b) (within (asked .allowed) (judge t (nextStretch y b)))))
   by-end true = at-end
   by-end false = at-stretch
 
-  step : Goal (found t x a (length l)) (found t y b (length m))
+  step : Goal (found t asked x a (length l)) (found t asked y b (length m))
   step = by-size (sizedTold t) refl
     where
-      by-size : (q : Bool) → sizedTold t ≡ q → Goal (found t x a (length l)) (found t y b (length m))
+      by-size : (q : Bool) → sizedTold t ≡ q → Goal (found t asked x a (length l)) (found t asked y b (length m))
       by-size true e =
-          rw (sized t x a (length l) hx gx (w .alike .in-x) e, sized t y b (length m) hy gy (w .alike .in-y) e, ← ends-alike)
+          rw (sized t asked x a (length l) hx gx (w .alike .in-x) e, sized t asked y b (length m) hy gy (w .alike .in-y) e, ← ends-alike)
           (by-end (ends (nextSpan x a)))
       by-size false e =
-          rw (unsized t x a (length l) hx gx (w .alike .in-x) e, unsized t y b (length m) hy gy (w .alike .in-y) e) at-refusal
+          rw (unsized t asked x a (length l) hx gx (w .alike .in-x) e, unsized t asked y b (length m) hy gy (w .alike .in-y) e) at-refusal
 
 -- two marks with the same bytes behind them
 pub at-marks : {x y : List ℕ} {i j : ℕ} → Mark x i → Mark y j → drop i x ≡ drop j y → Abreast x i i y j j
@@ -144,20 +147,20 @@ at-marks m n e = record {
   same = omega arith;
 }
 
-module _ (key font x y : List ℕ) (i j : ℕ) (hx : length x ≤ longestStream) (hy : length y ≤ longestStream) where
+module _ (key font : List ℕ) (asked : Asked) (x y : List ℕ) (i j : ℕ) (hx : length x ≤ longestStream) (hy : length y ≤ longestStream) where
   -- runs of as many calls, from places that are abreast
   pub runs : {a b : ℕ} {rx ry : List Seen} → Abreast x i a y j b → length rx ≡ length ry
-      → Run key font x i a rx → Run key font y j b ry → rx ≡ ry
+      → Run key font asked x i a rx → Run key font asked y j b ry → rx ≡ ry
   runs w e none none = refl
   runs w e none (next r l l′ g p q) = absurd (omega (arith, e))
   runs w e (next r l l′ g p q) none = absurd (omega (arith, e))
   runs {a} {b} w e (next r l l′ g p q) (next o m m′ h u v) =
-      let z = step (told key font) x i a y j b hx hy w l m g h in
+      let z = step (told key font) asked x i a y j b hx hy w l m g h in
       ap₂ _∷_
       (ap₂ (seenFrom i) (p .0) (p .1) ∙ z .0 ∙ sym (ap₂ (seenFrom j) (u .0) (u .1)))
       (runs (rw (p .0, u .0) (z .1)) (omega (arith, e)) q v)
 
   -- from two marks with the same bytes behind them, however many calls are made
   pub resync : Mark x i → Mark y j → drop i x ≡ drop j y → {rx ry : List Seen} → length rx ≡ length ry
-      → Run key font x i i rx → Run key font y j j ry → rx ≡ ry
+      → Run key font asked x i i rx → Run key font asked y j j ry → rx ≡ ry
   resync m n e long p q = runs (at-marks m n e) long p q

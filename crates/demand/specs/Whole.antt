@@ -7,6 +7,7 @@ use native.Mathlib.Omega.{arith}
 use lib.ListN.{length, replicate, length-replicate}
 use Rattle.line.specs.Lines.{longest}
 use Rattle.framing.specs.Told.{told}
+use Rattle.reader.specs.declared.Asked.{Asked}
 use Rattle.judging.specs.Sizes.{Sizes}
 use Rattle.reader.specs.Answers.{longestStream, readAnswer, readOut}
 use Rattle.demand.specs.Promises.{Seen, seenFrom, Run, none, next}
@@ -15,9 +16,9 @@ use Rattle.demand.specs.Ending.{run-ends}
 use Rattle.demand.specs.FromStart.{ended-alike}
 
 -- a run from the stream's start to its end, and what is seen
-pub record WholeRun (key font s : List ℕ) : Type 0 where
+pub record WholeRun (key font : List ℕ) (asked : Asked) (s : List ℕ) : Type 0 where
   pub seen : List Seen
-  pub run : Run key font s 0 0 seen
+  pub run : Run key font asked s 0 0 seen
   pub ended : Ended seen
 
 -- a line buffer with room for a line
@@ -29,33 +30,33 @@ unfolding buffer
 room = omega (arith, length-replicate {A = ℕ} longest 0)
 
 -- so many calls of `read`, from any place
-pub record Calls (key font s : List ℕ) (from n : ℕ) : Type 0 where
+pub record Calls (key font : List ℕ) (asked : Asked) (s : List ℕ) (from n : ℕ) : Type 0 where
   pub seen : List Seen
   pub many : length seen ≡ n
-  pub run : Run key font s 0 from seen
+  pub run : Run key font asked s 0 from seen
 
-calls : (key font s : List ℕ) (n from : ℕ) → Calls key font s from n
-calls key font s zero from = record { seen = []; many = refl; run = none }
-calls key font s (suc n) from =
-    let r = readAnswer (told key font) s from buffer in
-    let l = readOut (told key font) s from buffer in
-    let more = calls key font s n (r .closing) in
+calls : (key font : List ℕ) (asked : Asked) (s : List ℕ) (n from : ℕ) → Calls key font asked s from n
+calls key font asked s zero from = record { seen = []; many = refl; run = none }
+calls key font asked s (suc n) from =
+    let r = readAnswer (told key font) asked s from buffer in
+    let l = readOut (told key font) asked s from buffer in
+    let more = calls key font asked s n (r .closing) in
     record {
       seen = seenFrom 0 r l ∷ more .seen;
       many = ap suc (more .many);
       run = next r buffer l room (refl, refl) (more .run);
     }
 
-module _ (key font s : List ℕ) (z : Sizes (told key font)) (h : length s ≤ longestStream) where
+module _ (key font : List ℕ) (asked : Asked) (s : List ℕ) (z : Sizes (told key font)) (h : length s ≤ longestStream) where
   -- one call more than the stream has bytes comes to its end
-  pub whole-run : WholeRun key font s
+  pub whole-run : WholeRun key font asked s
   whole-run =
-      let c = calls key font s (suc (length s)) 0 in
-      let u = run-ends key font s z h 0 (omega arith) (omega (arith, c .many)) (c .run) in
+      let c = calls key font asked s (suc (length s)) 0 in
+      let u = run-ends key font asked s z h 0 (omega arith) (omega (arith, c .many)) (c .run) in
       record { seen = u .to-end; run = u .run; ended = u .ended }
 
-  pub whole-run-single : {x y : List Seen} → Run key font s 0 0 x → Ended x → Run key font s 0 0 y → Ended y → x ≡ y
-  whole-run-single p a q b = ended-alike key font s s 0 0 h h (record {
+  pub whole-run-single : {x y : List Seen} → Run key font asked s 0 0 x → Ended x → Run key font asked s 0 0 y → Ended y → x ≡ y
+  whole-run-single p a q b = ended-alike key font asked s s 0 0 h h (record {
     alike = record { in-x = omega arith; in-y = omega arith; rest = refl };
     after-i = omega arith;
     after-j = omega arith;

@@ -33,11 +33,11 @@ abbrev pub Place : (κs : Lfts 1) → Args place.signature κs → ℕ → Type 
 Place κs a r = r ≡ a .0 .at
 
 abbrev pub Next : (κs : Lfts 5) → Args next.signature κs → Reading → AtExit next.ended κs → Type 0
-Next κs a r x = Nexts (now (a .1 .0)) (now (a .1 .1 .0)) (now (a .0)) (now (a .1 .1 .1 .0)) r (now (x .0)) (now (x .1 .1 .1 .0))
+Next κs a r x = Nexts (now (a .1 .0)) (now (a .1 .1 .0)) (a .1 .1 .1 .0) (now (a .0)) (now (a .1 .1 .1 .1 .0)) r (now (x .0)) (now (x .1 .1 .1 .1 .0))
 
 abbrev pub Walked : (κs : Lfts 4) → Args walked.signature κs → Step → AtExit walked.ended κs → Type 0
-Walked κs a r x = (r ≡ stepOf (told (now (a .1 .1 .0)) (now (a .1 .1 .1 .0))) (now (a .0)) (a .1 .0) (now (a .1 .1 .1 .1 .0)))
-    × (now (x .1 .1 .1 .1 .0) ≡ readOut (told (now (a .1 .1 .0)) (now (a .1 .1 .1 .0))) (now (a .0)) (a .1 .0) (now (a .1 .1 .1 .1 .0)))
+Walked κs a r x = (r ≡ stepOf (told (now (a .1 .1 .0)) (now (a .1 .1 .1 .0))) (a .1 .1 .1 .1 .0) (now (a .0)) (a .1 .0) (now (a .1 .1 .1 .1 .1 .0)))
+    × (now (x .1 .1 .1 .1 .1 .0) ≡ readOut (told (now (a .1 .1 .0)) (now (a .1 .1 .1 .0))) (a .1 .1 .1 .1 .0) (now (a .0)) (a .1 .0) (now (a .1 .1 .1 .1 .1 .0)))
 
 module _ {M : Type 1} (𝓤 : URA M) (H : Heap 𝓤) (A : Atoms 𝓤) (mem : Memory → SProp 𝓤) (run : Routine → Fun 𝓤) where
   pub new-says : (κs : Lfts 1) (a : Args new.signature κs) (r : Walker) (x : AtExit new.ended κs) → new.clauses 𝓤 H A mem run κs a .ensures tt r x ≡ fact 𝓤 (New κs a r)
@@ -59,12 +59,12 @@ pub place-single : (κs : Lfts 1) (a : Args place.signature κs) (r r′ : ℕ) 
 place-single κs a r r′ p q = p ∙ sym q
 
 pub next-single : (κs : Lfts 5) (a : Args next.signature κs) (r r′ : Reading) (x x′ : AtExit next.ended κs) → Next κs a r x → Next κs a r′ x′
-    → (r ≡ r′) × (x .0 .now ≡ x′ .0 .now) × (x .1 .1 .1 .0 .now ≡ x′ .1 .1 .1 .0 .now)
+    → (r ≡ r′) × (x .0 .now ≡ x′ .0 .now) × (x .1 .1 .1 .1 .0 .now ≡ x′ .1 .1 .1 .1 .0 .now)
 next-single κs a r r′ x x′ p q =
     let e : r ≡ r′ = p .0 ∙ sym (q .0) in
     let at-is : now (x .0) .at ≡ now (x′ .0) .at = p .3 ∙ ap (λ (y : Reading). y .closing) e ∙ sym (q .3) in
     (e, λ i. record { stream = (p .2 ∙ sym (q .2)) i; at = at-is i }, p .1 ∙ sym (q .1))
 
 pub walked-single : (κs : Lfts 4) (a : Args walked.signature κs) (r r′ : Step) (x x′ : AtExit walked.ended κs) → Walked κs a r x → Walked κs a r′ x′
-    → (r ≡ r′) × (x .1 .1 .1 .1 .0 .now ≡ x′ .1 .1 .1 .1 .0 .now)
+    → (r ≡ r′) × (x .1 .1 .1 .1 .1 .0 .now ≡ x′ .1 .1 .1 .1 .1 .0 .now)
 walked-single κs a r r′ x x′ p q = (p .0 ∙ sym (q .0), p .1 ∙ sym (q .1))

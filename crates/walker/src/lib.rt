@@ -5,6 +5,7 @@ ghost use mathlib.Core.Path.{_≡_};
 ghost use Rattle.framing.specs.Told.{told};
 ghost use Rattle.reader.specs.Answers.{readAnswer, readOut};
 ghost use Rattle.walker.specs.Steps.{stepOf};
+use reader::Asked;
 use reader::Reading;
 use reader::read;
 
@@ -21,11 +22,18 @@ pub struct Step {
 
 // A step from a place of a stream: at the closing mark that the reading names, at the stream's length at the end, and where it was if
 // the call was refused. All that a walker does, over plain arguments.
-fn one_step(stream: &[u8], at: usize, key: &[u8], font: &[u8], line: &mut [u8]) -> Step
-    ensures { λ r. ⌜ r ≡ stepOf (told (now (key .entry)) (now (font .entry))) (now (stream .entry)) at (now (line .entry)) ⌝ }
-    ensures { λ _. ⌜ now (line .exit) ≡ readOut (told (now (key .entry)) (now (font .entry))) (now (stream .entry)) at (now (line .entry)) ⌝ }
+fn one_step(
+    stream: &[u8],
+    at: usize,
+    key: &[u8],
+    font: &[u8],
+    asked: Asked,
+    line: &mut [u8],
+) -> Step
+    ensures { λ r. ⌜ r ≡ stepOf (told (now (key .entry)) (now (font .entry))) asked (now (stream .entry)) at (now (line .entry)) ⌝ }
+    ensures { λ _. ⌜ now (line .exit) ≡ readOut (told (now (key .entry)) (now (font .entry))) asked (now (stream .entry)) at (now (line .entry)) ⌝ }
 {
-    let reading = read(stream, at, key, font, line);
+    let reading = read(stream, at, key, font, asked, line);
     Step {
         reading,
         at: reading.closing,
@@ -51,20 +59,28 @@ pub fn next<'s, 'a, 'b, 'c, 'd>(
     w: &'s mut Walker<'a>,
     key: &'b [u8],
     font: &'c [u8],
+    asked: Asked,
     line: &'d mut [u8],
 ) -> Reading
-    ensures { λ r. ⌜ (r ≡ readAnswer (told (now (key .entry)) (now (font .entry))) (now (now (w .entry) .stream)) (now (w .entry) .at) (now (line .entry))) × (now (line .exit) ≡ readOut (told (now (key .entry)) (now (font .entry))) (now (now (w .entry) .stream)) (now (w .entry) .at) (now (line .entry))) × (now (w .exit) .stream ≡ now (w .entry) .stream) × (now (w .exit) .at ≡ r .closing) ⌝ }
+    ensures { λ r. ⌜ (r ≡ readAnswer (told (now (key .entry)) (now (font .entry))) asked (now (now (w .entry) .stream)) (now (w .entry) .at) (now (line .entry))) × (now (line .exit) ≡ readOut (told (now (key .entry)) (now (font .entry))) asked (now (now (w .entry) .stream)) (now (w .entry) .at) (now (line .entry))) × (now (w .exit) .stream ≡ now (w .entry) .stream) × (now (w .exit) .at ≡ r .closing) ⌝ }
 {
-    let s = one_step(w.stream, w.at, key, font, line);
+    let s = one_step(w.stream, w.at, key, font, asked, line);
     w.at = s.at;
     s.reading
 }
 
 // From a slice to a walker and back, for a caller that keeps the place itself: one step of a walker that stands there.
-pub fn walked(stream: &[u8], from: usize, key: &[u8], font: &[u8], line: &mut [u8]) -> Step
-    ensures { λ r. ⌜ (r ≡ stepOf (told (now (key .entry)) (now (font .entry))) (now (stream .entry)) from (now (line .entry))) × (now (line .exit) ≡ readOut (told (now (key .entry)) (now (font .entry))) (now (stream .entry)) from (now (line .entry))) ⌝ }
+pub fn walked(
+    stream: &[u8],
+    from: usize,
+    key: &[u8],
+    font: &[u8],
+    asked: Asked,
+    line: &mut [u8],
+) -> Step
+    ensures { λ r. ⌜ (r ≡ stepOf (told (now (key .entry)) (now (font .entry))) asked (now (stream .entry)) from (now (line .entry))) × (now (line .exit) ≡ readOut (told (now (key .entry)) (now (font .entry))) asked (now (stream .entry)) from (now (line .entry))) ⌝ }
 {
     let mut w = Walker { stream, at: from };
-    let reading = next(&mut w, key, font, line);
+    let reading = next(&mut w, key, font, asked, line);
     Step { reading, at: w.at }
 }
