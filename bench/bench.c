@@ -111,12 +111,12 @@ static void fill_frames(size_t length, enum kind kind)
 
 static void read_all(int who)
 {
-    size_t at = 0, first, closing, length;
+    const struct lubdhvani_asked everything = {.allowed = LUBDHVANI_ALL_WORK};
+    struct lubdhvani_reading reading = {0};
     (void)who;
-    do {
-        lubdhvani_read(stream, stream_length, at, key, sizeof key, font, sizeof font, line, sizeof line, &first, &closing, &length, &calls);
-        at = closing;
-    } while (first < stream_length);
+    do
+        reading = lubdhvani_read(stream, stream_length, reading.closing, key, sizeof key, font, sizeof font, everything, line, sizeof line);
+    while (reading.first < stream_length);
 }
 
 static void reading(const char *what, enum kind kind)

@@ -42,11 +42,11 @@ enum {
 
 /* libFuzzer keeps an input that moves one of these: what the answers were, since the library itself has no counters. First each number
  * after each other number or none, then the lengths of lines, then those of stretches, the longest all as one. */
-enum { MET_NUMBERS = 16, MET_NONE = MET_NUMBERS - 1, MET_LINES = MET_NUMBERS * MET_NUMBERS, MET_STRETCHES = 512, MET_LONGEST = 300 };
+enum { MET_NUMBERS = 32, MET_NONE = MET_NUMBERS - 1, MET_LINES = MET_NUMBERS * MET_NUMBERS, MET_STRETCHES = 2048, MET_LONGEST = 300 };
 __attribute__((section("__libfuzzer_extra_counters"))) static uint8_t met[2048];
 
 /* How often each number was met, lines apart from the end of the stream; printed at the end. */
-static unsigned long lines_met, numbers_met[LUBDHVANI_NOT_TRADE + 1];
+static unsigned long lines_met, numbers_met[LUBDHVANI_OVER_WORK + 1];
 
 static void print_met(void)
 {
@@ -66,6 +66,7 @@ static void must(int holds, const char *what)
 }
 
 static uint8_t key[LUBDHVANI_KEY], other_key[LUBDHVANI_KEY], font[LUBDHVANI_DIGEST], other_font[LUBDHVANI_DIGEST];
+static const struct lubdhvani_asked everything = {.allowed = LUBDHVANI_ALL_WORK};
 
 /* The input, byte by byte; zeros where it has run out. */
 
@@ -177,7 +178,7 @@ static void write_line(const uint8_t *its_key, const uint8_t *its_font, const ui
                        size_t n)
 {
     uint8_t frame[LUBDHVANI_FRAME + CANARY], back[LUBDHVANI_LONGEST_LINE];
-    size_t length, calls, first, closing, line_length;
+    size_t length, calls;
     memset(frame, UNTOUCHED, sizeof frame);
     uint32_t number = lubdhvani_write(its_key, LUBDHVANI_KEY, nonce, LUBDHVANI_NONCE, its_font, LUBDHVANI_DIGEST, line, n, frame,
                                       LUBDHVANI_FRAME, &length, &calls);
@@ -191,9 +192,9 @@ static void write_line(const uint8_t *its_key, const uint8_t *its_font, const ui
         must(frame[i] == UNTOUCHED, "the writer writes the frame only");
     if (number != LUBDHVANI_DONE)
         return;
-    must(lubdhvani_read(frame, length, 0, its_key, LUBDHVANI_KEY, its_font, LUBDHVANI_DIGEST, back, sizeof back, &first, &closing,
-                        &line_length, &calls) == LUBDHVANI_DONE &&
-             first == 1 && closing == length - 1 && line_length == n && memcmp(back, line, n) == 0,
+    const struct lubdhvani_reading r =
+        lubdhvani_read(frame, length, 0, its_key, LUBDHVANI_KEY, its_font, LUBDHVANI_DIGEST, everything, back, sizeof back);
+    must(r.number == LUBDHVANI_DONE && r.given && r.first == 1 && r.closing == length - 1 && r.length == n && memcmp(back, line, n) == 0,
          "a line that was written is read");
     append(frame, length);
 }
@@ -325,6 +326,7 @@ static void follow_recipe(void)
 struct told {
     const uint8_t *key, *font;
     size_t room;
+    struct lubdhvani_asked asked;
 };
 
 /* What a stretch must be answered with: stuffing and fields are judged here, the seal by lubdhvani_open. */
@@ -386,6 +388,10 @@ static struct judged judge(const uint8_t *stretch, size_t length, const struct t
         return j;
     }
     const size_t line = n - BESIDE_LINE;
+    if (line + CALLS > told->asked.allowed) {
+        j.number = LUBDHVANI_OVER_WORK;
+        return j;
+    }
     memcpy(j.nonce, body + NONCE_AT, sizeof j.nonce);
     j.number = lubdhvani_open(told->key, LUBDHVANI_KEY, body + NONCE_AT, LUBDHVANI_NONCE, body + FIELD_2, ASSOCIATED, body + LINE_AT, line,
                               body + LINE_AT + line + HEAD, LUBDHVANI_SEAL, j.line, sizeof j.line, &j.calls);
@@ -426,8 +432,7 @@ static uint8_t *lent_stream(void)
 
 /* One answer of the reader; the line stands in the middle of `around`. */
 struct reading {
-    uint32_t number;
-    size_t first, closing, length, calls;
+    struct lubdhvani_reading is;
     uint8_t around[CANARY + LUBDHVANI_LONGEST_LINE + MORE_ROOM + CANARY];
 };
 
@@ -435,13 +440,13 @@ static struct reading read_once(const uint8_t *stream, size_t place, const struc
 {
     struct reading r;
     memset(r.around, UNTOUCHED, sizeof r.around);
-    r.number = lubdhvani_read(stream, built, place, told->key, LUBDHVANI_KEY, told->font, LUBDHVANI_DIGEST, r.around + CANARY, told->room,
-                              &r.first, &r.closing, &r.length, &r.calls);
+    r.is = lubdhvani_read(stream, built, place, told->key, LUBDHVANI_KEY, told->font, LUBDHVANI_DIGEST, told->asked, r.around + CANARY, told->room);
     for (size_t i = 0; i < sizeof r.around; i++)
-        must((i >= CANARY && i < CANARY + r.length) || r.around[i] == UNTOUCHED, "the reader writes the line only");
+        must((i >= CANARY && i < CANARY + r.is.length) || r.around[i] == UNTOUCHED, "the reader writes the line only");
     must(memcmp(stream, building, built) == 0, "the stream stays");
-    must(r.number <= LUBDHVANI_BEYOND || r.number == LUBDHVANI_NOT_TRADE, "a number of the table");
-    *(r.length > 0 ? &lines_met : &numbers_met[r.number]) += 1;
+    must(r.is.number <= LUBDHVANI_BEYOND || r.is.number == LUBDHVANI_NOT_TRADE || r.is.number == LUBDHVANI_OVER_WORK, "a number of the table");
+    must(r.is.given == (r.is.length > 0) && r.is.calls <= told->asked.allowed, "a line is told from the end, and no count is over what is allowed");
+    *(r.is.length > 0 ? &lines_met : &numbers_met[r.is.number]) += 1;
     return r;
 }
 
@@ -456,7 +461,7 @@ static uint32_t refusal(size_t place, size_t room)
 
 static void check_end(const uint8_t *stream, size_t place, const struct reading *r)
 {
-    must(r->number == LUBDHVANI_DONE && r->closing == built && r->length == 0 && r->calls == 0, "the end of the stream");
+    must(r->is.number == LUBDHVANI_DONE && r->is.closing == built && r->is.length == 0 && r->is.calls == 0, "the end of the stream");
     for (size_t i = place, run = 0, opened = 0; i < built; i++) {
         must(!(opened && run > 0 && stream[i] == MARK), "no stretch is passed over at the end");
         run = stream[i] == MARK ? 0 : run + 1;
@@ -466,10 +471,10 @@ static void check_end(const uint8_t *stream, size_t place, const struct reading 
 
 static void check_places(const uint8_t *stream, size_t place, const struct reading *r)
 {
-    must(place < r->first && r->first < r->closing && r->closing < built, "places go up");
-    must(stream[r->first - 1] == MARK && stream[r->closing] == MARK, "a stretch stands between marks");
-    must(memchr(stream + r->first, MARK, r->closing - r->first) == NULL, "it holds none");
-    for (size_t i = place + 1, opened = stream[place] == MARK; i < r->first - 1; i++) {
+    must(place < r->is.first && r->is.first < r->is.closing && r->is.closing < built, "places go up");
+    must(stream[r->is.first - 1] == MARK && stream[r->is.closing] == MARK, "a stretch stands between marks");
+    must(memchr(stream + r->is.first, MARK, r->is.closing - r->is.first) == NULL, "it holds none");
+    for (size_t i = place + 1, opened = stream[place] == MARK; i < r->is.first - 1; i++) {
         must(!(opened && stream[i] != MARK), "no stretch is passed over");
         opened |= stream[i] == MARK;
     }
@@ -477,13 +482,13 @@ static void check_places(const uint8_t *stream, size_t place, const struct readi
 
 static void check_judged(const uint8_t *stream, const struct told *told, const struct reading *r)
 {
-    const size_t length = r->closing - r->first;
-    const struct judged j = judge(stream + r->first, length, told);
-    must(r->number == j.number && r->length == j.length && r->calls == j.calls, "the answer is the one its rules give");
-    must(memcmp(r->around + CANARY, j.line, r->length) == 0, "the line is the one that was sealed");
-    if (r->length > 0) {
-        check_rewritten(&j, told, stream + r->first, length);
-        met[MET_LINES + r->length]++;
+    const size_t length = r->is.closing - r->is.first;
+    const struct judged j = judge(stream + r->is.first, length, told);
+    must(r->is.number == j.number && r->is.length == j.length && r->is.calls == j.calls, "the answer is the one its rules give");
+    must(memcmp(r->around + CANARY, j.line, r->is.length) == 0, "the line is the one that was sealed");
+    if (r->is.length > 0) {
+        check_rewritten(&j, told, stream + r->is.first, length);
+        met[MET_LINES + r->is.length]++;
     }
     met[MET_STRETCHES + (length > MET_LONGEST ? MET_LONGEST : length)]++;
 }
@@ -492,11 +497,10 @@ static void check_judged(const uint8_t *stream, const struct told *told, const s
 static void check_alone(const uint8_t *stream, const struct told *told, const struct reading *r)
 {
     uint8_t line[LUBDHVANI_LONGEST_LINE];
-    size_t first, closing, length, calls;
-    uint32_t number = lubdhvani_read(stream + r->first - 1, built - r->first + 1, 0, told->key, LUBDHVANI_KEY, told->font,
-                                     LUBDHVANI_DIGEST, line, sizeof line, &first, &closing, &length, &calls);
-    must(number == r->number && first == 1 && closing == r->closing - r->first + 1 && length == r->length && calls == r->calls &&
-             memcmp(line, r->around + CANARY, length) == 0,
+    const struct lubdhvani_reading alone = lubdhvani_read(stream + r->is.first - 1, built - r->is.first + 1, 0, told->key, LUBDHVANI_KEY,
+                                                          told->font, LUBDHVANI_DIGEST, told->asked, line, sizeof line);
+    must(alone.number == r->is.number && alone.first == 1 && alone.closing == r->is.closing - r->is.first + 1 && alone.length == r->is.length &&
+             alone.calls == r->is.calls && memcmp(line, r->around + CANARY, alone.length) == 0,
          "what stands before a mark changes nothing behind it");
 }
 
@@ -504,17 +508,17 @@ static void read_all(const uint8_t *stream, size_t place, const struct told *tol
 {
     for (uint32_t before = MET_NONE;;) {
         const struct reading r = read_once(stream, place, told);
-        met[MET_NUMBERS * before + r.number]++;
-        before = r.number;
+        met[MET_NUMBERS * before + r.is.number]++;
+        before = r.is.number;
 
         const uint32_t refused = refusal(place, told->room);
         if (refused != 0) {
-            must(r.number == refused && r.first == place && r.closing == place && r.length == 0 && r.calls == 0, "the call is refused");
+            must(r.is.number == refused && r.is.first == place && r.is.closing == place && r.is.length == 0 && r.is.calls == 0, "the call is refused");
             return;
         }
         size_t first, closing;
         lubdhvani_next_stretch(stream, built, place, &first, &closing);
-        must(r.first == first && r.closing == closing, "next_stretch finds the same");
+        must(r.is.first == first && r.is.closing == closing, "next_stretch finds the same");
         if (first == built) {
             check_end(stream, place, &r);
             return;
@@ -548,6 +552,7 @@ int LLVMFuzzerTestOneInput(const uint8_t *data, size_t size)
 
     const uint8_t how = take();
     size_t place = take_two();
+    const uint8_t work = take();
     if (how & 0x01)
         append(input, input_left);
     else
@@ -557,6 +562,7 @@ int LLVMFuzzerTestOneInput(const uint8_t *data, size_t size)
         (how & 0x0C) == 0x0C ? other_key : key,
         (how & 0x30) == 0x30 ? other_font : font,
         (how & 0xC0) == 0xC0 ? LUBDHVANI_LONGEST_LINE - 1 : LUBDHVANI_LONGEST_LINE + (how >> 6) * MORE_ROOM / 2u,
+        {.allowed = work & 0x80 ? work & 0x7F : LUBDHVANI_ALL_WORK},
     };
     read_all(lent_stream(), place, &told);
     return 0;

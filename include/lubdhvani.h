@@ -9,9 +9,9 @@
  *    pointer may be anything, NULL included.
  *  - Buffers that are written overlap no other argument of the call.
  *  - `calls`, `length`, `first` and `closing` each point to a size_t of the caller's: never NULL, no two to the same one, none into a
- *    buffer of the call.
+ *    buffer of the call. A reading comes back as a struct by value, and what a reader is told anew goes in as one.
  *  - The return value is one of the numbers below. They are tested in the order 1, 2, 3, 9, 13, 4, 10; the first that holds is given. A
- *    stretch is judged in the order 7 for its length, 6, 7 for its fields, 8, 5, 9, 13.
+ *    stretch is judged in the order 7 for its length, 6, 7 for its fields, 8, 15, 5, 9, 13.
  *  - `calls` (and `length`, `first`, `closing`) are always written: counts of calls of the permutation, lengths, places.
  *  - Nothing is changed but what is named; the rest of a longer buffer stays as it was.
  *  - The library has no state of its own: calls on different buffers may run at the same time. Keys and states that a call works with are
@@ -46,6 +46,7 @@ enum {
     LUBDHVANI_LONGEST_LINE = 65,       /* a line has 1 to 65 bytes; also the least room for a line */
     LUBDHVANI_FRAME = 276,             /* the least room for a frame */
     LUBDHVANI_LONGEST_STRETCH = 274,   /* a longer one is refused with 7 */
+    LUBDHVANI_ALL_WORK = 104,          /* calls of the permutation that are enough for every stretch: those of the longest line */
     LUBDHVANI_INSTANCES = 10,          /* hash instances are 1 to 10; fonts are digested with 1 */
     LUBDHVANI_STACK = 24576,           /* what a call takes of the stack at most, on x86-64 */
     LUBDHVANI_STACK_BUT_READ = 6144    /* the same of every call but lubdhvani_read */
@@ -64,7 +65,8 @@ enum {
     LUBDHVANI_OTHER_FONT = 8,  /* the font digest differs from the one asked for */
     LUBDHVANI_UNLISTED = 9,    /* the line holds a byte that is not listed */
     LUBDHVANI_BEYOND = 10,     /* the place is beyond the stream's end */
-    LUBDHVANI_NOT_TRADE = 13   /* the line's bytes are listed, but it is not the trade's line */
+    LUBDHVANI_NOT_TRADE = 13,  /* the line's bytes are listed, but it is not the trade's line */
+    LUBDHVANI_OVER_WORK = 15   /* the stretch takes more calls of the permutation than are allowed */
 };
 
 /* The permutation of 32 rounds on a state of `size` bytes, where it stands, and its inverse.
@@ -105,14 +107,30 @@ uint32_t lubdhvani_write(const uint8_t *key, size_t key_length, const uint8_t *n
  * *first is the place of its first byte, *closing that of its closing mark. Where there is none both are stream_length. */
 void lubdhvani_next_stretch(const uint8_t *stream, size_t stream_length, size_t from, size_t *first, size_t *closing);
 
+/* What a reader is told anew at each call. Later fields may join it: set it with an initializer, `{.allowed = LUBDHVANI_ALL_WORK}`. */
+struct lubdhvani_asked {
+    size_t allowed; /* the calls of the permutation that the stretch is allowed */
+};
+
+/* What a reading comes to. */
+struct lubdhvani_reading {
+    size_t first;    /* the place of the stretch's first byte */
+    size_t closing;  /* the place of its closing mark, where the next reading starts */
+    size_t length;   /* the line's length; 0 where no line is given */
+    size_t calls;    /* the calls of the permutation made */
+    uint32_t number; /* one of the numbers above */
+    uint32_t given;  /* 1 where a line is given, else 0: the end of the stream has the number 0 too */
+};
+
 /* Judges the next stretch from a place and gives out its line.
- * 0 with *length > 0: line[0..*length] is the line. 0 with *length = 0: the end of the stream, *first = *closing = stream_length.
- * 5, 6, 7, 8, 9, 13: the stretch from *first up to *closing is refused; line is untouched. Reading goes on from *closing in each of
- * these cases. 2, 3, 4, 10: the call is refused, *first = *closing = from, line is untouched.
- * *calls is n + 39 for a line, 5, 9 and 13, n being the length of the line's ciphertext; else 0. *length is 0 but for a line. */
-uint32_t lubdhvani_read(const uint8_t *stream, size_t stream_length, size_t from, const uint8_t *key, size_t key_length,
-                        const uint8_t *font, size_t font_length, uint8_t *line, size_t room, size_t *first, size_t *closing,
-                        size_t *length, size_t *calls);
+ * number 0, given 1: line[0..length] is the line. number 0, given 0: the end of the stream, first = closing = stream_length.
+ * 5, 6, 7, 8, 9, 13, 15: the stretch from first up to closing is refused; line is untouched. Reading goes on from closing in each of
+ * these cases. 2, 3, 4, 10: the call is refused, first = closing = from, line is untouched.
+ * calls is n + 39 for a line, 5, 9 and 13, n being the length of the line's ciphertext; else 0, and never more than is allowed.
+ * 15: n + 39 is more than is allowed. Nothing was worked out; the same stretch may be read again from the same place with more allowed. */
+struct lubdhvani_reading lubdhvani_read(const uint8_t *stream, size_t stream_length, size_t from, const uint8_t *key,
+                                        size_t key_length, const uint8_t *font, size_t font_length, struct lubdhvani_asked asked,
+                                        uint8_t *line, size_t room);
 
 #ifdef __cplusplus
 }

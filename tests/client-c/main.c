@@ -198,7 +198,7 @@ static void compose(void)
     send(cut_off, sizeof cut_off); /* the start of a frame that never came: no stretch */
 }
 
-/* The press: reads from place to place up to the end of the stream, and lists what it finds. */
+/* The press: reads from place to place up to the end of the stream, beat by beat, and lists what it finds. */
 
 static const char *meaning(uint32_t number)
 {
@@ -220,37 +220,62 @@ static const char *meaning(uint32_t number)
     }
 }
 
+/* One reading within a beat of the press, so many calls of the permutation; what takes more is put off, and read again with all allowed. */
+enum { BEAT = 60 };
+
+static struct lubdhvani_reading read_in_beats(size_t place, uint8_t line[LUBDHVANI_LONGEST_LINE])
+{
+    const struct lubdhvani_asked beat = {.allowed = BEAT}, everything = {.allowed = LUBDHVANI_ALL_WORK};
+    memset(line, '#', LUBDHVANI_LONGEST_LINE);
+    struct lubdhvani_reading r =
+        lubdhvani_read(stream, stream_length, place, key, sizeof key, font, sizeof font, beat, line, LUBDHVANI_LONGEST_LINE);
+    check(r.calls <= BEAT, "no more calls are made than the beat allows");
+    if (r.number == LUBDHVANI_OVER_WORK) {
+        check(r.calls == 0 && all_are('#', line, LUBDHVANI_LONGEST_LINE), "a stretch that is put off costs nothing");
+        r = lubdhvani_read(stream, stream_length, place, key, sizeof key, font, sizeof font, everything, line, LUBDHVANI_LONGEST_LINE);
+        check(r.number != LUBDHVANI_OVER_WORK && r.calls > BEAT, "with everything allowed it is read");
+    }
+    return r;
+}
+
+static void print_row(const struct lubdhvani_reading *r, const uint8_t *line)
+{
+    if (r->given)
+        printf("%5zu  line     %.*s\n", r->first, (int)r->length, (const char *)line);
+    else
+        printf("%5zu  refused  %u %s\n", r->first, (unsigned)r->number, meaning(r->number));
+}
+
+/* What the press must find in this row. */
+static void check_row(size_t row, const struct lubdhvani_reading *r, const uint8_t line[LUBDHVANI_LONGEST_LINE])
+{
+    size_t n = strlen(expected[row].line);
+    check(r->number == expected[row].number && r->given == (n > 0), "the number of this stretch");
+    check(r->length == n && memcmp(line, expected[row].line, n) == 0, "its line is the one that was sealed, or none");
+    check(all_are('#', line + n, LUBDHVANI_LONGEST_LINE - n), "nothing else is written");
+}
+
 static void press(void)
 {
     size_t place = 0, row = 0, printed = 0;
 
     for (;;) {
         uint8_t line[LUBDHVANI_LONGEST_LINE];
-        size_t first, closing, length, calls, its_first, its_closing;
-        memset(line, '#', sizeof line);
-        uint32_t number = lubdhvani_read(stream, stream_length, place, key, sizeof key, font, sizeof font, line, sizeof line, &first,
-                                         &closing, &length, &calls);
-        lubdhvani_next_stretch(stream, stream_length, place, &its_first, &its_closing);
-        check(first == its_first && closing == its_closing, "next_stretch finds the stretch that was read");
-        if (number == LUBDHVANI_DONE && length == 0) {
+        size_t first, closing;
+        const struct lubdhvani_reading r = read_in_beats(place, line);
+        lubdhvani_next_stretch(stream, stream_length, place, &first, &closing);
+        check(r.first == first && r.closing == closing, "next_stretch finds the stretch that was read");
+        if (r.number == LUBDHVANI_DONE && !r.given) {
             check(first == stream_length && closing == stream_length, "the end of the stream is its length");
             break;
         }
-        if (number == LUBDHVANI_DONE)
-            printf("%5zu  line     %.*s\n", first, (int)length, (const char *)line);
-        else
-            printf("%5zu  refused  %u %s\n", first, (unsigned)number, meaning(number));
-
+        print_row(&r, line);
         if (!(place < first && first < closing && closing < stream_length && row < EXPECTED)) {
             check(0, "reading goes on, from stretch to stretch, as many as there are");
             return;
         }
-        size_t n = strlen(expected[row].line);
-        check(number == expected[row].number, "the number of this stretch");
-        check(length == n && memcmp(line, expected[row].line, n) == 0, "its line is the one that was sealed, or none");
-        check(all_are('#', line + n, sizeof line - n), "nothing else is written");
-        if (number == LUBDHVANI_DONE)
-            printed++;
+        check_row(row, &r, line);
+        printed += r.given;
         row++;
         place = closing;
     }

@@ -23,6 +23,10 @@ mod lubdhvani {
     pub const OTHER_FONT: u32 = 8;
     pub const UNLISTED: u32 = 9;
     pub const NOT_TRADE: u32 = 13;
+    pub const OVER_WORK: u32 = 15;
+
+    /// Enough for every stretch.
+    pub const ALL_WORK: usize = 104;
 
     #[rustfmt::skip]
     extern "C" {
@@ -52,9 +56,8 @@ mod lubdhvani {
         );
         fn lubdhvani_read(
             stream: *const u8, stream_length: usize, from: usize, key: *const u8, key_length: usize,
-            font: *const u8, font_length: usize, line: *mut u8, room: usize,
-            first: *mut usize, closing: *mut usize, length: *mut usize, calls: *mut usize,
-        ) -> u32;
+            font: *const u8, font_length: usize, asked: Asked, line: *mut u8, room: usize,
+        ) -> Reading;
     }
 
     // SAFETY, here and below: each pointer is to as many bytes as are said, and
@@ -141,30 +144,44 @@ mod lubdhvani {
         &stream[first..closing]
     }
 
+    /// What a reader is told anew at each call.
+    #[repr(C)]
+    #[derive(Clone, Copy)]
+    pub struct Asked {
+        pub allowed: usize,
+    }
+
+    /// What a reading comes to; `given` is 1 where a line is given, else 0.
+    #[repr(C)]
+    #[derive(Clone, Copy)]
     pub struct Reading {
-        pub number: u32,
         pub first: usize,
         pub closing: usize,
         pub length: usize,
         pub calls: usize,
+        pub number: u32,
+        pub given: u32,
     }
 
     #[rustfmt::skip]
-    pub fn read(stream: &[u8], from: usize, key: &[u8], font: &[u8], line: &mut [u8]) -> Reading {
-        let mut reading = Reading { number: 0, first: 0, closing: 0, length: 0, calls: 0 };
-        reading.number = unsafe {
+    pub fn read(stream: &[u8], from: usize, key: &[u8], font: &[u8], asked: Asked, line: &mut [u8]) -> Reading {
+        unsafe {
             lubdhvani_read(
-                stream.as_ptr(), stream.len(), from, key.as_ptr(), key.len(), font.as_ptr(), font.len(),
-                line.as_mut_ptr(), line.len(), &mut reading.first, &mut reading.closing,
-                &mut reading.length, &mut reading.calls,
+                stream.as_ptr(), stream.len(), from, key.as_ptr(), key.len(), font.as_ptr(), font.len(), asked,
+                line.as_mut_ptr(), line.len(),
             )
-        };
-        reading
+        }
     }
 }
 
-use lubdhvani::{BAD_SEAL, BAD_SHAPE, BAD_STUFFING, DONE, INSTANCE, NOT_TRADE, OTHER_FONT, UNLISTED};
+use lubdhvani::{Asked, Reading, ALL_WORK, OVER_WORK};
+use lubdhvani::{
+    BAD_SEAL, BAD_SHAPE, BAD_STUFFING, DONE, INSTANCE, NOT_TRADE, OTHER_FONT, UNLISTED,
+};
 use lubdhvani::{DIGEST, FRAME, KEY, LONGEST_LINE, NONCE, SEAL};
+
+/// A beat of the press, in calls of the permutation.
+const BEAT: usize = 60;
 
 /// What the composer and the press share, beside the font's digest.
 const THE_KEY: &[u8; KEY] = b"the press's key\0";
@@ -269,13 +286,37 @@ impl Checks {
         stream
     }
 
+    /// One reading within a beat of the press; what takes more is put off, and
+    /// read again with all allowed.
+    fn read_in_beats(
+        &mut self,
+        stream: &[u8],
+        place: usize,
+        font: &[u8],
+        line: &mut [u8],
+    ) -> Reading {
+        let beat = Asked { allowed: BEAT };
+        let all = Asked { allowed: ALL_WORK };
+        let before = line.to_vec();
+        let reading = lubdhvani::read(stream, place, THE_KEY, font, beat, line);
+        self.check(reading.calls <= BEAT, "no more calls are made than allowed");
+        if reading.number != OVER_WORK {
+            return reading;
+        }
+        let nothing = reading.calls == 0 && line[..] == before[..];
+        self.check(nothing, "a stretch that is put off costs nothing");
+        let reading = lubdhvani::read(stream, place, THE_KEY, font, all, line);
+        self.check(reading.calls > BEAT, "with everything allowed it is read");
+        reading
+    }
+
     /// Reads from place to place up to the end, and lists what is found.
     fn press(&mut self, font: &[u8], stream: &[u8]) {
         let mut found = Vec::new();
         let mut place = 0;
         loop {
             let mut line = [b'#'; LONGEST_LINE];
-            let reading = lubdhvani::read(stream, place, THE_KEY, font, &mut line);
+            let reading = self.read_in_beats(stream, place, font, &mut line);
             let stretch = lubdhvani::next_stretch(stream, place);
             let same = stream.get(reading.first..reading.closing) == Some(stretch);
             self.check(same, "next_stretch finds the stretch that was read");
@@ -283,7 +324,7 @@ impl Checks {
             let kept = rest.iter().all(|&byte| byte == b'#');
             self.check(kept, "nothing is written but the line");
 
-            if reading.number == DONE && reading.length == 0 {
+            if reading.number == DONE && reading.given == 0 {
                 let at_end = reading.first == stream.len() && reading.closing == stream.len();
                 self.check(at_end, "the end of the stream is its length");
                 break;

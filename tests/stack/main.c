@@ -26,6 +26,7 @@ static uint8_t state[LUBDHVANI_LARGEST_STATE], digest[LUBDHVANI_DIGEST], line[LU
 static uint8_t text[LUBDHVANI_LONGEST_TEXT], out[LUBDHVANI_LONGEST_TEXT], associated[LUBDHVANI_LONGEST_ASSOCIATED];
 static uint8_t frame[LUBDHVANI_FRAME], stretch[LUBDHVANI_LONGEST_STRETCH + 2];
 static size_t calls, length, first, closing;
+static const struct lubdhvani_asked everything = {.allowed = LUBDHVANI_ALL_WORK};
 
 static void permute(void) { lubdhvani_permute(state, sizeof state); }
 static void unpermute(void) { lubdhvani_unpermute(state, sizeof state); }
@@ -48,11 +49,11 @@ static void write_line(void)
 static void next_stretch(void) { lubdhvani_next_stretch(stretch, sizeof stretch, 0, &first, &closing); }
 static void read_frame(void)
 {
-    lubdhvani_read(frame, length, 0, key, sizeof key, font, sizeof font, line, sizeof line, &first, &closing, &length, &calls);
+    lubdhvani_read(frame, length, 0, key, sizeof key, font, sizeof font, everything, line, sizeof line);
 }
 static void read_stretch(void)
 {
-    lubdhvani_read(stretch, sizeof stretch, 0, key, sizeof key, font, sizeof font, line, sizeof line, &first, &closing, &length, &calls);
+    lubdhvani_read(stretch, sizeof stretch, 0, key, sizeof key, font, sizeof font, everything, line, sizeof line);
 }
 
 /* Stretches of the greatest length: two bytes again and again, and a last one of its own. */

@@ -6,6 +6,8 @@ use frame::KEY_LENGTH;
 use libc::STDERR_FILENO;
 use libc::STDIN_FILENO;
 use libc::STDOUT_FILENO;
+use reader::ALL_WORK;
+use reader::Asked;
 use reader::Reading;
 
 // How the listing stands: where the next reading starts, how many rows were lines and how many refusals, whether it is at its end, and
@@ -98,9 +100,10 @@ fn stopped(t: Tally, failed: bool) -> Tally {
     }
 }
 
-// One reading and its row. The two places of a stretch differ; those of the end, and of a call that is refused, do not.
+// One reading and its row, with all the work allowed. The two places of a stretch differ; those of the end, and of a call that is refused, do not.
 fn one(stream: &[u8], key: &[u8], font: &[u8], line: &mut [u8], t: Tally) -> Tally {
-    let reading = reader::read(stream, t.next, key, font, line);
+    let everything = Asked { allowed: ALL_WORK };
+    let reading = reader::read(stream, t.next, key, font, everything, line);
     if reading.first == reading.closing {
         return stopped(t, false);
     }

@@ -12,6 +12,7 @@ use Rattle.lubdhvani.proofs.lubdhvani_seal.Kinds as seal-kinds
 use Rattle.lubdhvani.proofs.lubdhvani_seal.Reads as seal-reads
 use Rattle.lubdhvani.proofs.lubdhvani_write.Kinds as write-kinds
 use Rattle.lubdhvani.proofs.lubdhvani_write.Reads as write-reads
+use Rattle.lubdhvani.specs.declared.Reading.{Reading}
 use Rattle.lubdhvani.proofs.lubdhvani_read.Kinds as read-kinds
 use Rattle.lubdhvani.proofs.lubdhvani_read.Reads as read-reads
 use Rattle.lubdhvani.proofs.lubdhvani_permute.Kinds as permute-kinds
@@ -69,17 +70,9 @@ pub lubdhvani-write-single : (κs : Lfts 7) (a : Dens κs write-kinds.ps) (r r�
 lubdhvani-write-single κs a r r′ x x′ p q =
     (p .0 ∙ sym (q .0), p .1 .0 ∙ sym (q .1 .0), p .1 .1 .0 ∙ sym (q .1 .1 .0), p .1 .1 .1 ∙ sym (q .1 .1 .1))
 
--- number, line, both places, length and count
-pub lubdhvani-read-single : (κs : Lfts 8) (a : Dens κs read-kinds.ps) (r r′ : ℕ)
-    (x x′ : AtExit (endedOf 8 read-kinds.ps read-kinds.r) κs)
+-- the reading, and the line
+pub lubdhvani-read-single : (κs : Lfts 4) (a : Dens κs read-kinds.ps) (r r′ : Reading)
+    (x x′ : AtExit (endedOf 4 read-kinds.ps read-kinds.r) κs)
     → read-reads.Post κs a r x → read-reads.Post κs a r′ x′
-    → (r ≡ r′) × (x .1 .1 .1 .1 .0 .now ≡ x′ .1 .1 .1 .1 .0 .now) × (x .1 .1 .1 .1 .1 .0 .now ≡ x′ .1 .1 .1 .1 .1 .0 .now) × (x .1 .1 .1 .1 .1 .1 .0 .now ≡ x′ .1 .1 .1 .1 .1 .1 .0 .now) × (x .1 .1 .1 .1 .1 .1 .1 .0 .now ≡ x′ .1 .1 .1 .1 .1 .1 .1 .0 .now)
-    × (x .1 .1 .1 .1 .1 .1 .1 .1 .0 .now ≡ x′ .1 .1 .1 .1 .1 .1 .1 .1 .0 .now)
-lubdhvani-read-single κs a r r′ x x′ p q = (
-  p .0 ∙ sym (q .0),
-  p .1 .0 ∙ sym (q .1 .0),
-  p .1 .1 .0 .0 ∙ sym (q .1 .1 .0 .0),
-  p .1 .1 .0 .1 ∙ sym (q .1 .1 .0 .1),
-  p .1 .1 .1 .0 ∙ sym (q .1 .1 .1 .0),
-  p .1 .1 .1 .1 ∙ sym (q .1 .1 .1 .1),
-)
+    → (r ≡ r′) × (x .1 .1 .1 .1 .1 .0 .now ≡ x′ .1 .1 .1 .1 .1 .0 .now)
+lubdhvani-read-single κs a r r′ x x′ p q = (p .0 ∙ sym (q .0), p .1 ∙ sym (q .1))

@@ -1,6 +1,6 @@
 // The C interface: each proved call under its C name, thin. include/lubdhvani.h is its manual; numbers are document 01's, and
-// counts, lengths and places go out through references to numbers. The promises cite specs/Calls.antt for the permutation, and for the
-// other calls the definitions of the calls below.
+// counts, lengths and places go out through references to numbers, those of a reading in a struct. The promises cite specs/Calls.antt for the
+// permutation, specs/Readings.antt for a reading, and for the other calls the definitions of the calls below.
 ghost use mathlib.Core.Path.{_≡_};
 ghost use lib.ListN.{length, replicate};
 ghost use Rattle.lists.specs.Buffers.{copied};
@@ -14,9 +14,9 @@ ghost use Rattle.frame.specs.Answers.{writeCall};
 ghost use Rattle.frame.specs.Answers as writing;
 ghost use Rattle.framing.specs.Told.{told};
 ghost use Rattle.reader.specs.Answers.{readAnswer, readOut};
-ghost use Rattle.reader.specs.Answers as reading;
 ghost use Rattle.stream.specs.Stretches.{nextSpan};
 ghost use Rattle.lubdhvani.specs.Calls.{permuteNumber, permuteState};
+ghost use Rattle.lubdhvani.specs.Readings.{askedOf, readingOut};
 use gage::Answer;
 use gage::LARGEST;
 use numbers::digest_count;
@@ -24,6 +24,7 @@ use numbers::digest_number;
 use numbers::open_count;
 use numbers::open_number;
 use numbers::read_count;
+use numbers::read_given;
 use numbers::read_length;
 use numbers::read_number;
 use numbers::seal_count;
@@ -171,6 +172,23 @@ pub extern "C" fn lubdhvani_next_stretch(
     *closing = span.closing;
 }
 
+// What a reader is told anew at each call, as a C struct.
+#[repr(C)]
+pub struct Asked {
+    pub allowed: usize,
+}
+
+// What a reading comes to, as a C struct without padding.
+#[repr(C)]
+pub struct Reading {
+    pub first: usize,
+    pub closing: usize,
+    pub length: usize,
+    pub calls: usize,
+    pub number: u32,
+    pub given: u32,
+}
+
 // Judges the next stretch from a place, and gives out its line.
 #[no_mangle]
 pub extern "C" fn lubdhvani_read(
@@ -178,22 +196,23 @@ pub extern "C" fn lubdhvani_read(
     from: usize,
     key: &[u8],
     font: &[u8],
+    asked: Asked,
     line: &mut [u8],
-    first: &mut usize,
-    closing: &mut usize,
-    length: &mut usize,
-    calls: &mut usize,
-) -> u32
-    ensures { λ r. ⌜ r ≡ reading.numberOf (readAnswer (told (now (key .entry)) (now (font .entry))) (now (stream .entry)) from (now (line .entry)) .answer) ⌝ }
-    ensures { λ _. ⌜ now (line .exit) ≡ readOut (told (now (key .entry)) (now (font .entry))) (now (stream .entry)) from (now (line .entry)) ⌝ }
-    ensures { λ _. ⌜ (now (first .exit) ≡ readAnswer (told (now (key .entry)) (now (font .entry))) (now (stream .entry)) from (now (line .entry)) .first) × (now (closing .exit) ≡ readAnswer (told (now (key .entry)) (now (font .entry))) (now (stream .entry)) from (now (line .entry)) .closing) ⌝ }
-    ensures { λ _. ⌜ (now (length .exit) ≡ reading.lengthOf (readAnswer (told (now (key .entry)) (now (font .entry))) (now (stream .entry)) from (now (line .entry)) .answer)) × (now (calls .exit) ≡ reading.callsOf (readAnswer (told (now (key .entry)) (now (font .entry))) (now (stream .entry)) from (now (line .entry)) .answer)) ⌝ }
+) -> Reading
+    ensures { λ r. ⌜ r ≡ readingOut (readAnswer (told (now (key .entry)) (now (font .entry))) (askedOf asked) (now (stream .entry)) from (now (line .entry))) ⌝ }
+    ensures { λ _. ⌜ now (line .exit) ≡ readOut (told (now (key .entry)) (now (font .entry))) (askedOf asked) (now (stream .entry)) from (now (line .entry)) ⌝ }
 {
-    let reading = reader::read(stream, from, key, font, line);
-    *first = reading.first;
-    *closing = reading.closing;
+    let told_anew = reader::Asked {
+        allowed: asked.allowed,
+    };
+    let reading = reader::read(stream, from, key, font, told_anew, line);
     let answer = reading.answer;
-    *length = read_length(answer);
-    *calls = read_count(answer);
-    read_number(answer)
+    Reading {
+        first: reading.first,
+        closing: reading.closing,
+        length: read_length(answer),
+        calls: read_count(answer),
+        number: read_number(answer),
+        given: read_given(answer),
+    }
 }

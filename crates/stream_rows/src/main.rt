@@ -5,6 +5,7 @@
 use libc::STDIN_FILENO;
 use libc::STDOUT_FILENO;
 use reader::Answer;
+use reader::Asked;
 use reader::LONGEST_STREAM;
 use walker::Step;
 ghost use mathlib.Core.Path.{_≡_};
@@ -15,7 +16,7 @@ ghost use lib.ListN.{length};
 const MOST_CASES: usize = 10000;
 
 // The head of a case has so many numbers and bytes; and the longest name, stream, line buffer, key and font digest that a case has.
-const NUMBERS: usize = 9;
+const NUMBERS: usize = 10;
 
 const HEAD: usize = 4 * NUMBERS;
 
@@ -33,7 +34,7 @@ const LONGEST_FONT: usize = 33;
 const MOST_TURNS: usize = LONGEST_CASE + 1;
 
 // The lengths of name, stream, its first and its last bytes, the byte between them, the place to read from, and the lengths of line
-// buffer, key and font digest.
+// buffer, key and font digest, and the work allowed.
 struct Case {
     name: usize,
     length: usize,
@@ -44,6 +45,7 @@ struct Case {
     line: usize,
     key: usize,
     font: usize,
+    allowed: usize,
 }
 
 fn say(text: &[u8]) {
@@ -84,8 +86,16 @@ fn part(stream: &[u8], from: usize) {
 }
 
 // One step of a walker and its row.
-fn row(name: &[u8], stream: &[u8], from: usize, key: &[u8], font: &[u8], line: &mut [u8]) -> Step {
-    let step = walker::walked(stream, from, key, font, line);
+fn row(
+    name: &[u8],
+    stream: &[u8],
+    from: usize,
+    key: &[u8],
+    font: &[u8],
+    asked: Asked,
+    line: &mut [u8],
+) -> Step {
+    let step = walker::walked(stream, from, key, font, asked, line);
     let reading = step.reading;
     let answer = reading.answer;
     say(name);
@@ -103,11 +113,19 @@ fn row(name: &[u8], stream: &[u8], from: usize, key: &[u8], font: &[u8], line: &
 
 // All readings of a case, each from where the walker stands after the one before. The two places of a stretch differ; those of the end, and
 // of a call that is refused, do not: nothing is read after these.
-fn case_rows(name: &[u8], stream: &[u8], place: usize, key: &[u8], font: &[u8], line: &mut [u8]) {
+fn case_rows(
+    name: &[u8],
+    stream: &[u8],
+    place: usize,
+    key: &[u8],
+    font: &[u8],
+    asked: Asked,
+    line: &mut [u8],
+) {
     let mut from = place;
     let mut turns = MOST_TURNS;
     while turns > 0 {
-        let step = row(name, stream, from, key, font, line);
+        let step = row(name, stream, from, key, font, asked, line);
         let reading = step.reading;
         from = step.at;
         if reading.first < from {
@@ -143,6 +161,7 @@ fn told_rows(c: Case, name: &[u8], stream: &[u8]) {
         c.place,
         &key[0..k],
         &font[0..f],
+        Asked { allowed: c.allowed },
         &mut line[0..l],
     );
 }
@@ -195,6 +214,7 @@ fn case_of(h: [u8; HEAD]) -> Case {
         line: number_in(h, 6),
         key: number_in(h, 7),
         font: number_in(h, 8),
+        allowed: number_in(h, 9),
     }
 }
 

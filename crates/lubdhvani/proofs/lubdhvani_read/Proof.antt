@@ -1,7 +1,5 @@
 -- `lubdhvani_read` meets its promise: the reader's answer, read off as number, places, length and count. Assumes nothing.
-use Rattle.reader.specs.Answers as reading
-use Rattle.reader.specs.declared.Reading.{Reading}
-use mathlib.Core.Path.{_∙_, ap}
+use Rattle.lubdhvani.specs.Readings.{read-off}
 use borrow.Author.Needs.{needs}
 use Rattle.lubdhvani.proofs.lubdhvani_read.Statement.{statement}
 use Rattle.lubdhvani.proofs.lubdhvani_read.Tie as tie
@@ -18,21 +16,16 @@ read-count-requires c κs = search needs
 read-number-requires : tie.Need-read-number-requires
 read-number-requires c κs = search needs
 
+read-given-requires : tie.Need-read-given-requires
+read-given-requires c κs = search needs
+
 same-length : tie.Need-same-length
 same-length c = search needs
 
 returns : tie.Need-returns
 returns c =
-    let done = c .before .before .before .before .before .read .ensures in (
-      c .read-number .ensures ∙ ap (λ (r : Reading). reading.numberOf (r .answer)) (done .0),
-      (
-        done .1,
-        (
-          (ap (λ (r : Reading). r .first) (done .0), ap (λ (r : Reading). r .closing) (done .0)),
-          (c .before .before .read-length .ensures ∙ ap (λ (r : Reading). reading.lengthOf (r .answer)) (done .0), c .before .read-count .ensures ∙ ap (λ (r : Reading). reading.callsOf (r .answer)) (done .0)),
-        ),
-      ),
-    )
+    let done = c .before .before .before .before .before .before .read .ensures in
+    (read-off (done .0) (c .before .before .before .read-length .ensures) (c .before .before .read-count .ensures) (c .before .read-number .ensures) (c .read-given .ensures), done .1)
 
 pub lubdhvani-read-spec : {M : Type 1} → statement M
 lubdhvani-read-spec =
@@ -42,5 +35,6 @@ lubdhvani-read-spec =
     read-length-requires
     read-count-requires
     read-number-requires
+    read-given-requires
     same-length
     returns)

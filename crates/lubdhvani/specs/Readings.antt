@@ -1,0 +1,28 @@
+-- What the C call of the reader takes and gives as structs: what is told anew, and a reading with its number, places, length and count.
+-- Assumes nothing.
+use mathlib.Core.Path.{_≡_, ap}
+use Prim.Native.Nat.{ℕ}
+use Rattle.reader.specs.Answers.{numberOf, lengthOf, callsOf, givenOf}
+use Rattle.reader.specs.declared.Asked as told-anew
+use Rattle.reader.specs.declared.Reading as reading
+use Rattle.lubdhvani.specs.declared.Asked.{Asked}
+use Rattle.lubdhvani.specs.declared.Reading.{Reading}
+
+abbrev pub askedOf : Asked → told-anew.Asked
+askedOf a = record { allowed = a .allowed }
+
+abbrev pub readingOut : reading.Reading → Reading
+readingOut r = record {
+  first = r .first;
+  closing = r .closing;
+  length = lengthOf (r .answer);
+  calls = callsOf (r .answer);
+  number = numberOf (r .answer);
+  given = givenOf (r .answer);
+}
+
+-- a reading read off field by field
+pub read-off : {q r : reading.Reading} {l c n g : ℕ} → q ≡ r → l ≡ lengthOf (q .answer) → c ≡ callsOf (q .answer) → n ≡ numberOf (q .answer)
+    → g ≡ givenOf (q .answer)
+    → record { first = q .first; closing = q .closing; length = l; calls = c; number = n; given = g } ≡ readingOut r
+read-off e el ec en eg = rw (el, ec, en, eg) (ap readingOut e)
