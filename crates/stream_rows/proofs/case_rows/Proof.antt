@@ -6,10 +6,10 @@ use Rattle.stream_rows.proofs.case_rows.Statement.{statement}
 use Rattle.stream_rows.proofs.case_rows.Tie as tie
 
 abbrev Inv-loop : tie.InvT-loop
-Inv-loop name stream place key font line₀ from₀ turns₀ line from turns = length line ≡ length line₀
+Inv-loop name stream place key font asked line₀ from₀ turns₀ line from turns = length line ≡ length line₀
 
 abbrev μ-loop : tie.MeasureT-loop
-μ-loop name stream place key font line₀ from₀ turns₀ line from turns = turns
+μ-loop name stream place key font asked line₀ from₀ turns₀ line from turns = turns
 
 loop-holds : tie.Need-loop-holds Inv-loop μ-loop
 loop-holds c = search needs
