@@ -9,10 +9,11 @@ use lib.ListN.{length, getD, take, drop, length-drop}
 use lib.Seq.{length-take-le}
 use borrow.Author.Tests.{eq-eqb, ne-eqb, leb-true, leb-false}
 use Rattle.lists.specs.Walk.{at}
-use Rattle.body.specs.Fields.{headLength, highByte, takes, value, no-field, front}
+use Rattle.fields.specs.Fields.{headLength, highByte, value, no-field, front}
+use Rattle.body.specs.Fields.{takes}
 use Rattle.body.specs.Answers.{Ends, Found}
 
-short-front : (tag : ℕ) (s : List ℕ) → length s < headLength → front tag s ≡ no-field
+short-front : (tag : ℕ) (s : List ℕ) → length s < headLength → front takes tag s ≡ no-field
 unfolding front
 short-front tag [] h = refl
 short-front tag (t ∷ []) h = refl
@@ -25,7 +26,7 @@ on b i j e h = rw e (at b i h)
 
 module _ (b : List ℕ) (tag at : ℕ) where
   -- no field: the place past the end
-  past : front tag (drop at b) ≡ no-field → Found b tag at (length b + 1)
+  past : front takes tag (drop at b) ≡ no-field → Found b tag at (length b + 1)
   past e = record { ends = rw e (omega arith); near = omega arith }
 
   -- fewer bytes than a tag and a length

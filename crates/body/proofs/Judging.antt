@@ -1,76 +1,54 @@
 -- A body judged field by field, as `judge_body` goes from place to place. Assumes nothing.
 use mathlib.Core.Path.{_≡_, refl, ap, _∙_}
-use mathlib.Core.Bool.{Bool, true, false, cond}
 use mathlib.Core.Logic.{_⊎_, inl, inr, ⊎-elim}
-use mathlib.Core.List.{List, [], _∷_}
-use Prim.Native.Nat.{ℕ, _+_, _-_, _*_, _≤_}
+use mathlib.Core.List.{List}
+use Prim.Native.Nat.{ℕ, _+_, _-_, _≤_}
 use native.Mathlib.Omega.{arith}
-use lib.Dec.{eqb, leb}
-use lib.ListN.{length, take, drop, length-drop, drop-of-length-le}
-use lib.Seq.{drop-cons, drop-drop, length-take-le}
-use borrow.Author.Tests.{leb-true}
+use lib.ListN.{length, drop, length-drop, drop-of-length-le}
+use lib.Seq.{drop-cons, drop-drop}
 use Rattle.body.specs.declared.Judged.the-variants.{Fields, Shape}
-use Rattle.body.specs.Fields.{nonceTag, digestTag, cipherTag, sealTag, headLength, highByte, takes, Front, value, no-field, front, next, afterNonce, afterDigest, afterCipher, afterSeal, fieldsOf}
+use Rattle.fields.specs.Fields.{headLength, Front, value, no-field, front}
+use Rattle.fields.specs.Laws.{front-stands}
+use Rattle.body.specs.Fields.{nonceTag, digestTag, cipherTag, sealTag, takes, next, afterNonce, afterDigest, afterCipher, afterSeal, fieldsOf}
 use Rattle.body.specs.Answers.{Ends, Found, judged}
-
--- what is behind a field of some bytes
-abbrev Rests : List ℕ → Front → Type 0
-Rests s (value v r) = (r ≡ drop (headLength + length v) s) × (headLength + length v ≤ length s)
-Rests s no-field = Unit {0}
-
-rests : (tag : ℕ) (s : List ℕ) → Rests s (front tag s)
-unfolding front
-rests tag [] = tt
-rests tag (t ∷ []) = tt
-rests tag (t ∷ high ∷ []) = tt
-rests tag (t ∷ high ∷ low ∷ s) = by-tests (eqb t tag) (takes t (high * highByte + low)) (high * highByte + low) (leb (high * highByte + low) (length s)) refl
-  where
-    by-tests : (x y : Bool) (n : ℕ) (z : Bool) → leb n (length s) ≡ z
-        → Rests (t ∷ high ∷ low ∷ s) (cond x (cond y (cond z (value (take n s) (drop n s)) no-field) no-field) no-field)
-    by-tests true true n true p =
-        let l : length (take n s) ≡ n = length-take-le n s (leb-true n (length s) p) in
-        (rw l (drop-drop n headLength (t ∷ high ∷ low ∷ s)), omega (arith, leb-true n (length s) p))
-    by-tests true true n false p = tt
-    by-tests true false n z p = tt
-    by-tests false y n z p = tt
 
 -- a field found at a place: its value, and the place behind it
 pub record Step (tag : ℕ) (b : List ℕ) (at p : ℕ) : Type 0 where
   pub v : List ℕ
-  pub is : front tag (drop at b) ≡ value v (drop p b)
+  pub is : front takes tag (drop at b) ≡ value v (drop p b)
   pub place : p ≡ at + headLength + length v
   pub inside : p ≤ length b
 
 -- a field that is there
-stepped : {tag at p : ℕ} {b v s : List ℕ} → front tag (drop at b) ≡ value v s → p ≡ at + headLength + length v → Step tag b at p
+stepped : {tag at p : ℕ} {b v s : List ℕ} → front takes tag (drop at b) ≡ value v s → p ≡ at + headLength + length v → Step tag b at p
 stepped {tag} {at} {p} {b} {v} {s} q e =
-    let k = rw q at (rests tag (drop at b)) in
+    let k = front-stands takes tag (drop at b) v s q in
     let there : at + (headLength + length v) ≡ p = omega arith in
     record {
       v = v;
-      is = q ∙ ap (value v) (k .0 ∙ drop-drop (headLength + length v) at b ∙ ap (λ (m : ℕ). drop m b) there);
+      is = q ∙ ap (value v) (k .1 ∙ drop-drop (headLength + length v) at b ∙ ap (λ (m : ℕ). drop m b) there);
       place = e;
-      inside = omega (arith, k .1, length-drop at b);
+      inside = omega (arith, k .2, length-drop at b);
     }
 
 -- there is no field, or one that ends at the place told
-look : {tag at p : ℕ} {b : List ℕ} → Found b tag at p → (front tag (drop at b) ≡ no-field) ⊎ Step tag b at p
-look {tag} {at} {p} {b} f = cases (front tag (drop at b)) refl (f .ends)
+look : {tag at p : ℕ} {b : List ℕ} → Found b tag at p → (front takes tag (drop at b) ≡ no-field) ⊎ Step tag b at p
+look {tag} {at} {p} {b} f = cases (front takes tag (drop at b)) refl (f .ends)
   where
-    cases : (x : Front) → front tag (drop at b) ≡ x → Ends (length b) at p x → (front tag (drop at b) ≡ no-field) ⊎ Step tag b at p
+    cases : (x : Front) → front takes tag (drop at b) ≡ x → Ends (length b) at p x → (front takes tag (drop at b) ≡ no-field) ⊎ Step tag b at p
     cases no-field q e = inl q
     cases (value v s) q e = inr (stepped q e)
 
 -- a place within the bytes is behind a field
 within : {tag at p : ℕ} {b : List ℕ} → Found b tag at p → p ≤ length b → Step tag b at p
-within {tag} {at} {p} {b} f h = cases (front tag (drop at b)) refl (f .ends)
+within {tag} {at} {p} {b} f h = cases (front takes tag (drop at b)) refl (f .ends)
   where
-    cases : (x : Front) → front tag (drop at b) ≡ x → Ends (length b) at p x → Step tag b at p
+    cases : (x : Front) → front takes tag (drop at b) ≡ x → Ends (length b) at p x → Step tag b at p
     cases no-field q e = absurd (omega (arith, e, h))
     cases (value v s) q e = stepped q e
 
 -- the fields one behind the other: where one is missing, the bytes are no body
-no-nonce : (b : List ℕ) → front nonceTag b ≡ no-field → Shape ≡ judged (fieldsOf b)
+no-nonce : (b : List ℕ) → front takes nonceTag b ≡ no-field → Shape ≡ judged (fieldsOf b)
 unfolding fieldsOf
 no-nonce b e = rw e
 
@@ -79,7 +57,7 @@ module _ {b : List ℕ} {p₁ : ℕ} (s₁ : Step nonceTag b 0 p₁) where
   unfolding fieldsOf
   past-nonce = ap (λ (f : Front). next f afterNonce) (s₁ .is)
 
-  no-digest : front digestTag (drop p₁ b) ≡ no-field → Shape ≡ judged (fieldsOf b)
+  no-digest : front takes digestTag (drop p₁ b) ≡ no-field → Shape ≡ judged (fieldsOf b)
   unfolding afterNonce
   no-digest e = rw (past-nonce, e)
 
@@ -88,7 +66,7 @@ module _ {b : List ℕ} {p₁ : ℕ} (s₁ : Step nonceTag b 0 p₁) where
     unfolding afterNonce
     past-digest = past-nonce ∙ ap (λ (f : Front). next f (afterDigest (s₁ .v))) (s₂ .is)
 
-    no-cipher : front cipherTag (drop p₂ b) ≡ no-field → Shape ≡ judged (fieldsOf b)
+    no-cipher : front takes cipherTag (drop p₂ b) ≡ no-field → Shape ≡ judged (fieldsOf b)
     unfolding afterDigest
     no-cipher e = rw (past-digest, e)
 
@@ -97,7 +75,7 @@ module _ {b : List ℕ} {p₁ : ℕ} (s₁ : Step nonceTag b 0 p₁) where
       unfolding afterDigest
       past-cipher = past-digest ∙ ap (λ (f : Front). next f (afterCipher (s₁ .v) (s₂ .v))) (s₃ .is)
 
-      no-seal : front sealTag (drop p₃ b) ≡ no-field → Shape ≡ judged (fieldsOf b)
+      no-seal : front takes sealTag (drop p₃ b) ≡ no-field → Shape ≡ judged (fieldsOf b)
       unfolding afterCipher
       no-seal e = rw (past-cipher, e)
 

@@ -5,7 +5,8 @@ use mathlib.Core.Path.{_≡_}
 use lib.ListN.{length, drop}
 use Rattle.body.specs.declared.Judged.{Judged}
 use Rattle.body.specs.declared.Judged.the-variants as judged-is
-use Rattle.body.specs.Fields.{Front, value, no-field, front, Fields, fields, no-body, headLength, highByte}
+use Rattle.fields.specs.Fields.{Front, value, no-field, front, headLength, highByte}
+use Rattle.body.specs.Fields.{takes, Fields, fields, no-body}
 
 -- a place told for the field looked for at a place of n bytes: it is behind the field, or past the end of the bytes for no field
 abbrev pub Ends : ℕ → ℕ → ℕ → Front → Type 0
@@ -14,7 +15,7 @@ Ends n at r no-field = n < r
 
 -- the place r told for the field with this tag at a place of b; it is never farther off than the longest value that can be written
 pub record Found (b : List ℕ) (tag at r : ℕ) : Type 0 where
-  pub ends : Ends (length b) at r (front tag (drop at b))
+  pub ends : Ends (length b) at r (front takes tag (drop at b))
   pub near : r ≤ length b + highByte * highByte
 
 -- what bytes are as a body, told: the length of the line ciphertext fixes every place

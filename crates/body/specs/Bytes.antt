@@ -4,12 +4,10 @@ use Prim.Native.Nat.{ℕ, _*_, _<_}
 use native.Mathlib.Omega.{arith}
 use lib.ListN.{length}
 use Rattle.lists.specs.Below.{Below, below-append}
-use Rattle.body.specs.Fields.{nonceTag, digestTag, cipherTag, sealTag, highByte, field, body, associated}
+use Rattle.fields.specs.Fields.{highByte, field}
+use Rattle.fields.specs.Laws.{field-below}
+use Rattle.body.specs.Fields.{nonceTag, digestTag, cipherTag, sealTag, body, associated}
 use Rattle.body.specs.Lengths.{Sized}
-
-pub field-below : (tag : ℕ) (v : List ℕ) → tag < 256 → length v < highByte * highByte → Below 256 v → Below 256 (field tag v)
-unfolding field
-field-below tag v t l b = (t, (omega arith, (omega arith, b)))
 
 pub associated-below : (digest : List ℕ) → length digest < highByte * highByte → Below 256 digest → Below 256 (associated digest)
 unfolding associated

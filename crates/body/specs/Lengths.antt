@@ -1,4 +1,4 @@
--- How long fields and bodies are (document 01, 'A frame and a stream'), and what the tags' rules take. Assumes nothing.
+-- How long bodies are (document 01, 'A frame and a stream'), and what the tags' rules take. Assumes nothing.
 use mathlib.Core.Path.{_≡_, refl}
 use mathlib.Core.Bool.{Bool, true, false, cond}
 use mathlib.Core.List.{List}
@@ -9,7 +9,8 @@ use lib.ListN.{length, length-append}
 use borrow.Author.Tests.{eq-eqb, le-leb, eqb-true, leb-true}
 use Rattle.lists.specs.Never.{never}
 use Rattle.line.specs.Lines.{longest}
-use Rattle.body.specs.Fields.{nonceTag, digestTag, cipherTag, sealTag, nonceLength, digestLength, shortest, sealLength, headLength, field, body, associated, takes}
+use Rattle.fields.specs.Laws.{length-field}
+use Rattle.body.specs.Fields.{nonceTag, digestTag, cipherTag, sealTag, nonceLength, digestLength, shortest, sealLength, field, body, associated, takes}
 
 -- the associated data has 35 bytes (document 01)
 abbrev pub associatedLength : ℕ
@@ -32,10 +33,6 @@ pub record Sized (nonce digest cipher seal : List ℕ) : Type 0 where
   pub cipher-from : shortest ≤ length cipher
   pub cipher-to : length cipher ≤ longest
   pub seal-is : length seal ≡ sealLength
-
-pub length-field : (tag : ℕ) (v : List ℕ) → length (field tag v) ≡ headLength + length v
-unfolding field
-length-field tag v = omega arith
 
 pub length-associated : (digest : List ℕ) → length digest ≡ digestLength → length (associated digest) ≡ associatedLength
 unfolding associated

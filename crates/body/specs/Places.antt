@@ -5,8 +5,9 @@ use Prim.Native.Nat.{ℕ, _+_}
 use native.Mathlib.Omega.{arith}
 use lib.ListN.{length, take, drop, length-append}
 use lib.Seq.{take-at, drop-at, drop-append-add}
+use Rattle.fields.specs.Laws.{length-field}
 use Rattle.body.specs.Fields.{nonceTag, digestTag, cipherTag, sealTag, nonceLength, digestLength, sealLength, headLength, field, body, associated}
-use Rattle.body.specs.Lengths.{Sized, associatedLength, length-field, length-associated}
+use Rattle.body.specs.Lengths.{Sized, associatedLength, length-associated}
 
 -- the nonce
 abbrev pub nonceAt : ℕ

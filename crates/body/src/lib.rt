@@ -27,10 +27,10 @@ pub const LONGEST_LINE: usize = line::LONGEST;
 pub const SEAL_LENGTH: usize = 16;
 
 // What stands before a value: a tag of one byte and a length of two.
-pub const HEAD_LENGTH: usize = 3;
+pub const HEAD_LENGTH: usize = fields::HEAD_LENGTH;
 
 // What one in the high byte of a length counts.
-pub const HIGH_BYTE: usize = 256;
+pub const HIGH_BYTE: usize = fields::HIGH_BYTE;
 
 // Where in a body the nonce stands, field 02 as a whole, the font digest and the line ciphertext.
 pub const NONCE_AT: usize = HEAD_LENGTH;

@@ -1,21 +1,15 @@
 // Bodies and associated data written (document 01, 'A frame and a stream'): fields laid one behind the other into a lent buffer.
-// The promises cite specs/Answers.antt; what a field is stands in body.
+// The promises cite specs/Answers.antt; what a field is stands in fields.
 ghost use mathlib.Core.Path.{_≡_};
-ghost use Prim.Native.Nat.{_+_, _*_, _≤_, _<_};
-ghost use lib.ListN.{length};
-ghost use lib.Seq.{sets};
-ghost use Rattle.body.specs.Fields.{highByte, field};
 ghost use Rattle.putting.specs.Answers.{fitting, putAnswer, putOut, associatedAnswer, associatedOut};
 use body::ASSOCIATED_LENGTH;
 use body::BESIDE_CIPHER;
 use body::CIPHER_TAG;
 use body::DIGEST_TAG;
-use body::HEAD_LENGTH;
-use body::HIGH_BYTE;
 use body::NONCE_TAG;
 use body::SEAL_TAG;
 use body::rule_takes;
-use lists::copy;
+use fields::put_field;
 
 // What writing a body comes to.
 pub enum Put {
@@ -41,21 +35,6 @@ fn fit(nonce: &[u8], digest: &[u8], cipher: &[u8], seal: &[u8]) -> bool
         return false;
     }
     rule_takes(SEAL_TAG, seal.len())
-}
-
-// Writes the field at a place of out, which has room for it, and gives the place behind it.
-fn put_field(out: &mut [u8], at: usize, tag: u8, value: &[u8]) -> usize
-    requires { ⌜ at + length (field tag (now value)) ≤ length (now out) ⌝ }
-    requires { ⌜ length (now value) < highByte * highByte ⌝ }
-    ensures { λ r. ⌜ r ≡ at + length (field tag (now (value .entry))) ⌝ }
-    ensures { λ _. ⌜ now (out .exit) ≡ sets (now (out .entry)) at (field tag (now (value .entry))) ⌝ }
-{
-    out[at] = tag;
-    out[at + 1] = (value.len() / HIGH_BYTE) as u8;
-    out[at + 2] = (value.len() % HIGH_BYTE) as u8;
-    let start = at + HEAD_LENGTH;
-    copy(value, &mut out[start..]);
-    start + value.len()
 }
 
 // Writes the body with these values to the start of out; the rest of out stays. A refusal leaves out as it was.

@@ -4,10 +4,11 @@ use native.Mathlib.Omega.{arith}
 use lib.ListN.{length}
 use borrow.Author.Tests.{not-true, not-false}
 use borrow.Author.Needs.{needs}
-use Rattle.putting.proofs.Laying.{laid-none, laid-more, laid-room, associated-whole, room-associated}
+use Rattle.fields.specs.Laying.{laid-none, laid-field}
+use Rattle.putting.proofs.Laying.{associated-whole, room-associated}
 use Rattle.putting.specs.Outcomes.{associated-refused, associated-small}
 use Rattle.body.specs.Lengths.{digest-taken, length-associated}
-use Rattle.body.specs.Fields.{digestLength}
+use Rattle.body.specs.Fields.{digestTag, digestLength}
 use Rattle.putting.proofs.put_associated.Statement.{statement}
 use Rattle.putting.proofs.put_associated.Tie as tie
 
@@ -33,10 +34,7 @@ returns-2 c =
     (sym (told .0), sym (told .1))
 
 put-field-requires : tie.Need-put-field-requires
-put-field-requires c κs =
-    let s = start (c .before) in
-    let e = sized (c .before .before) in
-    (laid-room (laid-none _) (room-associated (s .args .digest .now) (s .args .out .now) e (omega arith)), omega (arith, e))
+put-field-requires c κs = search needs
 
 same-length : tie.Need-same-length
 same-length c = search needs
@@ -47,7 +45,7 @@ returns-3 c =
     let s = start (c .before .before .before .before) in
     let e = sized (c .before .before .before .before .before) in
     associated-whole (s .args .digest .now) e
-    (laid-more (laid-none _) (room-associated (s .args .digest .now) (s .args .out .now) e (omega arith)) (p .ensures .0) (p .ensures .1))
+    (laid-field digestTag _ (laid-none _) (room-associated (s .args .digest .now) (s .args .out .now) e (omega arith)) (omega (arith, e)) (p .ensures .0) (p .ensures .1))
 
 pub put-associated-spec : {M : Type 1} → statement M
 put-associated-spec =

@@ -6,10 +6,12 @@ use native.Mathlib.Omega.{arith}
 use borrow.Author.Tests.{not-true, not-false}
 use borrow.Author.Needs.{needs}
 use Rattle.putting.specs.Outcomes.{put-refused, put-small}
-use Rattle.putting.proofs.Laying.{Ready, Laid, laid-none, laid-more, laid-room, room-nonce, room-digest, room-cipher, room-seal, put-whole}
+use Rattle.fields.specs.Fields.{field}
+use Rattle.fields.specs.Laying.{Laid, laid-none, laid-field}
+use Rattle.putting.proofs.Laying.{Ready, room-nonce, room-digest, room-cipher, room-seal, put-whole}
 use Rattle.body.specs.Lengths.{Sized, length-body}
 use Rattle.putting.specs.Fitting.{fitting-sized}
-use Rattle.body.specs.Fields.{nonceTag, digestTag, cipherTag, sealTag, field}
+use Rattle.body.specs.Fields.{nonceTag, digestTag, cipherTag, sealTag}
 use Rattle.putting.proofs.put_body.Statement.{statement}
 use Rattle.putting.proofs.put_body.Tie as tie
 
@@ -57,22 +59,27 @@ ready c = record { sized = sized (c .before); room = omega arith }
 -- the fields written so far
 laid1 : (c : tie.After-put-field) →
     let s = start (from1 c) in Laid (s .args .out .now) (c .put-field .last .0) (first s) (c .put-field .result)
-laid1 c = laid-more (laid-none _) (room-nonce (ready (from1 c))) (c .put-field .ensures .0) (c .put-field .ensures .1)
+laid1 c =
+    let r = ready (from1 c) in
+    laid-field nonceTag _ (laid-none _) (room-nonce r) (omega (arith, r .sized)) (c .put-field .ensures .0) (c .put-field .ensures .1)
 
 laid2 : (c : tie.After-put-field2) →
     let s = start (from2 c) in Laid (s .args .out .now) (c .put-field2 .last .0) (second s) (c .put-field2 .result)
 laid2 c =
-    laid-more (laid1 (c .before .before .before .before)) (room-digest (ready (from2 c))) (c .put-field2 .ensures .0) (c .put-field2 .ensures .1)
+    let r = ready (from2 c) in
+    laid-field digestTag _ (laid1 (c .before .before .before .before)) (room-digest r) (omega (arith, r .sized)) (c .put-field2 .ensures .0) (c .put-field2 .ensures .1)
 
 laid3 : (c : tie.After-put-field3) →
     let s = start (from3 c) in Laid (s .args .out .now) (c .put-field3 .last .0) (third s) (c .put-field3 .result)
 laid3 c =
-    laid-more (laid2 (c .before .before .before .before)) (room-cipher (ready (from3 c))) (c .put-field3 .ensures .0) (c .put-field3 .ensures .1)
+    let r = ready (from3 c) in
+    laid-field cipherTag _ (laid2 (c .before .before .before .before)) (room-cipher r) (omega (arith, r .sized)) (c .put-field3 .ensures .0) (c .put-field3 .ensures .1)
 
 laid4 : (c : tie.After-put-field4) →
     let s = start (from4 c) in Laid (s .args .out .now) (c .put-field4 .last .0) (fourth s) (c .put-field4 .result)
 laid4 c =
-    laid-more (laid3 (c .before .before .before .before)) (room-seal (ready (from4 c))) (c .put-field4 .ensures .0) (c .put-field4 .ensures .1)
+    let r = ready (from4 c) in
+    laid-field sealTag _ (laid3 (c .before .before .before .before)) (room-seal r) (omega (arith, r .sized)) (c .put-field4 .ensures .0) (c .put-field4 .ensures .1)
 
 fit-requires : tie.Need-fit-requires
 fit-requires c κs = search needs
@@ -92,25 +99,16 @@ returns-2 c =
     (sym (told .0), sym (told .1))
 
 put-field-requires : tie.Need-put-field-requires
-put-field-requires c κs = let r = ready (c .before) in (laid-room (laid-none _) (room-nonce r), omega (arith, r .sized))
+put-field-requires c κs = search needs
 
 put-field-requires-2 : tie.Need-put-field-requires-2
-put-field-requires-2 c κs =
-    let d = c .before .before .before in
-    let r = ready (from1 d) in
-    (laid-room (laid1 d) (room-digest r), omega (arith, r .sized))
+put-field-requires-2 c κs = search needs
 
 put-field-requires-3 : tie.Need-put-field-requires-3
-put-field-requires-3 c κs =
-    let d = c .before .before .before in
-    let r = ready (from2 d) in
-    (laid-room (laid2 d) (room-cipher r), omega (arith, r .sized))
+put-field-requires-3 c κs = search needs
 
 put-field-requires-4 : tie.Need-put-field-requires-4
-put-field-requires-4 c κs =
-    let d = c .before .before .before in
-    let r = ready (from3 d) in
-    (laid-room (laid3 d) (room-seal r), omega (arith, r .sized))
+put-field-requires-4 c κs = search needs
 
 same-length : tie.Need-same-length
 same-length c = search needs

@@ -1,4 +1,4 @@
--- `put_field` meets its promise: three stores and a copy are the field's bytes stored one behind the other. Assumes nothing.
+-- `lay` meets its promise: three stores and a copy are the field's bytes stored one behind the other. Assumes nothing.
 use mathlib.Core.Path.{_≡_, ap, _∙_}
 use Prim.Native.Nat.{_+_, _-_}
 use native.Mathlib.Omega.{arith}
@@ -6,11 +6,11 @@ use lib.ListN.{length, length-set}
 use lib.Seq.{sets, length-sets}
 use borrow.Rule.Slice.PartMut.{putMid}
 use borrow.Author.Needs.{needs}
-use Rattle.body.specs.Fields.{field, headLength}
-use Rattle.putting.proofs.Laying.{headed, put-one}
-use Rattle.body.specs.Lengths.{length-field}
-use Rattle.putting.proofs.put_field.Statement.{statement}
-use Rattle.putting.proofs.put_field.Tie as tie
+use Rattle.fields.specs.Fields.{field, headLength}
+use Rattle.fields.proofs.Storing.{headed, put-one}
+use Rattle.fields.specs.Laws.{length-field}
+use Rattle.fields.proofs.lay.Statement.{statement}
+use Rattle.fields.proofs.lay.Tie as tie
 
 -- a field's bytes are its head and its value
 abbrev Whole : tie.Start → Type 0
@@ -72,8 +72,8 @@ same-length c = ap length (put (c .before .before)) ∙ simp length-sets
 returns : tie.Need-returns
 returns c = (omega (arith, whole (c .before .before .before .before .before .before)), put (c .before .before))
 
-pub put-field-spec : {M : Type 1} → statement M
-put-field-spec =
+pub lay-spec : {M : Type 1} → statement M
+lay-spec =
     tie.close
     (tie.spec
     slice-write-out

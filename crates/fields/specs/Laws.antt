@@ -1,0 +1,129 @@
+-- How long a field is, that it is bytes, and that a field is found exactly where it was put. Assumes nothing.
+use mathlib.Core.Path.{_≡_, refl, sym, ap, _∙_}
+use mathlib.Core.Bool.{Bool, true, false, cond}
+use mathlib.Core.List.{List, [], _∷_, _++_}
+use Prim.Native.Nat.{ℕ, _+_, _*_, _/_, _%_, _≤_, _<_}
+use native.Mathlib.Nat.{div-add-mod'}
+use native.Mathlib.Omega.{arith}
+use lib.Dec.{eqb, leb}
+use lib.ListN.{length, take, drop, length-append, take-append-drop}
+use lib.Seq.{take-append-seam, drop-append-seam, drop-drop, length-take-le, sets}
+use borrow.Author.Tests.{eq-eqb, le-leb, lt-leb, le-ltb, lt-ltb, eqb-true, leb-true}
+use Rattle.lists.specs.Below.{Below}
+use Rattle.fields.specs.Fields.{headLength, highByte, field, Front, value, no-field, valueOf, front, fieldEnd, fieldOut}
+
+pub length-field : (tag : ℕ) (v : List ℕ) → length (field tag v) ≡ headLength + length v
+unfolding field
+length-field tag v = omega arith
+
+pub field-below : (tag : ℕ) (v : List ℕ) → tag < 256 → length v < highByte * highByte → Below 256 v → Below 256 (field tag v)
+unfolding field
+field-below tag v t l b = (t, (omega arith, (omega arith, b)))
+
+module _ (takes : ℕ → ℕ → Bool) where
+  -- a field that stands first is found
+  pub front-field : (tag : ℕ) (v s : List ℕ) → takes tag (length v) ≡ true → front takes tag (field tag v ++ s) ≡ value v s
+  unfolding front field
+  front-field tag v s h =
+      rw (
+        eq-eqb tag tag refl,
+        div-add-mod' (length v) highByte,
+        h,
+        le-leb (length v) (length (v ++ s)) (omega (arith, length-append v s)),
+        take-append-seam v s,
+        drop-append-seam v s,
+      )
+
+  -- and one of a length that the rule does not take is not
+  pub front-other : (tag : ℕ) (v s : List ℕ) → takes tag (length v) ≡ false → front takes tag (field tag v ++ s) ≡ no-field
+  unfolding front field
+  front-other tag v s h = rw (eq-eqb tag tag refl, div-add-mod' (length v) highByte, h)
+
+  -- what one value of Front says of the bytes
+  abbrev Says : ℕ → List ℕ → Front → Type 0
+  Says tag b (value v s) = (b ≡ field tag v ++ s) × (takes tag (length v) ≡ true)
+  Says tag b no-field = Unit {0}
+
+  value-says : (tag high low : ℕ) (s : List ℕ) → high < highByte → low < highByte → takes tag (high * highByte + low) ≡ true
+      → Says tag (tag ∷ high ∷ low ∷ s) (valueOf (high * highByte + low) s)
+  unfolding field
+  value-says tag high low s hh hl r = go (high * highByte + low) refl r (leb (high * highByte + low) (length s)) refl
+    where
+      go : (n : ℕ) → n ≡ high * highByte + low → takes tag n ≡ true → (t : Bool) → leb n (length s) ≡ t
+          → Says tag (tag ∷ high ∷ low ∷ s) (cond t (value (take n s) (drop n s)) no-field)
+      go n e r true p =
+          let l : length (take n s) ≡ n = length-take-le n s (leb-true n (length s) p) in
+          let h : n / highByte ≡ high = omega arith in
+          let m : n % highByte ≡ low = omega arith in
+          (rw (l, h, m, take-append-drop n s), rw l r)
+      go n e r false p = tt
+
+  -- bytes in which a field is found are this field and what is behind it
+  front-says : (tag : ℕ) (b : List ℕ) → Below 256 b → Says tag b (front takes tag b)
+  unfolding front
+  front-says tag [] h = tt
+  front-says tag (t ∷ []) h = tt
+  front-says tag (t ∷ high ∷ []) h = tt
+  front-says tag (t ∷ high ∷ low ∷ s) h = by-tag (eqb t tag) refl
+    where
+      by-rule : t ≡ tag → (u : Bool) → takes t (high * highByte + low) ≡ u
+          → Says tag (t ∷ high ∷ low ∷ s) (cond u (valueOf (high * highByte + low) s) no-field)
+      by-rule e true p = rw e (value-says tag high low s (h .1 .0) (h .1 .1 .0) (rw e at p))
+      by-rule e false p = tt
+
+      by-tag : (u : Bool) → eqb t tag ≡ u
+          → Says tag (t ∷ high ∷ low ∷ s) (cond u (cond (takes t (high * highByte + low)) (valueOf (high * highByte + low) s) no-field) no-field)
+      by-tag true p = by-rule (eqb-true t tag p) (takes t (high * highByte + low)) refl
+      by-tag false p = tt
+
+  pub front-value : (tag : ℕ) (b v s : List ℕ) → Below 256 b → front takes tag b ≡ value v s
+      → (b ≡ field tag v ++ s) × (takes tag (length v) ≡ true)
+  front-value tag b v s h e = rw e at (front-says tag b h)
+
+  -- where a field's value stands, and what is behind the field
+  abbrev Stands : List ℕ → Front → Type 0
+  Stands s (value v r) = (v ≡ take (length v) (drop headLength s)) × (r ≡ drop (headLength + length v) s) × (headLength + length v ≤ length s)
+  Stands s no-field = Unit {0}
+
+  stands : (tag : ℕ) (s : List ℕ) → Stands s (front takes tag s)
+  unfolding front
+  stands tag [] = tt
+  stands tag (t ∷ []) = tt
+  stands tag (t ∷ high ∷ []) = tt
+  stands tag (t ∷ high ∷ low ∷ s) =
+      by-tests (eqb t tag) (takes t (high * highByte + low)) (high * highByte + low) (leb (high * highByte + low) (length s)) refl
+    where
+      by-tests : (x y : Bool) (n : ℕ) (z : Bool) → leb n (length s) ≡ z
+          → Stands (t ∷ high ∷ low ∷ s) (cond x (cond y (cond z (value (take n s) (drop n s)) no-field) no-field) no-field)
+      by-tests true true n true p =
+          let l : length (take n s) ≡ n = length-take-le n s (leb-true n (length s) p) in
+          (rw l, rw l (drop-drop n headLength (t ∷ high ∷ low ∷ s)), omega (arith, leb-true n (length s) p))
+      by-tests true true n false p = tt
+      by-tests true false n z p = tt
+      by-tests false y n z p = tt
+
+  pub front-stands : (tag : ℕ) (s v r : List ℕ) → front takes tag s ≡ value v r
+      → (v ≡ take (length v) (drop headLength s)) × (r ≡ drop (headLength + length v) s) × (headLength + length v ≤ length s)
+  front-stands tag s v r e = rw e at (stands tag s)
+
+-- a field that has room is written
+pub put-fits : (o : List ℕ) (at tag : ℕ) (v : List ℕ) → at + length (field tag v) ≤ length o → length v < highByte * highByte
+    → (fieldEnd o at tag v ≡ at + length (field tag v)) × (fieldOut o at tag v ≡ sets o at (field tag v))
+unfolding fieldEnd fieldOut
+put-fits o at tag v h l =
+    let room = le-leb (at + headLength + length v) (length o) (omega (arith, length-field tag v)) in
+    let short = lt-ltb (length v) (highByte * highByte) l in
+    (rw (short, room), rw (short, room))
+
+-- and one that has none is not: its value is too long for two bytes, or it would end behind the buffer
+pub put-long : (o : List ℕ) (at tag : ℕ) (v : List ℕ) → highByte * highByte ≤ length v → (fieldEnd o at tag v ≡ at) × (fieldOut o at tag v ≡ o)
+unfolding fieldEnd fieldOut
+put-long o at tag v h = let long = le-ltb (length v) (highByte * highByte) h in (rw long, rw long)
+
+pub put-tight : (o : List ℕ) (at tag : ℕ) (v : List ℕ) → length v < highByte * highByte → length o < at + headLength + length v
+    → (fieldEnd o at tag v ≡ at) × (fieldOut o at tag v ≡ o)
+unfolding fieldEnd fieldOut
+put-tight o at tag v l h =
+    let short = lt-ltb (length v) (highByte * highByte) l in
+    let tight = lt-leb (at + headLength + length v) (length o) h in
+    (rw (short, tight), rw (short, tight))
