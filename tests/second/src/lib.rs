@@ -3,6 +3,7 @@
 //! read. Plain slices in, plain structs out, lent buffers as document 01 says.
 
 pub mod answers;
+pub mod bundle;
 pub mod chance;
 pub mod cipher;
 pub mod compose;

@@ -23,6 +23,10 @@ pub const OTHER_FONT: u8 = 8;
 pub const NOT_LISTED: u8 = 9;
 /// Reader's place beyond the stream's end.
 pub const BEYOND_END: u8 = 10;
+/// Shape of a bundle or of the bundle writer's input (order W1).
+pub const NO_BUNDLE: u8 = 11;
+/// Two glyphs with the same dots (order W1).
+pub const SAME_GLYPHS: u8 = 12;
 /// Line of listed bytes that is not the trade's (order W2).
 pub const NOT_TRADE: u8 = 13;
 /// The stretch takes more work than is allowed (order W5).
@@ -44,6 +48,7 @@ pub const FRAME_ROOM: usize = 276;
 pub const STRETCH_MOST: usize = 274;
 /// A line of n bytes takes n + 39 calls of the permutation.
 pub const BESIDE_LINE: usize = 39;
+pub const BUNDLE_ROOM: usize = 217;
 
 /// The answer of a call that reports a number and its calls of the permutation.
 #[derive(Clone, Copy, Debug, PartialEq, Eq)]
