@@ -6,7 +6,7 @@ use Prim.Native.Nat.{ℕ, _+_, _*_, _/_, _%_, _≤_, _<_}
 use native.Mathlib.Nat.{div-add-mod'}
 use native.Mathlib.Omega.{arith}
 use lib.Dec.{eqb, leb}
-use lib.ListN.{length, take, drop, length-append, take-append-drop}
+use lib.ListN.{length, getD, take, drop, length-append, take-append-drop}
 use lib.Seq.{take-append-seam, drop-append-seam, drop-drop, length-take-le, sets}
 use borrow.Author.Tests.{eq-eqb, le-leb, lt-leb, le-ltb, lt-ltb, eqb-true, leb-true}
 use Rattle.lists.specs.Below.{Below}
@@ -44,10 +44,10 @@ module _ (takes : ℕ → ℕ → Bool) where
   Says tag b (value v s) = (b ≡ field tag v ++ s) × (takes tag (length v) ≡ true)
   Says tag b no-field = Unit {0}
 
-  value-says : (tag high low : ℕ) (s : List ℕ) → high < highByte → low < highByte → takes tag (high * highByte + low) ≡ true
+  value-says : (tag high low : ℕ) (s : List ℕ) → low < highByte → takes tag (high * highByte + low) ≡ true
       → Says tag (tag ∷ high ∷ low ∷ s) (valueOf (high * highByte + low) s)
   unfolding field
-  value-says tag high low s hh hl r = go (high * highByte + low) refl r (leb (high * highByte + low) (length s)) refl
+  value-says tag high low s hl r = go (high * highByte + low) refl r (leb (high * highByte + low) (length s)) refl
     where
       go : (n : ℕ) → n ≡ high * highByte + low → takes tag n ≡ true → (t : Bool) → leb n (length s) ≡ t
           → Says tag (tag ∷ high ∷ low ∷ s) (cond t (value (take n s) (drop n s)) no-field)
@@ -58,8 +58,8 @@ module _ (takes : ℕ → ℕ → Bool) where
           (rw (l, h, m, take-append-drop n s), rw l r)
       go n e r false p = tt
 
-  -- bytes in which a field is found are this field and what is behind it
-  front-says : (tag : ℕ) (b : List ℕ) → Below 256 b → Says tag b (front takes tag b)
+  -- numbers in which a field is found are this field and what is behind it, where the low byte of the length is a byte
+  front-says : (tag : ℕ) (b : List ℕ) → getD b 2 0 < highByte → Says tag b (front takes tag b)
   unfolding front
   front-says tag [] h = tt
   front-says tag (t ∷ []) h = tt
@@ -68,7 +68,7 @@ module _ (takes : ℕ → ℕ → Bool) where
     where
       by-rule : t ≡ tag → (u : Bool) → takes t (high * highByte + low) ≡ u
           → Says tag (t ∷ high ∷ low ∷ s) (cond u (valueOf (high * highByte + low) s) no-field)
-      by-rule e true p = rw e (value-says tag high low s (h .1 .0) (h .1 .1 .0) (rw e at p))
+      by-rule e true p = rw e (value-says tag high low s h (rw e at p))
       by-rule e false p = tt
 
       by-tag : (u : Bool) → eqb t tag ≡ u
@@ -78,33 +78,48 @@ module _ (takes : ℕ → ℕ → Bool) where
 
   pub front-value : (tag : ℕ) (b v s : List ℕ) → Below 256 b → front takes tag b ≡ value v s
       → (b ≡ field tag v ++ s) × (takes tag (length v) ≡ true)
-  front-value tag b v s h e = rw e at (front-says tag b h)
+  front-value tag b v s h e = rw e at (front-says tag b (third b h))
+    where
+      third : (b : List ℕ) → Below 256 b → getD b 2 0 < highByte
+      third [] h = omega arith
+      third (t ∷ []) h = omega arith
+      third (t ∷ high ∷ []) h = omega arith
+      third (t ∷ high ∷ low ∷ s) h = h .1 .1 .0
 
-  -- where a field's value stands, and what is behind the field
-  abbrev Stands : List ℕ → Front → Type 0
-  Stands s (value v r) = (v ≡ take (length v) (drop headLength s)) × (r ≡ drop (headLength + length v) s) × (headLength + length v ≤ length s)
-  Stands s no-field = Unit {0}
+  -- where a field's value stands, what is behind the field, what its length says, and that the rule takes it
+  abbrev pub Standing : ℕ → List ℕ → List ℕ → List ℕ → Type 0
+  Standing tag s v r =
+      (v ≡ take (length v) (drop headLength s)) × (r ≡ drop (headLength + length v) s) × (headLength + length v ≤ length s)
+      × (length v ≡ getD s 1 0 * highByte + getD s 2 0) × (takes tag (length v) ≡ true)
 
-  stands : (tag : ℕ) (s : List ℕ) → Stands s (front takes tag s)
+  abbrev Stands : ℕ → List ℕ → Front → Type 0
+  Stands tag s (value v r) = Standing tag s v r
+  Stands tag s no-field = Unit {0}
+
+  stands : (tag : ℕ) (s : List ℕ) → Stands tag s (front takes tag s)
   unfolding front
   stands tag [] = tt
   stands tag (t ∷ []) = tt
   stands tag (t ∷ high ∷ []) = tt
   stands tag (t ∷ high ∷ low ∷ s) =
-      by-tests (eqb t tag) (takes t (high * highByte + low)) (high * highByte + low) (leb (high * highByte + low) (length s)) refl
+      by-tests (eqb t tag) refl (high * highByte + low) refl (takes t (high * highByte + low)) refl (leb (high * highByte + low) (length s)) refl
     where
-      by-tests : (x y : Bool) (n : ℕ) (z : Bool) → leb n (length s) ≡ z
-          → Stands (t ∷ high ∷ low ∷ s) (cond x (cond y (cond z (value (take n s) (drop n s)) no-field) no-field) no-field)
-      by-tests true true n true p =
+      by-tests : (x : Bool) → eqb t tag ≡ x → (n : ℕ) → n ≡ high * highByte + low → (y : Bool) → takes t n ≡ y → (z : Bool) → leb n (length s) ≡ z
+          → Stands tag (t ∷ high ∷ low ∷ s) (cond x (cond y (cond z (value (take n s) (drop n s)) no-field) no-field) no-field)
+      by-tests true is n e true r true p =
           let l : length (take n s) ≡ n = length-take-le n s (leb-true n (length s) p) in
-          (rw l, rw l (drop-drop n headLength (t ∷ high ∷ low ∷ s)), omega (arith, leb-true n (length s) p))
-      by-tests true true n false p = tt
-      by-tests true false n z p = tt
-      by-tests false y n z p = tt
+          (rw l, rw l (drop-drop n headLength (t ∷ high ∷ low ∷ s)), omega (arith, leb-true n (length s) p), l ∙ e, rw (l, ← eqb-true t tag is) r)
+      by-tests true is n e true r false p = tt
+      by-tests true is n e false r z p = tt
+      by-tests false is n e y r z p = tt
 
-  pub front-stands : (tag : ℕ) (s v r : List ℕ) → front takes tag s ≡ value v r
-      → (v ≡ take (length v) (drop headLength s)) × (r ≡ drop (headLength + length v) s) × (headLength + length v ≤ length s)
+  pub front-stands : (tag : ℕ) (s v r : List ℕ) → front takes tag s ≡ value v r → Standing tag s v r
   front-stands tag s v r e = rw e at (stands tag s)
+
+  -- so where a value has fewer bytes than the high byte counts, whatever numbers they are
+  pub front-short : (tag : ℕ) (b v s : List ℕ) → front takes tag b ≡ value v s → length v < highByte
+      → (b ≡ field tag v ++ s) × (takes tag (length v) ≡ true)
+  front-short tag b v s e h = rw e at (front-says tag b (omega (arith, front-stands tag b v s e .3)))
 
 -- a field that has room is written
 pub put-fits : (o : List ℕ) (at tag : ℕ) (v : List ℕ) → at + length (field tag v) ≤ length o → length v < highByte * highByte

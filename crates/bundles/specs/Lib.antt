@@ -1,0 +1,3 @@
+pub mod Bundles
+pub mod Lengths
+pub mod Exactly
