@@ -8,21 +8,10 @@ use lib.Dec.{leb}
 use lib.ListN.{length, getD, take, drop, length-drop}
 use lib.Seq.{length-take-le}
 use borrow.Author.Tests.{eq-eqb, ne-eqb, leb-true, leb-false}
-use Rattle.lists.specs.Walk.{at}
 use Rattle.fields.specs.Fields.{headLength, highByte, value, no-field, front}
+use Rattle.fields.specs.Laws.{head-at, front-few}
 use Rattle.body.specs.Fields.{takes}
 use Rattle.body.specs.Answers.{Ends, Found}
-
-short-front : (tag : ℕ) (s : List ℕ) → length s < headLength → front takes tag s ≡ no-field
-unfolding front
-short-front tag [] h = refl
-short-front tag (t ∷ []) h = refl
-short-front tag (t ∷ high ∷ []) h = refl
-short-front tag (t ∷ high ∷ low ∷ s) h = absurd (omega arith)
-
--- one byte more
-on : (b : List ℕ) (i j : ℕ) → j ≡ i + 1 → i < length b → drop i b ≡ getD b i 0 ∷ drop j b
-on b i j e h = rw e (at b i h)
 
 module _ (b : List ℕ) (tag at : ℕ) where
   -- no field: the place past the end
@@ -31,7 +20,7 @@ module _ (b : List ℕ) (tag at : ℕ) where
 
   -- fewer bytes than a tag and a length
   pub too-few : length b < at + headLength → Found b tag at (length b + 1)
-  too-few h = past (short-front tag (drop at b) (omega (arith, length-drop at b)))
+  too-few h = past (front-few takes tag (drop at b) (omega (arith, length-drop at b)))
 
   module _ (enough : at + headLength ≤ length b) where
     abbrev pub n : ℕ
@@ -40,28 +29,20 @@ module _ (b : List ℕ) (tag at : ℕ) where
     abbrev rest : List ℕ
     rest = drop (at + headLength) b
 
-    -- the tag, the length's two bytes and the rest
-    cut : drop at b ≡ getD b at 0 ∷ getD b (at + 1) 0 ∷ getD b (at + 2) 0 ∷ rest
-    cut =
-        on b at (at + 1) refl (omega arith)
-        ∙ ap (λ (s : List ℕ). getD b at 0 ∷ s)
-        (on b (at + 1) (at + 2) (omega arith) (omega arith)
-        ∙ ap (λ (s : List ℕ). getD b (at + 1) 0 ∷ s) (on b (at + 2) (at + headLength) (omega arith) (omega arith)))
-
     pub other-tag : (getD b at 0 ≡ tag → ⊥) → Found b tag at (length b + 1)
     unfolding front
-    other-tag h = past (rw (cut, ne-eqb (getD b at 0) tag h))
+    other-tag h = past (rw (head-at b at enough, ne-eqb (getD b at 0) tag h))
 
     module _ (is : getD b at 0 ≡ tag) where
       pub other-length : takes (getD b at 0) n ≡ false → Found b tag at (length b + 1)
       unfolding front
-      other-length h = past (rw (cut, h, eq-eqb (getD b at 0) tag is))
+      other-length h = past (rw (head-at b at enough, h, eq-eqb (getD b at 0) tag is))
 
       -- a length that the rule takes: the place behind so many bytes, past the end where there are not as many
       pub found : takes (getD b at 0) n ≡ true → n < highByte * highByte → Found b tag at (at + headLength + n)
       unfolding front
       found good small = record {
-        ends = rw (cut, good, eq-eqb (getD b at 0) tag is) (go (leb n (length rest)) refl);
+        ends = rw (head-at b at enough, good, eq-eqb (getD b at 0) tag is) (go (leb n (length rest)) refl);
         near = omega (arith, small);
       }
         where

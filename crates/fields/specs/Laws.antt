@@ -10,6 +10,7 @@ use lib.ListN.{length, getD, take, drop, length-append, take-append-drop}
 use lib.Seq.{take-append-seam, drop-append-seam, drop-drop, length-take-le, sets}
 use borrow.Author.Tests.{eq-eqb, le-leb, lt-leb, le-ltb, lt-ltb, eqb-true, leb-true}
 use Rattle.lists.specs.Below.{Below}
+use Rattle.lists.specs.Walk.{at}
 use Rattle.fields.specs.Fields.{headLength, highByte, field, Front, value, no-field, valueOf, front, fieldEnd, fieldOut}
 
 pub length-field : (tag : ℕ) (v : List ℕ) → length (field tag v) ≡ headLength + length v
@@ -20,7 +21,27 @@ pub field-below : (tag : ℕ) (v : List ℕ) → tag < 256 → length v < highBy
 unfolding field
 field-below tag v t l b = (t, (omega arith, (omega arith, b)))
 
+-- a head at a place of some bytes: the tag, the length's two bytes, and what is behind
+pub head-at : (b : List ℕ) (at : ℕ) → at + headLength ≤ length b
+    → drop at b ≡ getD b at 0 ∷ getD b (at + 1) 0 ∷ getD b (at + 2) 0 ∷ drop (at + headLength) b
+head-at b i enough =
+    on i (i + 1) refl (omega arith)
+    ∙ ap (λ (s : List ℕ). getD b i 0 ∷ s)
+    (on (i + 1) (i + 2) (omega arith) (omega arith)
+    ∙ ap (λ (s : List ℕ). getD b (i + 1) 0 ∷ s) (on (i + 2) (i + headLength) (omega arith) (omega arith)))
+  where
+    on : (i j : ℕ) → j ≡ i + 1 → i < length b → drop i b ≡ getD b i 0 ∷ drop j b
+    on i j e h = rw e (at b i h)
+
 module _ (takes : ℕ → ℕ → Bool) where
+  -- in fewer bytes than a head has there is no field
+  pub front-few : (tag : ℕ) (s : List ℕ) → length s < headLength → front takes tag s ≡ no-field
+  unfolding front
+  front-few tag [] h = refl
+  front-few tag (t ∷ []) h = refl
+  front-few tag (t ∷ high ∷ []) h = refl
+  front-few tag (t ∷ high ∷ low ∷ s) h = absurd (omega arith)
+
   -- a field that stands first is found
   pub front-field : (tag : ℕ) (v s : List ℕ) → takes tag (length v) ≡ true → front takes tag (field tag v ++ s) ≡ value v s
   unfolding front field

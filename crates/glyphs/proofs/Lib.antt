@@ -1,0 +1,4 @@
+pub mod Reading
+pub mod Walking
+pub mod Judging
+pub mod Single

@@ -1,0 +1,244 @@
+// Bytes judged as a glyph bundle (order W1): the reader, which accepts exactly what the writer can make, and the order of the characters.
+// The promises cite specs/Answers.antt; what a bundle is stands in bundles.
+ghost use mathlib.Core.Path.{_≡_};
+ghost use Prim.Native.Nat.{_+_, _*_, _≤_};
+ghost use lib.ListN.{length, take, drop};
+ghost use Rattle.fields.specs.Fields.{highByte, front};
+ghost use Rattle.bundles.specs.Bundles.{glyphTag, glyphRows, characters, glyphCount, takes, dotted, among, repeated, glyphOf, rowsOf};
+ghost use Rattle.bundles.specs.Lengths.{glyphField, glyphsLength};
+ghost use Rattle.bundles.specs.Places.{rowsAt, indexOf, glyphsAt};
+ghost use Rattle.glyphs.specs.Answers.{lengthFound, isField, isRows, told, readAnswer};
+use fields::HEAD_LENGTH;
+use fields::HIGH_BYTE;
+
+// The fields' tags (tags are hexadecimal): name and glyph.
+pub const NAME_TAG: u8 = 0x10;
+
+pub const GLYPH_TAG: u8 = 0x12;
+
+// The lengths of a name; nine rows a glyph, behind a character byte.
+const SHORTEST_NAME: usize = 1;
+
+pub const LONGEST_NAME: usize = 32;
+
+pub const GLYPH_ROWS: usize = 9;
+
+pub const GLYPH_LENGTH: usize = 1 + GLYPH_ROWS;
+
+// The most that a row can hold: seven dots, the top bit zero.
+const ALL_DOTS: u8 = 0x7F;
+
+// How many glyphs there are, and their characters in this order.
+pub const GLYPHS: usize = 14;
+
+pub const CHARACTERS: [u8; GLYPHS] = [
+    b'0',
+    b'1',
+    b'2',
+    b'3',
+    b'4',
+    b'5',
+    b'6',
+    b'7',
+    b'8',
+    b'9',
+    b'A',
+    b'B',
+    b'C',
+    b'D',
+];
+
+// Where in a glyph's field its character and its rows stand, and how long the field is.
+const CHARACTER_AT: usize = HEAD_LENGTH;
+
+pub const ROWS_AT: usize = CHARACTER_AT + 1;
+
+pub const GLYPH_FIELD: usize = HEAD_LENGTH + GLYPH_LENGTH;
+
+// How long all glyphs are together, and what stands in a bundle beside the bytes of the name.
+const GLYPHS_LENGTH: usize = GLYPHS * GLYPH_FIELD;
+
+pub const BESIDE_NAME: usize = HEAD_LENGTH + GLYPHS_LENGTH;
+
+// What some bytes are as a bundle.
+pub enum Bundle {
+    // A bundle; so long is its name, which gives all places.
+    Named(usize),
+    // Not of the shape of a bundle: 11.
+    Shape,
+    // Two glyphs with the same dots: 12.
+    Alike,
+}
+
+// The decision over the tag byte, which picks the rule of the field: may its value have n bytes?
+pub fn rule_takes(tag: u8, n: usize) -> bool
+    ensures { λ r. ⌜ r ≡ takes tag n ⌝ }
+{
+    match tag {
+        NAME_TAG => match n {
+            SHORTEST_NAME..=LONGEST_NAME => true,
+            _ => false,
+        },
+        GLYPH_TAG => n == GLYPH_LENGTH,
+        _ => false,
+    }
+}
+
+// How many of the characters stand before c; all fourteen where it is none of them.
+pub fn index_of(c: u8) -> usize
+    ensures { λ r. ⌜ r ≡ indexOf c characters ⌝ }
+{
+    let all = CHARACTERS;
+    let mut i = 0;
+    while i < GLYPHS {
+        if all[i] == c {
+            return i;
+        }
+        i += 1;
+    }
+    GLYPHS
+}
+
+// What the two bytes of a length say.
+fn length_said(high: u8, low: u8) -> usize
+    ensures { λ r. ⌜ r ≡ high * highByte + low ⌝ }
+{
+    high as usize * HIGH_BYTE + low as usize
+}
+
+// The length of the value of the field with this tag at a place of b; 0 where there is no such field, since no rule takes 0.
+fn value_at(b: &[u8], at: usize, tag: u8) -> usize
+    requires { ⌜ at ≤ length (now b) ⌝ }
+    ensures { λ r. ⌜ r ≡ lengthFound (front takes tag (drop at (now (b .entry)))) ⌝ }
+{
+    let left = b.len() - at;
+    if left < HEAD_LENGTH {
+        return 0;
+    }
+    if b[at] != tag {
+        return 0;
+    }
+    let n = length_said(b[at + 1], b[at + 2]);
+    if !rule_takes(b[at], n) {
+        return 0;
+    }
+    if left - HEAD_LENGTH < n {
+        return 0;
+    }
+    n
+}
+
+// Whether every row has seven dots.
+fn all_dotted(rows: &[u8]) -> bool
+    ensures { λ r. ⌜ r ≡ dotted (now (rows .entry)) ⌝ }
+{
+    let mut i = 0;
+    while i < rows.len() {
+        if rows[i] > ALL_DOTS {
+            return false;
+        }
+        i += 1;
+    }
+    true
+}
+
+// Whether the glyph of the character c stands at a place of b.
+fn glyph_at(b: &[u8], at: usize, c: u8) -> bool
+    requires { ⌜ at + glyphField ≤ length (now b) ⌝ }
+    ensures { λ r. ⌜ r ≡ isField (glyphOf c (front takes glyphTag (drop at (now (b .entry))))) ⌝ }
+{
+    if value_at(b, at, GLYPH_TAG) == 0 {
+        return false;
+    }
+    if b[at + CHARACTER_AT] != c {
+        return false;
+    }
+    let first = at + ROWS_AT;
+    let end = at + GLYPH_FIELD;
+    all_dotted(&b[first..end])
+}
+
+// Whether the fourteen glyphs stand from a place of b to its end.
+fn glyphs_from(b: &[u8], from: usize) -> bool
+    requires { ⌜ from + glyphsLength ≡ length (now b) ⌝ }
+    ensures { λ r. ⌜ r ≡ isRows (rowsOf characters (drop from (now (b .entry)))) ⌝ }
+{
+    let all = CHARACTERS;
+    let mut at = from;
+    let mut i = 0;
+    while i < GLYPHS {
+        if !glyph_at(b, at, all[i]) {
+            return false;
+        }
+        at += GLYPH_FIELD;
+        i += 1;
+    }
+    true
+}
+
+// Whether the glyph at the place g has the same dots as one of those that stand from a place of b to its end, so many.
+fn among_behind(b: &[u8], g: usize, from: usize, count: usize) -> bool
+    requires { ⌜ (g + glyphField ≤ length (now b)) × (from + glyphField * count ≡ length (now b)) ⌝ }
+    ensures { λ r. ⌜ r ≡ among (take glyphRows (drop rowsAt (drop g (now (b .entry))))) (glyphsAt count (drop from (now (b .entry)))) ⌝ }
+{
+    let first = g + ROWS_AT;
+    let end = g + GLYPH_FIELD;
+    let mut at = from;
+    let mut left = count;
+    while left > 0 {
+        let other = at + ROWS_AT;
+        let next = at + GLYPH_FIELD;
+        if lists::compare(&b[first..end], &b[other..next]) {
+            return true;
+        }
+        at = next;
+        left -= 1;
+    }
+    false
+}
+
+// Whether two of the glyphs that stand from a place of b to its end have the same dots: each is held to all behind it.
+fn alike_from(b: &[u8], from: usize) -> bool
+    requires { ⌜ from + glyphsLength ≡ length (now b) ⌝ }
+    ensures { λ r. ⌜ r ≡ repeated (glyphsAt glyphCount (drop from (now (b .entry)))) ⌝ }
+{
+    let mut at = from;
+    let mut left = GLYPHS;
+    while left > 0 {
+        let next = at + GLYPH_FIELD;
+        left -= 1;
+        if among_behind(b, at, next, left) {
+            return true;
+        }
+        at = next;
+    }
+    false
+}
+
+// The answer for bytes as long as a bundle with a name of n bytes: 11 is judged over all of them before 12.
+fn answer(stand: bool, alike: bool, n: usize) -> Bundle
+    ensures { λ r. ⌜ r ≡ told stand alike n ⌝ }
+{
+    if !stand {
+        return Bundle::Shape;
+    }
+    if alike {
+        return Bundle::Alike;
+    }
+    Bundle::Named(n)
+}
+
+// Judges bytes as a bundle.
+pub fn read(bundle: &[u8]) -> Bundle
+    ensures { λ r. ⌜ r ≡ readAnswer (now (bundle .entry)) ⌝ }
+{
+    let n = value_at(bundle, 0, NAME_TAG);
+    if n == 0 {
+        return Bundle::Shape;
+    }
+    let from = HEAD_LENGTH + n;
+    if bundle.len() - from != GLYPHS_LENGTH {
+        return Bundle::Shape;
+    }
+    answer(glyphs_from(bundle, from), alike_from(bundle, from), n)
+}
