@@ -71,12 +71,12 @@ unfolding fitting
 is-fitting {name} {rows} f = rw (f .name-rule, eq-eqb (length rows) allRows (f .rows-are)) (f .dots)
 
 -- the fields of glyphs, with rows for each
-pub length-glyphs : (cs rows : List ℕ) → length rows ≡ glyphRows * length cs → length (glyphFields cs rows) ≡ glyphField * length cs
+pub length-glyphs : (cs rows : List ℕ) → glyphRows * length cs ≤ length rows → length (glyphFields cs rows) ≡ glyphField * length cs
 unfolding glyphFields
 length-glyphs [] rows h = refl
 length-glyphs (c ∷ cs) rows h =
     let first : length (take glyphRows rows) ≡ glyphRows = length-take-le glyphRows rows (omega arith) in
-    let rest = length-glyphs cs (drop glyphRows rows) (length-drop glyphRows rows ∙ omega arith) in
+    let rest = length-glyphs cs (drop glyphRows rows) (omega (arith, length-drop glyphRows rows)) in
     length-append (field glyphTag (c ∷ take glyphRows rows)) (glyphFields cs (drop glyphRows rows))
     ∙ omega (arith, length-field glyphTag (c ∷ take glyphRows rows))
 
@@ -85,7 +85,7 @@ pub length-bundle : (name rows : List ℕ) → length rows ≡ allRows → lengt
 unfolding bundleOf
 length-bundle name rows h =
     length-append (field nameTag name) (glyphFields characters rows)
-    ∙ omega (arith, length-field nameTag name, length-glyphs characters rows h)
+    ∙ omega (arith, length-field nameTag name, length-glyphs characters rows (omega arith))
 
 pub bundle-at-most : {name rows : List ℕ} → Fitting name rows → length (bundleOf name rows) ≤ longestBundle
 bundle-at-most {name} {rows} f =

@@ -56,7 +56,7 @@ module _ (b : List ℕ) where
         go no-rows q = sym (past-name no-rows q .2)
         go (rows r) q =
             let are = fields-rows characters (drop (headLength + n) b) r q in
-            absurd (h (sym (length-drop (headLength + n) b) ∙ ap length (are .0) ∙ length-glyphs characters r (are .1)))
+            absurd (h (sym (length-drop (headLength + n) b) ∙ ap length (are .0) ∙ length-glyphs characters r (omega (arith, are .1))))
 
     -- the glyphs stand or not, and are alike or not
     pub as-told : told (isRows (rowsOf characters (drop (headLength + n) b))) (repeated (glyphsAt glyphCount (drop (headLength + n) b))) n ≡ readAnswer b

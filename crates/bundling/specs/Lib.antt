@@ -1,0 +1,5 @@
+pub mod Answers
+pub mod Steps
+pub mod Order
+pub mod Parts
+pub mod Exactly
