@@ -11,7 +11,7 @@
  *  - `calls`, `length`, `first` and `closing` each point to a size_t of the caller's: never NULL, no two to the same one, none into a
  *    buffer of the call. A reading comes back as a struct by value, and what a reader is told anew goes in as one.
  *  - The return value is one of the numbers below. They are tested in the order 1, 2, 3, 9, 13, 4, 10; the first that holds is given. A
- *    stretch is judged in the order 7 for its length, 6, 7 for its fields, 8, 15, 5, 9, 13.
+ *    stretch is judged in the order 7 for its length, 6, 7 for its fields, 8, 15, 5, 9, 13. A call of a bundle: 3, 11, 12, 4.
  *  - `calls` (and `length`, `first`, `closing`) are always written: counts of calls of the permutation, lengths, places.
  *  - Nothing is changed but what is named; the rest of a longer buffer stays as it was.
  *  - The library has no state of its own: calls on different buffers may run at the same time. Keys and states that a call works with are
@@ -48,6 +48,11 @@ enum {
     LUBDHVANI_LONGEST_STRETCH = 274,   /* a longer one is refused with 7 */
     LUBDHVANI_ALL_WORK = 104,          /* calls of the permutation that are enough for every stretch: those of the longest line */
     LUBDHVANI_INSTANCES = 10,          /* hash instances are 1 to 10; fonts are digested with 1 */
+    LUBDHVANI_LONGEST_NAME = 32,       /* the name of a bundle has 1 to 32 bytes */
+    LUBDHVANI_GLYPHS = 14,             /* 0 to 9, A to D, in this order */
+    LUBDHVANI_GLYPH_ROWS = 9,          /* a glyph's rows, of seven dots each; the top bit of a row is zero */
+    LUBDHVANI_BUNDLE_ROWS = 126,       /* the rows of all glyphs */
+    LUBDHVANI_BUNDLE = 217,            /* the longest bundle, and the least room for one */
     LUBDHVANI_STACK = 24576,           /* what a call takes of the stack at most, on x86-64 */
     LUBDHVANI_STACK_BUT_READ = 6144    /* the same of every call but lubdhvani_read */
 };
@@ -65,6 +70,8 @@ enum {
     LUBDHVANI_OTHER_FONT = 8,  /* the font digest differs from the one asked for */
     LUBDHVANI_UNLISTED = 9,    /* the line holds a byte that is not listed */
     LUBDHVANI_BEYOND = 10,     /* the place is beyond the stream's end */
+    LUBDHVANI_NO_BUNDLE = 11,  /* not of the shape of a bundle, or of what one is made of: a name's length, the rows, a top bit */
+    LUBDHVANI_ALIKE = 12,      /* two glyphs with the same dots */
     LUBDHVANI_NOT_TRADE = 13,  /* the line's bytes are listed, but it is not the trade's line */
     LUBDHVANI_OVER_WORK = 15   /* the stretch takes more calls of the permutation than are allowed */
 };
@@ -131,6 +138,29 @@ struct lubdhvani_reading {
 struct lubdhvani_reading lubdhvani_read(const uint8_t *stream, size_t stream_length, size_t from, const uint8_t *key,
                                         size_t key_length, const uint8_t *font, size_t font_length, struct lubdhvani_asked asked,
                                         uint8_t *line, size_t room);
+
+/* Glyph bundles: a font as a name and fourteen glyphs of nine rows. A bundle is tag 10, two bytes of length (high byte first) and the name;
+ * then for each character 0 to 9, A to D tag 12, the length 10, the character byte and its nine rows (tags are hexadecimal). No two glyphs
+ * have the same dots. Its font digest is the digest of the whole bundle with instance 1. */
+
+/* Writes the bundle of a name and 126 rows, nine for each character in the order above.
+ * 0: bundle[0..*length] is the bundle, *length = 185 + name_length. 11 (name not 1 to 32 bytes, not 126 rows, a top bit), 12, 4 (room under
+ * 217): bundle is untouched, *length is 0. */
+uint32_t lubdhvani_bundle_write(const uint8_t *name, size_t name_length, const uint8_t *rows, size_t rows_length, uint8_t *bundle,
+                                size_t room, size_t *length);
+
+/* Judges bytes as a bundle: exactly what the writer can make is accepted.
+ * 0: *length is the length of the name. 11, 12: *length is 0. Bytes of any other length than a bundle's are 11, never 3. */
+uint32_t lubdhvani_bundle_read(const uint8_t *bundle, size_t bundle_length, size_t *length);
+
+/* The font digest of a bundle, to be told to lubdhvani_write and lubdhvani_read.
+ * 0: out[0..32] is the digest. 3 (over 65,536 bytes), 11, 12, 4 (room under 32): out is untouched. */
+uint32_t lubdhvani_bundle_digest(const uint8_t *bundle, size_t bundle_length, uint8_t *out, size_t room);
+
+/* Where the name of a bundle stands, and where the rows of a character stand: bundle[*first .. *first + *length]. Where the bytes are no
+ * bundle (11 and 12 both), or the character is none of the fourteen, *first is bundle_length and *length 0. */
+void lubdhvani_bundle_name(const uint8_t *bundle, size_t bundle_length, size_t *first, size_t *length);
+void lubdhvani_bundle_rows(const uint8_t *bundle, size_t bundle_length, uint8_t character, size_t *first, size_t *length);
 
 #ifdef __cplusplus
 }

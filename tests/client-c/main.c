@@ -283,6 +283,42 @@ static void press(void)
     printf("client-c: %d lines sent, %zu printed, %zu stretches refused\n", ORDERS, printed, row - printed);
 }
 
+/* A bundle: made, judged, taken apart, digested. */
+
+static void check_parts(const uint8_t *bundle, size_t length, const uint8_t *rows)
+{
+    size_t first, size;
+    lubdhvani_bundle_name(bundle, length, &first, &size);
+    check(size == 6 && memcmp(bundle + first, "sample", 6) == 0, "the name of the bundle");
+    lubdhvani_bundle_rows(bundle, length, 'D', &first, &size);
+    check(size == LUBDHVANI_GLYPH_ROWS && memcmp(bundle + first, rows + 13 * LUBDHVANI_GLYPH_ROWS, size) == 0, "the rows of D");
+    lubdhvani_bundle_rows(bundle, length, 'E', &first, &size);
+    check(first == length && size == 0, "E is none of the fourteen");
+}
+
+static void check_bundle(void)
+{
+    uint8_t rows[LUBDHVANI_BUNDLE_ROWS], bundle[LUBDHVANI_BUNDLE], digest[LUBDHVANI_DIGEST], plain[LUBDHVANI_DIGEST];
+    const uint8_t *name = (const uint8_t *)"sample";
+    size_t length, name_length, calls;
+    for (size_t i = 0; i < sizeof rows; i++)
+        rows[i] = (uint8_t)(11 * i % 127);
+
+    check(lubdhvani_bundle_write(name, 6, rows, sizeof rows, bundle, sizeof bundle, &length) == LUBDHVANI_DONE, "a bundle is written");
+    check(length == 191, "185 bytes and the name");
+    check(lubdhvani_bundle_read(bundle, length, &name_length) == LUBDHVANI_DONE && name_length == 6, "and read");
+    check_parts(bundle, length, rows);
+    check(lubdhvani_bundle_digest(bundle, length, digest, sizeof digest) == LUBDHVANI_DONE, "it is digested");
+    check(lubdhvani_digest(1, bundle, length, plain, sizeof plain, &calls) == LUBDHVANI_DONE, "so are its bytes");
+    check(memcmp(digest, plain, sizeof digest) == 0, "its digest is that of its bytes");
+
+    check(lubdhvani_bundle_read(bundle, length - 1, &name_length) == LUBDHVANI_NO_BUNDLE, "a bundle cut short is none");
+    memcpy(rows, rows + 5 * LUBDHVANI_GLYPH_ROWS, LUBDHVANI_GLYPH_ROWS);
+    check(lubdhvani_bundle_write(name, 6, rows, sizeof rows, bundle, sizeof bundle, &length) == LUBDHVANI_ALIKE, "two glyphs alike");
+    rows[0] |= 0x80;
+    check(lubdhvani_bundle_write(name, 6, rows, sizeof rows, bundle, sizeof bundle, &length) == LUBDHVANI_NO_BUNDLE, "a top bit");
+}
+
 int main(void)
 {
     size_t calls;
@@ -291,6 +327,7 @@ int main(void)
     check_digest();
     check_seal();
     check_trade();
+    check_bundle();
     compose();
     press();
     puts(wrong ? "client-c: not as expected" : "client-c: all as expected");

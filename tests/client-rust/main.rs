@@ -22,6 +22,8 @@ mod lubdhvani {
     pub const BAD_SHAPE: u32 = 7;
     pub const OTHER_FONT: u32 = 8;
     pub const UNLISTED: u32 = 9;
+    pub const NO_BUNDLE: u32 = 11;
+    pub const ALIKE: u32 = 12;
     pub const NOT_TRADE: u32 = 13;
     pub const OVER_WORK: u32 = 15;
 
@@ -58,6 +60,21 @@ mod lubdhvani {
             stream: *const u8, stream_length: usize, from: usize, key: *const u8, key_length: usize,
             font: *const u8, font_length: usize, asked: Asked, line: *mut u8, room: usize,
         ) -> Reading;
+        fn lubdhvani_bundle_write(
+            name: *const u8, name_length: usize, rows: *const u8, rows_length: usize,
+            bundle: *mut u8, room: usize, length: *mut usize,
+        ) -> u32;
+        fn lubdhvani_bundle_read(bundle: *const u8, bundle_length: usize, length: *mut usize) -> u32;
+        fn lubdhvani_bundle_digest(
+            bundle: *const u8, bundle_length: usize, out: *mut u8, room: usize,
+        ) -> u32;
+        fn lubdhvani_bundle_name(
+            bundle: *const u8, bundle_length: usize, first: *mut usize, length: *mut usize,
+        );
+        fn lubdhvani_bundle_rows(
+            bundle: *const u8, bundle_length: usize, character: u8, first: *mut usize,
+            length: *mut usize,
+        );
     }
 
     // SAFETY, here and below: each pointer is to as many bytes as are said, and
@@ -172,9 +189,54 @@ mod lubdhvani {
             )
         }
     }
+
+    /// The number, and the bundle's length.
+    #[rustfmt::skip]
+    pub fn bundle_write(name: &[u8], rows: &[u8], bundle: &mut [u8]) -> (u32, usize) {
+        let mut length = 0;
+        let number = unsafe {
+            lubdhvani_bundle_write(
+                name.as_ptr(), name.len(), rows.as_ptr(), rows.len(), bundle.as_mut_ptr(), bundle.len(),
+                &mut length,
+            )
+        };
+        (number, length)
+    }
+
+    /// The number, and the name's length.
+    pub fn bundle_read(bundle: &[u8]) -> (u32, usize) {
+        let mut length = 0;
+        let number = unsafe { lubdhvani_bundle_read(bundle.as_ptr(), bundle.len(), &mut length) };
+        (number, length)
+    }
+
+    #[rustfmt::skip]
+    pub fn bundle_digest(bundle: &[u8], out: &mut [u8]) -> u32 {
+        unsafe {
+            lubdhvani_bundle_digest(bundle.as_ptr(), bundle.len(), out.as_mut_ptr(), out.len())
+        }
+    }
+
+    /// The name itself, a part of the bundle; empty where the bytes are none.
+    pub fn bundle_name(bundle: &[u8]) -> &[u8] {
+        let (mut first, mut length) = (0, 0);
+        unsafe { lubdhvani_bundle_name(bundle.as_ptr(), bundle.len(), &mut first, &mut length) };
+        &bundle[first..first + length]
+    }
+
+    /// The rows of a character, a part of the bundle; empty where there are none.
+    #[rustfmt::skip]
+    pub fn bundle_rows(bundle: &[u8], character: u8) -> &[u8] {
+        let (mut first, mut length) = (0, 0);
+        unsafe {
+            lubdhvani_bundle_rows(bundle.as_ptr(), bundle.len(), character, &mut first, &mut length)
+        };
+        &bundle[first..first + length]
+    }
 }
 
 use lubdhvani::{Asked, Reading, ALL_WORK, OVER_WORK};
+use lubdhvani::{ALIKE, NO_BUNDLE};
 use lubdhvani::{
     BAD_SEAL, BAD_SHAPE, BAD_STUFFING, DONE, INSTANCE, NOT_TRADE, OTHER_FONT, UNLISTED,
 };
@@ -234,6 +296,28 @@ impl Checks {
         self.check(hex == expected, "its digest");
         let refused = lubdhvani::digest(11, &[], &mut digest);
         self.check(refused == (INSTANCE, 0), "there is no instance 11");
+    }
+
+    /// A bundle: made, judged, taken apart, digested.
+    fn bundle(&mut self) {
+        let mut rows: Vec<u8> = (0..126).map(|i| (11 * i % 127) as u8).collect();
+        let mut room = [0; 217];
+        let (number, length) = lubdhvani::bundle_write(b"sample", &rows, &mut room);
+        self.check(number == DONE && length == 191, "a bundle is written");
+        let bundle = &room[..length];
+        self.check(lubdhvani::bundle_read(bundle) == (DONE, 6), "and read");
+        self.check(lubdhvani::bundle_name(bundle) == b"sample", "its name");
+        let of_a = lubdhvani::bundle_rows(bundle, b'A');
+        self.check(of_a == &rows[90..99], "the rows of A");
+        let (mut digest, mut plain) = ([0; DIGEST], [0; DIGEST]);
+        let number = lubdhvani::bundle_digest(bundle, &mut digest);
+        lubdhvani::digest(1, bundle, &mut plain);
+        self.check(number == DONE && digest == plain, "its digest");
+        let short = lubdhvani::bundle_read(&bundle[1..]);
+        self.check(short == (NO_BUNDLE, 0), "a bundle cut short is none");
+        rows.copy_within(9..18, 117);
+        let (number, _) = lubdhvani::bundle_write(b"sample", &rows, &mut room);
+        self.check(number == ALIKE, "two glyphs with the same dots");
     }
 
     fn seal(&mut self, font: &[u8]) {
@@ -431,6 +515,7 @@ fn main() {
     checks.permutation();
     checks.digest();
     checks.seal(&font);
+    checks.bundle();
     let stream = checks.compose(&font);
     checks.press(&font, &stream);
     if checks.wrong > 0 {

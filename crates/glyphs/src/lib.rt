@@ -184,15 +184,15 @@ fn among_behind(b: &[u8], g: usize, from: usize, count: usize) -> bool
     let first = g + ROWS_AT;
     let end = g + GLYPH_FIELD;
     let mut at = from;
-    let mut left = count;
-    while left > 0 {
+    let mut others = count;
+    while others > 0 {
         let other = at + ROWS_AT;
         let next = at + GLYPH_FIELD;
         if lists::compare(&b[first..end], &b[other..next]) {
             return true;
         }
         at = next;
-        left -= 1;
+        others -= 1;
     }
     false
 }

@@ -10,3 +10,4 @@ pub mod Readings
 pub mod Resync
 pub mod Reaching
 pub mod Joining
+pub mod OtherFont

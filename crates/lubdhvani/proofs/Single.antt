@@ -21,6 +21,16 @@ use Rattle.lubdhvani.proofs.lubdhvani_unpermute.Kinds as unpermute-kind
 use Rattle.lubdhvani.proofs.lubdhvani_unpermute.Reads as unpermute-reads
 use Rattle.lubdhvani.proofs.lubdhvani_digest.Kinds as digest-kinds
 use Rattle.lubdhvani.proofs.lubdhvani_digest.Reads as digest-reads
+use Rattle.lubdhvani.proofs.lubdhvani_bundle_write.Kinds as bundle-write-kinds
+use Rattle.lubdhvani.proofs.lubdhvani_bundle_write.Reads as bundle-write-reads
+use Rattle.lubdhvani.proofs.lubdhvani_bundle_read.Kinds as bundle-read-kinds
+use Rattle.lubdhvani.proofs.lubdhvani_bundle_read.Reads as bundle-read-reads
+use Rattle.lubdhvani.proofs.lubdhvani_bundle_digest.Kinds as bundle-digest-kinds
+use Rattle.lubdhvani.proofs.lubdhvani_bundle_digest.Reads as bundle-digest-reads
+use Rattle.lubdhvani.proofs.lubdhvani_bundle_name.Kinds as bundle-name-kinds
+use Rattle.lubdhvani.proofs.lubdhvani_bundle_name.Reads as bundle-name-reads
+use Rattle.lubdhvani.proofs.lubdhvani_bundle_rows.Kinds as bundle-rows-kinds
+use Rattle.lubdhvani.proofs.lubdhvani_bundle_rows.Reads as bundle-rows-reads
 
 pub lubdhvani-permute-single : (κs : Lfts 1) (a : Dens κs permute-kinds.ps) (r r′ : ℕ)
     (x x′ : AtExit (endedOf 1 permute-kinds.ps permute-kinds.r) κs)
@@ -76,3 +86,35 @@ pub lubdhvani-read-single : (κs : Lfts 4) (a : Dens κs read-kinds.ps) (r r′ 
     → read-reads.Post κs a r x → read-reads.Post κs a r′ x′
     → (r ≡ r′) × (x .1 .1 .1 .1 .1 .0 .now ≡ x′ .1 .1 .1 .1 .1 .0 .now)
 lubdhvani-read-single κs a r r′ x x′ p q = (p .0 ∙ sym (q .0), p .1 ∙ sym (q .1))
+
+-- number, bundle and length
+pub lubdhvani-bundle-write-single : (κs : Lfts 4) (a : Dens κs bundle-write-kinds.ps) (r r′ : ℕ)
+    (x x′ : AtExit (endedOf 4 bundle-write-kinds.ps bundle-write-kinds.r) κs)
+    → bundle-write-reads.Post κs a r x → bundle-write-reads.Post κs a r′ x′
+    → (r ≡ r′) × (x .1 .1 .0 .now ≡ x′ .1 .1 .0 .now) × (x .1 .1 .1 .0 .now ≡ x′ .1 .1 .1 .0 .now)
+lubdhvani-bundle-write-single κs a r r′ x x′ p q = (p .0 ∙ sym (q .0), p .1 .0 ∙ sym (q .1 .0), p .1 .1 ∙ sym (q .1 .1))
+
+-- number and length
+pub lubdhvani-bundle-read-single : (κs : Lfts 2) (a : Dens κs bundle-read-kinds.ps) (r r′ : ℕ)
+    (x x′ : AtExit (endedOf 2 bundle-read-kinds.ps bundle-read-kinds.r) κs)
+    → bundle-read-reads.Post κs a r x → bundle-read-reads.Post κs a r′ x′ → (r ≡ r′) × (x .1 .0 .now ≡ x′ .1 .0 .now)
+lubdhvani-bundle-read-single κs a r r′ x x′ p q = (p .0 ∙ sym (q .0), p .1 ∙ sym (q .1))
+
+-- number and digest
+pub lubdhvani-bundle-digest-single : (κs : Lfts 2) (a : Dens κs bundle-digest-kinds.ps) (r r′ : ℕ)
+    (x x′ : AtExit (endedOf 2 bundle-digest-kinds.ps bundle-digest-kinds.r) κs)
+    → bundle-digest-reads.Post κs a r x → bundle-digest-reads.Post κs a r′ x′ → (r ≡ r′) × (x .1 .0 .now ≡ x′ .1 .0 .now)
+lubdhvani-bundle-digest-single κs a r r′ x x′ p q = (p .0 ∙ sym (q .0), p .1 ∙ sym (q .1))
+
+-- place and length
+pub lubdhvani-bundle-name-single : (κs : Lfts 3) (a : Dens κs bundle-name-kinds.ps) (r r′ : Unit {0})
+    (x x′ : AtExit (endedOf 3 bundle-name-kinds.ps bundle-name-kinds.r) κs)
+    → bundle-name-reads.Post κs a r x → bundle-name-reads.Post κs a r′ x′
+    → (x .1 .0 .now ≡ x′ .1 .0 .now) × (x .1 .1 .0 .now ≡ x′ .1 .1 .0 .now)
+lubdhvani-bundle-name-single κs a r r′ x x′ p q = (p .0 ∙ sym (q .0), p .1 ∙ sym (q .1))
+
+pub lubdhvani-bundle-rows-single : (κs : Lfts 3) (a : Dens κs bundle-rows-kinds.ps) (r r′ : Unit {0})
+    (x x′ : AtExit (endedOf 3 bundle-rows-kinds.ps bundle-rows-kinds.r) κs)
+    → bundle-rows-reads.Post κs a r x → bundle-rows-reads.Post κs a r′ x′
+    → (x .1 .1 .0 .now ≡ x′ .1 .1 .0 .now) × (x .1 .1 .1 .0 .now ≡ x′ .1 .1 .1 .0 .now)
+lubdhvani-bundle-rows-single κs a r r′ x x′ p q = (p .0 ∙ sym (q .0), p .1 ∙ sym (q .1))

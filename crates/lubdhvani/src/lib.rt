@@ -15,6 +15,8 @@ ghost use Rattle.frame.specs.Answers as writing;
 ghost use Rattle.framing.specs.Told.{told};
 ghost use Rattle.reader.specs.Answers.{readAnswer, readOut};
 ghost use Rattle.stream.specs.Stretches.{nextSpan};
+ghost use Rattle.glyphs.specs.Answers as judging;
+ghost use Rattle.bundling.specs.Answers as bundles;
 ghost use Rattle.lubdhvani.specs.Calls.{permuteNumber, permuteState};
 ghost use Rattle.lubdhvani.specs.Readings.{askedOf, readingOut};
 use gage::Answer;
@@ -215,4 +217,68 @@ pub extern "C" fn lubdhvani_read(
         number: read_number(answer),
         given: read_given(answer),
     }
+}
+
+// Writes the bundle of a name and rows.
+#[no_mangle]
+pub extern "C" fn lubdhvani_bundle_write(
+    name: &[u8],
+    rows: &[u8],
+    bundle: &mut [u8],
+    length: &mut usize,
+) -> u32
+    ensures { λ r. ⌜ r ≡ bundles.writeNumber (bundles.writeAnswer (now (name .entry)) (now (rows .entry)) (now (bundle .entry))) ⌝ }
+    ensures { λ _. ⌜ now (bundle .exit) ≡ bundles.writeOut (now (name .entry)) (now (rows .entry)) (now (bundle .entry)) ⌝ }
+    ensures { λ _. ⌜ now (length .exit) ≡ bundles.writeLength (bundles.writeAnswer (now (name .entry)) (now (rows .entry)) (now (bundle .entry))) ⌝ }
+{
+    let answer = bundling::write(name, rows, bundle);
+    *length = bundling::write_length(answer);
+    bundling::write_number(answer)
+}
+
+// Judges bytes as a bundle.
+#[no_mangle]
+pub extern "C" fn lubdhvani_bundle_read(bundle: &[u8], length: &mut usize) -> u32
+    ensures { λ r. ⌜ r ≡ judging.numberOf (judging.readAnswer (now (bundle .entry))) ⌝ }
+    ensures { λ _. ⌜ now (length .exit) ≡ judging.lengthOf (judging.readAnswer (now (bundle .entry))) ⌝ }
+{
+    let answer = glyphs::read(bundle);
+    *length = bundling::read_length(answer);
+    bundling::read_number(answer)
+}
+
+// The font digest of a bundle.
+#[no_mangle]
+pub extern "C" fn lubdhvani_bundle_digest(bundle: &[u8], out: &mut [u8]) -> u32
+    ensures { λ r. ⌜ r ≡ bundles.digestNumber (bundles.digestAnswer (now (bundle .entry)) (now (out .entry))) ⌝ }
+    ensures { λ _. ⌜ now (out .exit) ≡ bundles.digestOut (now (bundle .entry)) (now (out .entry)) ⌝ }
+{
+    bundling::digest_number(bundling::digest_of(bundle, out))
+}
+
+// Where the name of a bundle stands.
+#[no_mangle]
+pub extern "C" fn lubdhvani_bundle_name(bundle: &[u8], first: &mut usize, length: &mut usize)
+    ensures { λ _. ⌜ now (first .exit) ≡ bundles.namePart (now (bundle .entry)) .first ⌝ }
+    ensures { λ _. ⌜ now (length .exit) ≡ bundles.namePart (now (bundle .entry)) .length ⌝ }
+{
+    let part = bundling::name_part(bundle);
+    *first = part.first;
+    *length = part.length;
+}
+
+// Where the rows of a character stand in a bundle.
+#[no_mangle]
+pub extern "C" fn lubdhvani_bundle_rows(
+    bundle: &[u8],
+    character: u8,
+    first: &mut usize,
+    length: &mut usize,
+)
+    ensures { λ _. ⌜ now (first .exit) ≡ bundles.rowsPart (now (bundle .entry)) character .first ⌝ }
+    ensures { λ _. ⌜ now (length .exit) ≡ bundles.rowsPart (now (bundle .entry)) character .length ⌝ }
+{
+    let part = bundling::rows_part(bundle, character);
+    *first = part.first;
+    *length = part.length;
 }

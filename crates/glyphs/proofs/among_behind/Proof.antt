@@ -14,10 +14,10 @@ use Rattle.glyphs.proofs.among_behind.Statement.{statement}
 use Rattle.glyphs.proofs.among_behind.Tie as tie
 
 abbrev Inv-loop : tie.InvT-loop
-Inv-loop b g from count first end at₀ left₀ at left = (at + glyphField * left ≡ length b) × (among (take glyphRows (drop rowsAt (drop g b))) (glyphsAt left (drop at b)) ≡ among (take glyphRows (drop rowsAt (drop g b))) (glyphsAt count (drop from b)))
+Inv-loop b g from count first end at₀ others₀ at others = (at + glyphField * others ≡ length b) × (among (take glyphRows (drop rowsAt (drop g b))) (glyphsAt others (drop at b)) ≡ among (take glyphRows (drop rowsAt (drop g b))) (glyphsAt count (drop from b)))
 
 abbrev μ-loop : tie.MeasureT-loop
-μ-loop b g from count first end at₀ left₀ at left = left
+μ-loop b g from count first end at₀ others₀ at others = others
 
 add-first : tie.Need-add-first Inv-loop μ-loop
 add-first c = search needs
@@ -59,11 +59,11 @@ returns : tie.Need-returns Inv-loop μ-loop
 returns c =
     let l = c .before .before .before .before .before .loop in
     let s = c .before .before .before .before .before .before .before in
-    sym (among-here (take glyphRows (drop rowsAt (drop (s .args .g) (s .args .b .now)))) (s .args .b .now) (l .at) (l .left) (omega arith) (sym (cut-out (s .args .b .now) (s .args .g) (l .at)) ∙ sym (c .before .compare .ensures) ∙ c .if1 .taken))
+    sym (among-here (take glyphRows (drop rowsAt (drop (s .args .g) (s .args .b .now)))) (s .args .b .now) (l .at) (l .others) (omega arith) (sym (cut-out (s .args .b .now) (s .args .g) (l .at)) ∙ sym (c .before .compare .ensures) ∙ c .if1 .taken))
     ∙ l .inv .1
 
-sub-left : tie.Need-sub-left Inv-loop μ-loop
-sub-left c = search needs
+sub-others : tie.Need-sub-others Inv-loop μ-loop
+sub-others c = search needs
 
 loop-less : tie.Need-loop-less Inv-loop μ-loop
 loop-less c = search needs
@@ -73,7 +73,7 @@ loop-again c =
     let l = c .before .before .before .before .before .loop in
     let s = c .before .before .before .before .before .before .before in (
       omega arith,
-      sym (among-on (take glyphRows (drop rowsAt (drop (s .args .g) (s .args .b .now)))) (s .args .b .now) (l .at) (l .left) (omega arith) (sym (cut-out (s .args .b .now) (s .args .g) (l .at)) ∙ sym (c .before .compare .ensures) ∙ c .if1 .left))
+      sym (among-on (take glyphRows (drop rowsAt (drop (s .args .g) (s .args .b .now)))) (s .args .b .now) (l .at) (l .others) (omega arith) (sym (cut-out (s .args .b .now) (s .args .g) (l .at)) ∙ sym (c .before .compare .ensures) ∙ c .if1 .left))
           ∙ l .inv .1,
     )
 
@@ -81,7 +81,7 @@ returns-2 : tie.Need-returns-2 Inv-loop μ-loop
 returns-2 c =
     let l = c .before .loop in
     let s = c .before .before .before in
-    sym (among-end (take glyphRows (drop rowsAt (drop (s .args .g) (s .args .b .now)))) (s .args .b .now) (l .at) (l .left) (omega arith)) ∙ l .inv .1
+    sym (among-end (take glyphRows (drop rowsAt (drop (s .args .g) (s .args .b .now)))) (s .args .b .now) (l .at) (l .others) (omega arith)) ∙ l .inv .1
 
 pub among-behind-spec : {M : Type 1} → statement M
 among-behind-spec =
@@ -102,7 +102,7 @@ among-behind-spec =
     part-compare-end-2
     compare-requires
     returns
-    sub-left
+    sub-others
     loop-less
     loop-again
     returns-2)

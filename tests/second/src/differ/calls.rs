@@ -14,6 +14,11 @@ pub enum Call {
     Write,
     NextStretch,
     Read,
+    BundleWrite,
+    BundleRead,
+    BundleDigest,
+    BundleName,
+    BundleRows,
 }
 
 /// What the header says of a call. Buffers stand in the header's order; the
@@ -44,7 +49,7 @@ const fn permuting(call: Call, name: &'static str) -> Signature {
     }
 }
 
-pub static SIGNATURES: [Signature; 8] = [
+pub static SIGNATURES: [Signature; 13] = [
     permuting(Call::Permute, "lubdhvani_permute"),
     permuting(Call::Unpermute, "lubdhvani_unpermute"),
     Signature {
@@ -103,6 +108,51 @@ pub static SIGNATURES: [Signature; 8] = [
             "line", "end", "2", "3", "4", "10", "7", "6", "8", "15", "5", "9", "13",
         ],
     },
+    Signature {
+        call: Call::BundleWrite,
+        name: "lubdhvani_bundle_write",
+        number: None,
+        buffers: &["name", "rows", "bundle"],
+        written: 1,
+        outs: &["length"],
+        outcomes: &["0", "11", "12", "4"],
+    },
+    Signature {
+        call: Call::BundleRead,
+        name: "lubdhvani_bundle_read",
+        number: None,
+        buffers: &["bundle"],
+        written: 0,
+        outs: &["length"],
+        outcomes: &["0", "11", "12"],
+    },
+    Signature {
+        call: Call::BundleDigest,
+        name: "lubdhvani_bundle_digest",
+        number: None,
+        buffers: &["bundle", "out"],
+        written: 1,
+        outs: &[],
+        outcomes: &["0", "3", "11", "12", "4"],
+    },
+    Signature {
+        call: Call::BundleName,
+        name: "lubdhvani_bundle_name",
+        number: None,
+        buffers: &["bundle"],
+        written: 0,
+        outs: &["first", "length"],
+        outcomes: &["part", "none"],
+    },
+    Signature {
+        call: Call::BundleRows,
+        name: "lubdhvani_bundle_rows",
+        number: Some("character"),
+        buffers: &["bundle"],
+        written: 0,
+        outs: &["first", "length"],
+        outcomes: &["part", "none"],
+    },
 ];
 
 impl Call {
@@ -128,7 +178,7 @@ impl Buffer {
 
 pub struct Case {
     pub call: Call,
-    /// The instance or the place asked for; else 0.
+    /// The instance, the place or the character asked for; else 0.
     pub number: usize,
     /// What a reader is told anew.
     pub asked: Asked,
@@ -154,6 +204,9 @@ impl Answer {
         match (call, &self.outs[..]) {
             (Call::NextStretch, [first, closing]) if first < closing => "stretch".to_string(),
             (Call::NextStretch, _) => "none".to_string(),
+            (Call::BundleName, [_, length]) | (Call::BundleRows, [_, length]) => {
+                if *length > 0 { "part" } else { "none" }.to_string()
+            }
             (Call::Read, [.., given]) if *given > 0 => "line".to_string(),
             (Call::Read, _) if self.number == 0 => "end".to_string(),
             _ => self.number.to_string(),

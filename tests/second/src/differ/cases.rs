@@ -1,6 +1,7 @@
 //! Cases by chance: which call, and its arguments. Each argument alone is wrong
 //! rarely, so that many calls have none wrong and some have several.
 
+use crate::bundles::bundle_call;
 use crate::calls::{Buffer, Call, Case};
 use crate::memory::{Stand, SHIFTS, VAST, VAST_BYTES};
 use crate::stock::{line, spoil, stuffy, Stock};
@@ -34,7 +35,8 @@ pub fn case(chance: &mut Chance, stock: &Stock) -> Case {
             let stream = stream(chance, stock);
             (Call::NextStretch, place(chance, &stream), vec![stream])
         }
-        _ => read(chance, stock),
+        72..=91 => read(chance, stock),
+        _ => bundle_call(chance, room),
     };
     let buffers = contents
         .into_iter()

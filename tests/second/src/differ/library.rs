@@ -78,6 +78,35 @@ extern "C" {
         line: *mut u8,
         room: usize,
     ) -> Reading;
+    fn lubdhvani_bundle_write(
+        name: *const u8,
+        name_length: usize,
+        rows: *const u8,
+        rows_length: usize,
+        bundle: *mut u8,
+        room: usize,
+        length: *mut usize,
+    ) -> u32;
+    fn lubdhvani_bundle_read(bundle: *const u8, bundle_length: usize, length: *mut usize) -> u32;
+    fn lubdhvani_bundle_digest(
+        bundle: *const u8,
+        bundle_length: usize,
+        out: *mut u8,
+        room: usize,
+    ) -> u32;
+    fn lubdhvani_bundle_name(
+        bundle: *const u8,
+        bundle_length: usize,
+        first: *mut usize,
+        length: *mut usize,
+    );
+    fn lubdhvani_bundle_rows(
+        bundle: *const u8,
+        bundle_length: usize,
+        character: u8,
+        first: *mut usize,
+        length: *mut usize,
+    );
 }
 
 /// The structs of the header.
@@ -205,6 +234,28 @@ unsafe fn called(case: &Case, puts: &[Put], outs: &[*mut usize]) -> u32 {
             *calls = reading.calls;
             *given = reading.given as usize;
             reading.number
+        }
+        _ => bundle_called(case, puts, outs),
+    }
+}
+
+/// The calls of a bundle.
+unsafe fn bundle_called(case: &Case, puts: &[Put], outs: &[*mut usize]) -> u32 {
+    match (case.call, puts, outs) {
+        (Call::BundleWrite, [name, rows, bundle], &[length]) => {
+            call!(lubdhvani_bundle_write: [name, rows, bundle] (length))
+        }
+        (Call::BundleRead, [bundle], &[length]) => call!(lubdhvani_bundle_read: [bundle] (length)),
+        (Call::BundleDigest, [bundle, out], &[]) => {
+            call!(lubdhvani_bundle_digest: [bundle, out] ())
+        }
+        (Call::BundleName, [bundle], &[first, length]) => {
+            call!(lubdhvani_bundle_name: [bundle] (first, length));
+            0
+        }
+        (Call::BundleRows, [bundle], &[first, length]) => {
+            call!(lubdhvani_bundle_rows: [bundle] (case.number as u8, first, length));
+            0
         }
         _ => unreachable!("a case has its call's buffers"),
     }

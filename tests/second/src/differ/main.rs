@@ -1,6 +1,7 @@
 //! Calls the static library and the second program with the same arguments,
 //! chosen by chance, and compares all that each leaves behind.
 
+mod bundles;
 mod calls;
 mod cases;
 mod library;

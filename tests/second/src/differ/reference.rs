@@ -1,10 +1,12 @@
 //! A case answered by the second program.
 
+use std::ops::Range;
+
 use crate::calls::{Answer, Call, Case};
 use crate::memory::Ground;
 use second::numbers::DONE;
 use second::reader::{read, Told};
-use second::{cipher, digest, frame, permutation, stream};
+use second::{bundle, cipher, digest, frame, permutation, stream};
 
 pub fn answer(case: &Case, vast: &mut Ground) -> Answer {
     let mut own: Vec<Vec<u8>> = case.buffers.iter().map(|b| b.bytes.clone()).collect();
@@ -63,6 +65,25 @@ fn answered(case: &Case, lent: &mut [&mut [u8]]) -> (u32, Vec<usize>) {
             ];
             (reading.number.into(), outs)
         }
+        (_, lent) => bundle_answered(case, lent),
+    }
+}
+
+/// The calls of a bundle.
+fn bundle_answered(case: &Case, lent: &mut [&mut [u8]]) -> (u32, Vec<usize>) {
+    let placed = |part: Range<usize>| (0, vec![part.start, part.len()]);
+    match (case.call, lent) {
+        (Call::BundleWrite, [name, rows, out]) => {
+            let written = bundle::write(name, rows, out);
+            (written.number.into(), vec![written.length])
+        }
+        (Call::BundleRead, [bytes]) => {
+            let read = bundle::read(bytes);
+            (read.number.into(), vec![read.length])
+        }
+        (Call::BundleDigest, [bytes, out]) => (bundle::digest_of(bytes, out).into(), vec![]),
+        (Call::BundleName, [bytes]) => placed(bundle::name_at(bytes)),
+        (Call::BundleRows, [bytes]) => placed(bundle::rows_at(bytes, case.number as u8)),
         _ => unreachable!("a case has its call's buffers"),
     }
 }

@@ -2,6 +2,7 @@
 //! Where a test program reads cases, its standard input is made here too.
 
 mod beat;
+mod bundle;
 mod call;
 mod damage;
 mod digest;
@@ -45,10 +46,12 @@ impl Rows {
 }
 
 pub fn all() -> Vec<Rows> {
+    let (bundles, bundle_rows) = bundle::stdin_and_rows();
     let (digests, digest_rows) = digest::stdin_and_rows();
     let (sealings, seal_rows) = call::stdin_and_rows();
     let (readings, stream_rows) = stream::stdin_and_rows();
     vec![
+        Rows::of_cases("bundle_rows", bundles, bundle_rows),
         Rows::of_cases("digest_rows", digests, digest_rows),
         Rows::printed("permute_rows", permute::rows()),
         Rows::of_cases("seal_rows", sealings, seal_rows),

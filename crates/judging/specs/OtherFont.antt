@@ -1,0 +1,41 @@
+-- What stands between the marks of a frame that was written under one font digest is found sealed to another font (8) under any other digest: so
+-- too where the digests are those of two bundles. Assumes nothing.
+use mathlib.Core.Path.{_≡_, refl, ap, _∙_}
+use mathlib.Core.Bool.{Bool, true, false}
+use mathlib.Core.List.{List}
+use Prim.Native.Nat.{ℕ}
+use Rattle.lists.specs.Buffers.{same}
+use Rattle.lists.specs.Sameness.{same-eq}
+use Rattle.stuffing.specs.Stuffing.{stuffed}
+use Rattle.stuffing.specs.RoundTrip.{unstuff-stuff}
+use Rattle.stuffing.specs.GoodStuffing.{stuff-well}
+use Rattle.body.specs.Fields.{fieldsOf}
+use Rattle.body.specs.OneToOne.{fields-body}
+use Rattle.framing.specs.Told.{Told}
+use Rattle.framing.specs.Frames.{sealedLine, sealedBody, frameOf}
+use Rattle.framing.specs.Lengths.{Sealable, sealed-sized, stretch-within}
+use Rattle.framing.specs.OneToOne.{between, between-framed}
+use Rattle.judging.specs.Judged.{font}
+use Rattle.judging.specs.Judging.{judge}
+use Rattle.judging.specs.Cases.{Holds, judge-holds}
+
+differ : (a b : List ℕ) → (a ≡ b → ⊥) → same a b ≡ false
+differ a b n = go (same a b) refl
+  where
+    go : (t : Bool) → same a b ≡ t → t ≡ false
+    go true e = absurd (n (same-eq a b e))
+    go false e = refl
+
+module _ (t t′ : Told) (nonce line : List ℕ) (a : Sealable t nonce line) (other : t .font ≡ t′ .font → ⊥) where
+  holds : Holds (stuffed (sealedBody t nonce line)) nonce (t .font) (sealedLine t nonce line .text) (sealedLine t nonce line .seal)
+  unfolding sealedBody
+  holds = (
+    record { short = stretch-within a; well = stuff-well (sealedBody t nonce line) },
+    ap fieldsOf (unstuff-stuff (sealedBody t nonce line)) ∙ fields-body (sealed-sized a),
+  )
+
+  pub other-font-refused : judge t′ (between (frameOf t nonce line)) ≡ font
+  unfolding frameOf
+  other-font-refused =
+      ap (judge t′) (between-framed (sealedBody t nonce line))
+      ∙ judge-holds t′ (stuffed (sealedBody t nonce line)) holds ∙ rw (differ (t .font) (t′ .font) other)
