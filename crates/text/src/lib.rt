@@ -1,7 +1,7 @@
 // Hexadecimal text in lent buffers, for the programs: bytes to upper-case digits, and digits of either case to bytes.
 // The promises cite specs/Hex.antt.
 ghost use mathlib.Core.Path.{_≡_};
-ghost use Prim.Native.Nat.{_<_};
+ghost use Prim.Native.Nat.{_%_, _<_};
 ghost use Rattle.text.specs.Hex.{digit, hexLength, hexOut, valueOf};
 
 // What a character is as a hexadecimal digit.
@@ -16,6 +16,13 @@ fn digit_of(n: u8) -> u8
     ensures { λ r. ⌜ r ≡ digit n ⌝ }
 {
     if n < 10 { 0x30 + n } else { 0x37 + n }
+}
+
+// The upper-case digit of a number's last hexadecimal place.
+pub fn last_digit(n: u8) -> u8
+    ensures { λ r. ⌜ r ≡ digit (n % 16) ⌝ }
+{
+    digit_of(n % 16)
 }
 
 // Two digits for each byte at the start of out, for as many bytes as there is room; the number of digits.

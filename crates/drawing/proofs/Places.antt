@@ -1,0 +1,24 @@
+-- Each place of a line counts something, and each character ends at most one row. Assumes nothing.
+use mathlib.Core.Bool.{Bool, true, false, cond}
+use Prim.Native.Nat.{ℕ, _+_, _≤_, _<_}
+use native.Mathlib.Omega.{arith}
+use lib.Dec.{eqb, ltb, ltb→lt}
+use lib.ListN.{getD}
+use Rattle.lists.specs.Table.{at}
+use Rattle.drawing.specs.Drawing.{newline, weights, lineLength}
+use Rattle.drawing.specs.Making.{nextRow}
+
+some : ℕ → ℕ → Bool
+some m w = ltb 0 w
+
+pub weight-some : (m : ℕ) → m < lineLength → 0 < getD weights m 0
+unfolding some
+weight-some m h = ltb→lt 0 (getD weights m 0) (at some weights tt m h)
+
+-- the next row is at most one farther
+pub next-near : (row c : ℕ) → nextRow row c ≤ row + 1
+next-near row c = go (eqb c newline)
+  where
+    go : (t : Bool) → cond t (row + 1) row ≤ row + 1
+    go true = omega arith
+    go false = omega arith

@@ -1,0 +1,6 @@
+pub mod Drawing
+pub mod Answers
+pub mod Listed
+pub mod Showing
+pub mod Making
+pub mod Drawn
