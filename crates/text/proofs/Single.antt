@@ -1,4 +1,4 @@
--- The promises of `put_hex` and `value`, as the check reads them (`Post`), admit a single answer. Assumes nothing.
+-- The promises of `put_hex`, `last_digit` and `value`, as the check reads them (`Post`), admit a single answer. Assumes nothing.
 use mathlib.Core.Path.{_≡_, sym, _∙_}
 use Prim.Native.Nat.{ℕ}
 use contract.Lifetimes.{Lfts}
@@ -7,12 +7,18 @@ use borrow.Fn.Kinds.{Dens, endedOf}
 use Rattle.text.specs.declared.Digit.{Digit}
 use Rattle.text.proofs.put_hex.Kinds as put-kinds
 use Rattle.text.proofs.put_hex.Reads as put-reads
+use Rattle.text.proofs.last_digit.Kinds as last-kinds
+use Rattle.text.proofs.last_digit.Reads as last-reads
 use Rattle.text.proofs.value.Kinds as value-kinds
 use Rattle.text.proofs.value.Reads as value-reads
 
 pub put-hex-single : (κs : Lfts 2) (a : Dens κs put-kinds.ps) (r r′ : ℕ) (x x′ : AtExit (endedOf 2 put-kinds.ps put-kinds.r) κs)
     → put-reads.Post κs a r x → put-reads.Post κs a r′ x′ → (r ≡ r′) × (x .1 .0 .now ≡ x′ .1 .0 .now)
 put-hex-single κs a r r′ x x′ p q = (p .0 ∙ sym (q .0), p .1 ∙ sym (q .1))
+
+pub last-digit-single : (κs : Lfts 0) (a : Dens κs last-kinds.ps) (r r′ : ℕ) (x x′ : AtExit (endedOf 0 last-kinds.ps last-kinds.r) κs)
+    → last-reads.Post κs a r x → last-reads.Post κs a r′ x′ → r ≡ r′
+last-digit-single κs a r r′ x x′ p q = p ∙ sym q
 
 pub value-single : (κs : Lfts 0) (a : Dens κs value-kinds.ps) (r r′ : Digit) (x x′ : AtExit (endedOf 0 value-kinds.ps value-kinds.r) κs)
     → value-reads.Post κs a r x → value-reads.Post κs a r′ x′ → r ≡ r′
