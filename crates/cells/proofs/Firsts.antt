@@ -1,15 +1,16 @@
--- The first n bytes of a state, where n may be more than a state has. Assumes nothing.
-use mathlib.Core.Path.{_≡_, _∙_}
-use mathlib.Core.List.{List}
-use Prim.Native.Nat.{ℕ, min}
+-- The first n bytes of a state, where n may be more than a state has, and worked on in a wide one. Assumes nothing.
+use mathlib.Core.Path.{_≡_, ap, _∙_}
+use mathlib.Core.List.{List, _++_}
+use Prim.Native.Nat.{ℕ, _-_, _≤_, min}
 use native.Mathlib.Decide.{decLt}
 use native.Mathlib.Omega.{arith}
-use lib.ListN.{length, drop-of-length-le}
-use lib.Seq.{take-all}
+use lib.ListN.{length, take, drop, drop-of-length-le, length-take}
+use lib.Seq.{take-all, take-append-le, length-take-le}
+use Rattle.lists.specs.Buffers.{over, copied}
 use Rattle.cells.specs.Sizes.{LARGEST}
-use Rattle.cells.specs.Cells.{table, onFirst}
+use Rattle.cells.specs.Cells.{onFirst}
 
-first-within : (f : List ℕ → List ℕ) (n : ℕ) (s : List ℕ) → length s ≡ LARGEST → onFirst (min n LARGEST) f s ≡ onFirst n f s
+pub first-within : (f : List ℕ → List ℕ) (n : ℕ) (s : List ℕ) → length s ≡ LARGEST → onFirst (min n LARGEST) f s ≡ onFirst n f s
 first-within f n s e = elim (decLt LARGEST n) [
   | yes h ↦
       let m : min n LARGEST ≡ LARGEST = omega arith in
@@ -23,7 +24,18 @@ first-within f n s e = elim (decLt LARGEST n) [
   | no h ↦ let m : min n LARGEST ≡ n = omega arith in rw m
 ]
 
--- what a call by a table gives on as many bytes as there are is what the definition gives on the first n
-pub first-by : (f : List (List ℕ) → ℕ → List ℕ → List ℕ) (t : List (List ℕ)) (l n w : ℕ) (s r : List ℕ)
-    → t ≡ table → w ≡ min n LARGEST → length s ≡ LARGEST → r ≡ onFirst w (f t l) s → r ≡ onFirst n (f table l) s
-first-by f t l n w s r p q e h = rw (p, q) at h ∙ first-within (f table l) n s e
+-- m bytes of a state s copied to w, changed by f to those of out, and put back to r
+module _ (f : List ℕ → List ℕ) (keeps : (x : List ℕ) → length (f x) ≡ length x) (n m : ℕ) (s o : List ℕ) (long : length s ≡ LARGEST)
+    (room : LARGEST ≤ length o) (within : m ≡ min n LARGEST) where
+  put-back : over (f (take m s)) s ≡ onFirst m f s
+  put-back =
+      let l : m ≤ length s = omega arith in
+      ap (λ (k : ℕ). f (take m s) ++ drop k s) (keeps (take m s) ∙ length-take-le m s l)
+
+  pub put-first : (w out r : List ℕ) → w ≡ copied s o → take m out ≡ f (take m w) → r ≡ copied (take (m - 0) (drop 0 out)) s → r ≡ onFirst n f s
+  put-first w out r e h g =
+      let l : m ≤ length s = omega arith in
+      let k : m - 0 ≡ m = omega arith in
+      let same : take m w ≡ take m s = rw (e, take-all (length o) s (omega arith)) (take-append-le m s (drop (length s) o) l) in
+      let short : length (take m out) ≤ length s = rw h (omega (arith, keeps (take m w), length-take m w)) in
+      g ∙ rw (k, take-all (length s) (take m out) short, h, same) (put-back ∙ rw within (first-within f n s long))

@@ -1,4 +1,4 @@
-pub mod Sums
-pub mod Substituting
+pub mod Formula
+pub mod Restoring
 pub mod Firsts
 pub mod Single

@@ -1,95 +1,67 @@
-// GAGE's substitution over two-bit cells, a byte at a time, and its inverse (document 000, section 1.1.1; specs/Cells.antt).
-// The table of products is four rows of four, passed whole.
+// GAGE's substitution over two-bit cells and its inverse (document 000, section 1.1.1; specs/Cells.antt), by shifts, XOR and AND on the state's
+// bytes: nothing is looked up. The table of products stands beside the formula, which is held to it.
 ghost use mathlib.Core.Path.{_≡_};
-ghost use mathlib.Core.List.{_++_};
 ghost use Prim.Native.Nat.{_<_, _≤_, _%_, min};
-ghost use lib.ListN.{take, drop};
+ghost use lib.ListN.{take};
 ghost use Rattle.cells.specs.Sizes.{LARGEST};
-ghost use Rattle.cells.specs.Cells.{Closed, table, star, substitutedByte, substitute, restore, onFirst};
-ghost use Rattle.cells.specs.Rows.{Flat};
+ghost use Rattle.cells.specs.Cells.{table, star, substitutedByte, substitute, restore, onFirst};
+ghost use Rattle.cells.specs.Products.{hasProducts};
 
 // The largest permitted state, in bytes.
 pub const LARGEST: usize = 72;
 
+// The bytes that the machine works on at once, and the room of a wide state: six such words, so that whole words of the largest state, with what
+// the shuffle looks ahead, fit.
+const WORD: usize = 16;
+
+pub const WIDE: usize = 6 * WORD;
+
+// The lower bit of each of a byte's four cells.
+const LOWER: u8 = 0x55;
+
 // The table x * y (document 000, expression 1.1), rows first.
-const TABLE: [[u8; 4]; 4] = [[1, 0, 3, 2], [0, 2, 1, 3], [2, 3, 0, 1], [3, 1, 2, 0]];
+pub const TABLE: [[u8; 4]; 4] = [[1, 0, 3, 2], [0, 2, 1, 3], [2, 3, 0, 1], [3, 1, 2, 0]];
 
-// The table x * y.
-fn products() -> [[u8; 4]; 4]
-    ensures { λ r. ⌜ r ≡ table ⌝ }
+// x * y, by the two bits of each.
+fn star(x: u8, y: u8) -> u8
+    requires { ⌜ (x < 4) × (y < 4) ⌝ }
+    ensures { λ r. ⌜ (r ≡ star table x y) × (r < 4) ⌝ }
 {
-    TABLE
+    let x0 = x & 1;
+    let x1 = x >> 1;
+    let y0 = y & 1;
+    let y1 = y >> 1;
+    let d = (y0 ^ y1) & x0;
+    ((y1 ^ d ^ x1) << 1) ^ (y0 ^ d ^ x0 ^ x1 ^ 1)
 }
 
-// x * y.
-fn star(t: [[u8; 4]; 4], x: u8, y: u8) -> u8
-    requires { ⌜ (x < 4) × (y < 4) × Closed t ⌝ }
-    ensures { λ r. ⌜ (r ≡ star t x y) × (r < 4) ⌝ }
+// Whether a table, passed whole, has the sixteen products that the formula gives. Counters index it, never a state.
+pub fn has_products(t: [[u8; 4]; 4]) -> bool
+    ensures { λ r. ⌜ r ≡ hasProducts t ⌝ }
 {
-    t[x as usize][y as usize]
-}
-
-// The rows of a table one behind the other, so that a product of neighbouring cells is one look-up.
-fn flat(t: [[u8; 4]; 4]) -> [u8; 16]
-    requires { ⌜ t ≡ table ⌝ }
-    ensures { λ r. ⌜ Flat r ⌝ }
-{
-    let mut rows = [0u8; 16];
-    let mut i = 0;
+    let mut i: u8 = 0;
     while i < 16 {
-        rows[i] = t[i / 4][i % 4];
+        let x = i / 4;
+        let y = i % 4;
+        if t[x as usize][y as usize] != star(x, y) {
+            return false;
+        }
         i += 1;
     }
-    rows
+    true
 }
 
-// One byte of the substitution, after the cell p: the products of four pairs of neighbouring cells.
-fn substituted_byte(rows: [u8; 16], p: u8, b: u8) -> u8
-    requires { ⌜ (p < 4) × Flat rows ⌝ }
-    ensures { λ r. ⌜ r ≡ substitutedByte table p b ⌝ }
+// One byte of the substitution, after a byte whose last cell is the one before it: the products of four pairs of neighbouring cells at once.
+pub fn substituted_byte(p: u8, b: u8) -> u8
+    ensures { λ r. ⌜ r ≡ substitutedByte table (p % 4) b ⌝ }
 {
-    let l = p as usize;
-    let w = b as usize;
-    rows[l * 4 + w / 64] * 64 + rows[w / 16] * 16 + rows[w / 4 % 16] * 4 + rows[w % 16]
-}
-
-// The first n bytes of s substituted with a leader, by a table.
-fn substitute_by(t: [[u8; 4]; 4], s: [u8; LARGEST], n: usize, leader: u8) -> [u8; LARGEST]
-    requires { ⌜ (n ≤ LARGEST) × (leader < 4) × (t ≡ table) ⌝ }
-    ensures { λ r. ⌜ r ≡ substitute table leader (take n s) ++ drop n s ⌝ }
-{
-    let rows = flat(t);
-    let mut out = s;
-    let mut p = leader;
-    let mut i = 0;
-    while i < n {
-        let b = s[i];
-        out[i] = substituted_byte(rows, p, b);
-        p = b % 4;
-        i += 1;
-    }
-    out
-}
-
-// The first n bytes of s before a substitution with a leader, by a table: each cell from the one just recovered.
-fn restore_by(t: [[u8; 4]; 4], s: [u8; LARGEST], n: usize, leader: u8) -> [u8; LARGEST]
-    requires { ⌜ (n ≤ LARGEST) × (leader < 4) × Closed t ⌝ }
-    ensures { λ r. ⌜ r ≡ restore t leader (take n s) ++ drop n s ⌝ }
-{
-    let mut out = s;
-    let mut p = leader;
-    let mut i = 0;
-    while i < n {
-        let b = s[i];
-        let a = star(t, p, b / 64);
-        let c = star(t, a, b / 16 % 4);
-        let d = star(t, c, b / 4 % 4);
-        let e = star(t, d, b % 4);
-        out[i] = a * 64 + c * 16 + d * 4 + e;
-        p = e;
-        i += 1;
-    }
-    out
+    let x = (p << 6) ^ (b >> 2);
+    let x0 = x & LOWER;
+    let x1 = (x >> 1) & LOWER;
+    let y0 = b & LOWER;
+    let y1 = (b >> 1) & LOWER;
+    let d = (y0 ^ y1) & x0;
+    ((y1 ^ d ^ x1) << 1) ^ (y0 ^ d ^ x0 ^ x1 ^ LOWER)
 }
 
 // How many of a state's bytes are its first n.
@@ -102,16 +74,61 @@ fn within(n: usize) -> usize
     n
 }
 
+// The first n bytes of a wide state substituted with a leader; behind them whole words are worked on, whose bytes mean nothing.
+fn substitute_wide(w: [u8; WIDE], n: usize, leader: u8) -> [u8; WIDE]
+    requires { ⌜ n ≤ LARGEST ⌝ }
+    ensures { λ r. ⌜ take n r ≡ substitute table (leader % 4) (take n w) ⌝ }
+{
+    let end = (n + (WORD - 1)) / WORD * WORD;
+    let mut out = w;
+    let mut p = leader;
+    let mut i = 0;
+    while i < end {
+        let b = w[i];
+        out[i] = substituted_byte(p, b);
+        p = b;
+        i += 1;
+    }
+    out
+}
+
+// The first n bytes of s before a substitution with a leader: each cell from the one just recovered.
+fn restore_first(s: [u8; LARGEST], n: usize, leader: u8) -> [u8; LARGEST]
+    requires { ⌜ (n ≤ LARGEST) × (leader < 4) ⌝ }
+    ensures { λ r. ⌜ r ≡ onFirst n (restore table leader) s ⌝ }
+{
+    let mut out = s;
+    let mut p = leader;
+    let mut i = 0;
+    while i < n {
+        let b = s[i];
+        let a = star(p, b >> 6);
+        let c = star(a, (b >> 4) & 3);
+        let d = star(c, (b >> 2) & 3);
+        let e = star(d, b & 3);
+        out[i] = (a << 6) ^ (c << 4) ^ (d << 2) ^ e;
+        p = e;
+        i += 1;
+    }
+    out
+}
+
 // The substitution on the first n bytes of a state, with a leader mod 4.
 pub fn substitute(s: [u8; LARGEST], n: usize, leader: u8) -> [u8; LARGEST]
     ensures { λ r. ⌜ r ≡ onFirst n (substitute table (leader % 4)) s ⌝ }
 {
-    substitute_by(products(), s, within(n), leader % 4)
+    let first = within(n);
+    let mut w = [0u8; WIDE];
+    lists::copy(&s, &mut w);
+    let out = substitute_wide(w, first, leader);
+    let mut r = s;
+    lists::copy(&out[0..first], &mut r);
+    r
 }
 
 // Its inverse.
 pub fn restore(s: [u8; LARGEST], n: usize, leader: u8) -> [u8; LARGEST]
     ensures { λ r. ⌜ r ≡ onFirst n (restore table (leader % 4)) s ⌝ }
 {
-    restore_by(products(), s, within(n), leader % 4)
+    restore_first(s, within(n), leader & 3)
 }

@@ -1,24 +1,26 @@
 -- `restore` meets its promise: a leader mod 4 is a cell, and a state has no more bytes than the largest. Assumes nothing.
-use Rattle.cells.proofs.Firsts.{first-by}
-use Rattle.cells.specs.Cells.{restore}
-use Rattle.cells.specs.Quasigroup.{table-closed}
+use mathlib.Core.Path.{_≡_, _∙_}
+use Prim.Native.Nat.{_%_}
 use native.Mathlib.Omega.{arith}
+use lib.Bits.{bitAnd, and-mask, mask-lt}
+use Rattle.cells.specs.Cells.{table, restore}
+use Rattle.cells.proofs.Firsts.{first-within}
 use borrow.Author.Needs.{needs}
 use Rattle.cells.proofs.restore.Statement.{statement}
 use Rattle.cells.proofs.restore.Tie as tie
 
-products-requires : tie.Need-products-requires
-products-requires c κs = search needs
-
 within-requires : tie.Need-within-requires
 within-requires c κs = search needs
 
-restore-by-requires : tie.Need-restore-by-requires
-restore-by-requires c κs = (omega (arith, c .within .ensures), omega arith, rw (c .before .products .ensures) table-closed)
+restore-first-requires : tie.Need-restore-first-requires
+restore-first-requires c κs = (omega (arith, c .within .ensures), mask-lt (c .before .args .leader) 2)
 
 returns : tie.Need-returns
 returns c =
-    first-by restore _ _ _ _ _ _ (c .before .before .products .ensures) (c .before .within .ensures) (search needs) (c .restore-by .ensures)
+    let leader = c .before .before .args .leader in
+    let e : bitAnd leader 3 ≡ leader % 4 = and-mask leader 2 in
+    rw (e, c .before .within .ensures) at (c .restore-first .ensures)
+    ∙ first-within (restore table (leader % 4)) (c .before .before .args .n) _ (search needs)
 
 pub restore-spec : {M : Type 1} → statement M
-restore-spec = tie.close (tie.spec products-requires within-requires restore-by-requires returns)
+restore-spec = tie.close (tie.spec within-requires restore-first-requires returns)

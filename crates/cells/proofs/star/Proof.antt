@@ -1,19 +1,18 @@
--- `star` meets its promise: the table's entry, and below 4 because every product is a cell. Assumes nothing.
+-- `star` meets its promise: the formula gives the table's product (`product-is`). Assumes nothing.
+use mathlib.Core.Path.{sym, subst}
+use Prim.Native.Nat.{ℕ, _<_}
+use Rattle.cells.specs.Quasigroup.{table-closed}
+use Rattle.cells.proofs.Formula.{product, product-is}
+use native.Mathlib.Omega.{arith}
 use borrow.Author.Needs.{needs}
 use Rattle.cells.proofs.star.Statement.{statement}
 use Rattle.cells.proofs.star.Tie as tie
 
-mul-result : tie.Need-mul-result
-mul-result c = search needs
-
-index-1-result : tie.Need-index-1-result
-index-1-result c = search needs
-
-index-2-result : tie.Need-index-2-result
-index-2-result c = search needs
-
 returns : tie.Need-returns
-returns c = (search needs, c .before .pre .2 .below _ _)
+unfolding product
+returns c =
+    let e = product-is (c .args .x) (c .args .y) (c .pre .0) (c .pre .1) in
+    (e, subst (λ (z : ℕ). z < 4) (sym e) (table-closed .below (c .args .x) (c .args .y)))
 
 pub star-spec : {M : Type 1} → statement M
-star-spec = tie.close (tie.spec mul-result index-1-result index-2-result returns)
+star-spec = tie.close (tie.spec returns)
