@@ -1,6 +1,7 @@
 // GAGE's substitution over two-bit cells and its inverse (document 000, section 1.1.1; specs/Cells.antt), by shifts, XOR and AND on the state's
 // bytes: nothing is looked up. The table of products stands beside the formula, which is held to it.
 ghost use mathlib.Core.Path.{_≡_};
+ghost use mathlib.Core.Bool.{true};
 ghost use Prim.Native.Nat.{_<_, _≤_, _%_, min};
 ghost use lib.ListN.{take};
 ghost use Rattle.cells.specs.Sizes.{LARGEST};
@@ -20,7 +21,7 @@ pub const WIDE: usize = 6 * WORD;
 const LOWER: u8 = 0x55;
 
 // The table x * y (document 000, expression 1.1), rows first.
-pub const TABLE: [[u8; 4]; 4] = [[1, 0, 3, 2], [0, 2, 1, 3], [2, 3, 0, 1], [3, 1, 2, 0]];
+const TABLE: [[u8; 4]; 4] = [[1, 0, 3, 2], [0, 2, 1, 3], [2, 3, 0, 1], [3, 1, 2, 0]];
 
 // x * y, by the two bits of each.
 fn star(x: u8, y: u8) -> u8
@@ -36,7 +37,7 @@ fn star(x: u8, y: u8) -> u8
 }
 
 // Whether a table, passed whole, has the sixteen products that the formula gives. Counters index it, never a state.
-pub fn has_products(t: [[u8; 4]; 4]) -> bool
+fn has_products(t: [[u8; 4]; 4]) -> bool
     ensures { λ r. ⌜ r ≡ hasProducts t ⌝ }
 {
     let mut i: u8 = 0;
@@ -49,6 +50,13 @@ pub fn has_products(t: [[u8; 4]; 4]) -> bool
         i += 1;
     }
     true
+}
+
+// Whether the table of products has them: it does.
+pub fn table_holds() -> bool
+    ensures { λ r. ⌜ r ≡ true ⌝ }
+{
+    has_products(TABLE)
 }
 
 // One byte of the substitution, after a byte whose last cell is the one before it: the products of four pairs of neighbouring cells at once.

@@ -1,12 +1,15 @@
 // GAGE's round permutation and its inverse, on a state by value with its size in bytes (document 000, section 1.1; document
-// 01, 'The permutation'). Substitution and shuffle are crates of their own; the promises cite specs/Permutation.antt.
+// 01, 'The permutation'). Substitution and shuffle are crates of their own, and a turn of both is in wide.rt; the promises cite
+// specs/Permutation.antt.
+use cells::WIDE;
+mod wide;
 ghost use mathlib.Core.Path.{_≡_};
 ghost use mathlib.Core.List.{_++_};
 ghost use Prim.Native.Nat.{_/_, _<_, _≤_};
 ghost use lib.ListN.{getD, take, drop};
 ghost use Rattle.cells.specs.Sizes.{LARGEST};
 ghost use Rattle.shuffling.specs.Sizes.{SMALLEST};
-ghost use Rattle.gage.specs.Permutation.{ROUNDS, leaders, numberOf, permitted, permute, unpermute, answered};
+ghost use Rattle.gage.specs.Permutation.{ROUNDS, leaders, turns, numberOf, permitted, permute, unpermute, answered};
 
 // The largest permitted state, in bytes.
 pub const LARGEST: usize = cells::LARGEST;
@@ -98,19 +101,39 @@ fn is_permitted(n: usize) -> bool
     false
 }
 
+// The turns of the first k rounds on the first n bytes of a wide state, after the first substitution: two arrays in turn.
+fn turns(w: [u8; WIDE], n: usize, k: usize) -> [u8; WIDE]
+    requires { ⌜ (SMALLEST ≤ n) × (n ≤ LARGEST) × (1 ≤ k) × (k ≤ ROUNDS) ⌝ }
+    ensures { λ r. ⌜ take n r ≡ turns (drop 1 (take k leaders)) (take n w) ⌝ }
+{
+    let leaders = LEADERS;
+    let mut a = w;
+    let mut b = [0u8; WIDE];
+    let mut i = 1;
+    while i + 1 < k {
+        wide::turn(&mut a, &mut b, n, leaders[i]);
+        wide::turn(&mut b, &mut a, n, leaders[i + 1]);
+        i += 2;
+    }
+    if i < k {
+        wide::turn(&mut a, &mut b, n, leaders[i]);
+        return b;
+    }
+    a
+}
+
 // The first k rounds of the permutation on the first n bytes of s.
 fn turned(s: [u8; LARGEST], n: usize, k: usize) -> [u8; LARGEST]
     requires { ⌜ (SMALLEST ≤ n) × (n ≤ LARGEST) × (1 ≤ k) × (k ≤ ROUNDS) ⌝ }
     ensures { λ r. ⌜ r ≡ permute k (take n s) ++ drop n s ⌝ }
 {
-    let mut a = cells::substitute(s, n, leader(0));
-    let mut i = 1;
-    while i < k {
-        let b = shuffling::shuffle(a, n);
-        a = cells::substitute(b, n, leader(i));
-        i += 1;
-    }
-    a
+    let first = cells::substitute(s, n, leader(0));
+    let mut w = [0u8; WIDE];
+    lists::copy(&first, &mut w);
+    let done = turns(w, n, k);
+    let mut r = s;
+    lists::copy(&done[0..n], &mut r);
+    r
 }
 
 // The first n bytes of s before k rounds of the permutation.

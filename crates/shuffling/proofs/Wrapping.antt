@@ -1,4 +1,4 @@
--- The shuffle and its inverse by a state with seven bytes wrapped around it. Assumes nothing.
+-- The inverse of the shuffle by a state with seven bytes wrapped around it. Assumes nothing.
 use mathlib.Core.Path.{_≡_, refl, sym, ap, _∙_}
 use mathlib.Core.List.{List, [], _∷_, _++_}
 use Prim.Native.Nat.{ℕ, _+_, _-_, _/_, _^_, _≤_, _<_, _%_}
@@ -12,9 +12,9 @@ use Rattle.lists.specs.Fill.{Filled, filled-more, filled-all}
 use Rattle.lists.specs.Upto.{Upto}
 use Rattle.cells.specs.Sizes.{LARGEST}
 use Rattle.shuffling.specs.Sizes.{SMALLEST, WRAPPED}
-use Rattle.shuffling.specs.Shuffling.{bit, element, source, weights, origins, gathered, returned, Joined, shuffledByte, shuffle, unshuffledByte, unshuffle}
+use Rattle.shuffling.specs.Shuffling.{source, weights, origins, returned, Joined, unshuffledByte, unshuffle}
 use Rattle.shuffling.specs.Bits.{eight, weighed-by}
-use Rattle.shuffling.specs.States.{length-shuffle, length-unshuffle, shuffle-at, unshuffle-at}
+use Rattle.shuffling.specs.States.{length-unshuffle, unshuffle-at}
 
 -- a join after i turns
 pub record Joining (e : List ℕ) (place : ℕ) (s : List ℕ) (from count : ℕ) (r : List ℕ) (i : ℕ) : Type 0 where
@@ -88,13 +88,7 @@ module _ (s : List ℕ) (n : ℕ) (fits : n ≤ length s) (wide : SMALLEST ≤ n
   long : length (take n s) ≡ n
   long = length-take-le n s fits
 
-  -- what stands in the state before the seven wrapped bytes came behind it, or before it
-  ahead : (e : List ℕ) → Upto (λ k. getD s ((k + 0) % n) 0) e (n + 7) → (i j : ℕ) → i < n → j < 8
-      → getD e (i + j) 0 ≡ getD (take n s) ((i + j) % length (take n s)) 0
-  ahead e u i j h g =
-      let p : (i + j) % n < n = mod-lt (i + j) (omega arith) in
-      u .at (i + j) (omega arith) ∙ rw (add-zero, long) (sym (getD-take n s ((i + j) % n) 0 p))
-
+  -- what stood in the state before the seven wrapped bytes came before it
   behind : (e : List ℕ) → Upto (λ k. getD s ((k + (n - 7)) % n) 0) e (n + 7) → (i j : ℕ) → i < n → j < 8
       → getD e (i + (7 - j)) 0 ≡ getD (take n s) ((i + (length (take n s) - j)) % length (take n s)) 0
   behind e u i j h g =
@@ -102,15 +96,7 @@ module _ (s : List ℕ) (n : ℕ) (fits : n ≤ length s) (wide : SMALLEST ≤ n
       let q : i + (7 - j) + (n - 7) ≡ i + (n - j) = omega arith in
       u .at (i + (7 - j)) (omega arith) ∙ rw (q, long) (sym (getD-take n s ((i + (n - j)) % n) 0 p))
 
-  -- the gathered byte
-  gathered-is : (e : List ℕ) (i : ℕ) → Upto (λ k. getD s ((k + 0) % n) 0) e (n + 7) → i < n
-      → (xs : List ℕ) → ((j : ℕ) → j < 8 → getD xs j 0 ≡ getD e (i + j) 0) → gathered xs ≡ getD (shuffle (take n s)) i 0
-  unfolding gathered shuffledByte
-  gathered-is e i u h xs w =
-      weighed-by (λ j. bit (7 - j) (getD xs j 0)) (element (take n s) i) 0 weights
-      (λ j g. rw zero-add (ap (bit (7 - j)) (w j g ∙ ahead e u i j h g)))
-      ∙ sym (shuffle-at (take n s) i (rw long h))
-
+  -- the byte given back
   returned-is : (e : List ℕ) (i : ℕ) → Upto (λ k. getD s ((k + (n - 7)) % n) 0) e (n + 7) → i < n
       → (xs : List ℕ) → ((j : ℕ) → j < 8 → getD xs j 0 ≡ getD e (i + (7 - j)) 0) → returned xs ≡ getD (unshuffle (take n s)) i 0
   unfolding returned unshuffledByte
@@ -119,25 +105,10 @@ module _ (s : List ℕ) (n : ℕ) (fits : n ≤ length s) (wide : SMALLEST ≤ n
       (λ j g. rw zero-add (ap (λ (x : ℕ). x / getD weights j 1 % 2) (w j g ∙ behind e u i j h g)))
       ∙ sym (unshuffle-at (take n s) i (rw long h))
 
-  pub shuffle-long : length (shuffle (take n s)) ≡ n
-  shuffle-long = length-shuffle (take n s) ∙ long
-
   pub unshuffle-long : length (unshuffle (take n s)) ≡ n
   unshuffle-long = length-unshuffle (take n s) ∙ long
 
   -- one byte more
-  pub shuffle-more : (e out : List ℕ) (i v : ℕ) → Upto (λ k. getD s ((k + 0) % n) 0) e (n + 7)
-      → Filled (shuffle (take n s)) s out i → i < n
-      → v ≡ gathered (getD e i 0 ∷ getD e (i + 1) 0 ∷ getD e (i + 2) 0 ∷ getD e (i + 3) 0 ∷ getD e (i + 4) 0 ∷ getD e (i + 5) 0 ∷ getD e (i + 6) 0 ∷ getD e (i + 7) 0 ∷ [])
-      → Filled (shuffle (take n s)) s (set out i v) (i + 1)
-  shuffle-more e out i v u f h w =
-      filled-more v f (rw shuffle-long h)
-      (w
-      ∙ gathered-is e i u h (getD e i 0 ∷ getD e (i + 1) 0 ∷ getD e (i + 2) 0 ∷ getD e (i + 3) 0 ∷ getD e (i + 4) 0 ∷ getD e (i + 5) 0 ∷ getD e (i + 6) 0 ∷ getD e (i + 7) 0 ∷ [])
-      (eight
-      (λ j. getD (getD e i 0 ∷ getD e (i + 1) 0 ∷ getD e (i + 2) 0 ∷ getD e (i + 3) 0 ∷ getD e (i + 4) 0 ∷ getD e (i + 5) 0 ∷ getD e (i + 6) 0 ∷ getD e (i + 7) 0 ∷ []) j 0 ≡ getD e (i + j) 0)
-      (rw add-zero) refl refl refl refl refl refl refl))
-
   pub unshuffle-more : (e out : List ℕ) (i v : ℕ) → Upto (λ k. getD s ((k + (n - 7)) % n) 0) e (n + 7)
       → Filled (unshuffle (take n s)) s out i → i < n
       → v ≡ returned (getD e (i + 7) 0 ∷ getD e (i + 6) 0 ∷ getD e (i + 5) 0 ∷ getD e (i + 4) 0 ∷ getD e (i + 3) 0 ∷ getD e (i + 2) 0 ∷ getD e (i + 1) 0 ∷ getD e i 0 ∷ [])
@@ -149,9 +120,6 @@ module _ (s : List ℕ) (n : ℕ) (fits : n ≤ length s) (wide : SMALLEST ≤ n
       (eight
       (λ j. getD (getD e (i + 7) 0 ∷ getD e (i + 6) 0 ∷ getD e (i + 5) 0 ∷ getD e (i + 4) 0 ∷ getD e (i + 3) 0 ∷ getD e (i + 2) 0 ∷ getD e (i + 1) 0 ∷ getD e i 0 ∷ []) j 0 ≡ getD e (i + (7 - j)) 0)
       refl refl refl refl refl refl refl (rw add-zero)))
-
-  pub shuffle-all : (out : List ℕ) (i : ℕ) → Filled (shuffle (take n s)) s out i → n ≤ i → out ≡ shuffle (take n s) ++ drop n s
-  shuffle-all out i f h = filled-all f (rw shuffle-long h) ∙ rw shuffle-long
 
   pub unshuffle-all : (out : List ℕ) (i : ℕ) → Filled (unshuffle (take n s)) s out i → n ≤ i → out ≡ unshuffle (take n s) ++ drop n s
   unshuffle-all out i f h = filled-all f (rw unshuffle-long h) ∙ rw unshuffle-long

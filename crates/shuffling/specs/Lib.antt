@@ -5,4 +5,5 @@ pub mod Places
 pub mod Tables
 pub mod Bits
 pub mod States
+pub mod Wrapped
 pub mod Inverse

@@ -1,5 +1,5 @@
-// GAGE's bit shuffling and its inverse (document 000, section 1.1.1; specs/Shuffling.antt). The state is first copied with seven bytes wrapped around, so that
-// no loop divides by the size; where an element goes is read from the table of places.
+// GAGE's bit shuffling, a byte at a time, and its inverse (document 000, section 1.1.1; specs/Shuffling.antt). For the inverse the state is first
+// copied with seven bytes wrapped around, so that no loop divides by the size; where an element goes is read from the table of places.
 use cells::LARGEST;
 ghost use mathlib.Core.Path.{_≡_};
 ghost use mathlib.Core.List.{[], _∷_, _++_};
@@ -8,7 +8,7 @@ ghost use lib.ListN.{getD, take, drop};
 ghost use Rattle.lists.specs.Upto.{Upto};
 ghost use Rattle.cells.specs.Sizes.{LARGEST};
 ghost use Rattle.shuffling.specs.Sizes.{AHEAD, WRAPPED, SMALLEST};
-ghost use Rattle.shuffling.specs.Shuffling.{gathered, returned, Joined, shuffle, unshuffle};
+ghost use Rattle.shuffling.specs.Shuffling.{gathered, returned, Joined, unshuffle};
 ghost use Rattle.cells.specs.Cells.{onFirst};
 ghost use Rattle.shuffling.specs.Widths.{wide, whereWide};
 
@@ -43,8 +43,8 @@ const WRAPPED: usize = LARGEST + AHEAD + 1;
 // The smallest state whose elements all come from different bytes.
 const SMALLEST: usize = AHEAD + 1;
 
-// The byte of eight elements, one from each of eight bytes, at their places.
-fn gather(a: u8, b: u8, c: u8, d: u8, e: u8, f: u8, g: u8, h: u8) -> u8
+// The byte of eight elements, one from each of eight bytes, at their places: one byte of the shuffle.
+pub fn gather(a: u8, b: u8, c: u8, d: u8, e: u8, f: u8, g: u8, h: u8) -> u8
     ensures { λ r. ⌜ r ≡ gathered (a ∷ b ∷ c ∷ d ∷ e ∷ f ∷ g ∷ h ∷ []) ⌝ }
 {
     a % 2 * WEIGHT_1
@@ -94,30 +94,6 @@ fn wrapped(s: [u8; LARGEST], n: usize, from: usize) -> [u8; WRAPPED]
     join(e, n - from, s, 0, from + AHEAD)
 }
 
-// The first n bytes of s shuffled.
-fn shuffle_wrapped(s: [u8; LARGEST], n: usize) -> [u8; LARGEST]
-    requires { ⌜ (SMALLEST ≤ n) × (n ≤ LARGEST) ⌝ }
-    ensures { λ r. ⌜ r ≡ shuffle (take n s) ++ drop n s ⌝ }
-{
-    let e = wrapped(s, n, 0);
-    let mut out = s;
-    let mut i = 0;
-    while i < n {
-        out[i] = gather(
-            e[i],
-            e[i + 1],
-            e[i + 2],
-            e[i + 3],
-            e[i + 4],
-            e[i + 5],
-            e[i + 6],
-            e[i + 7],
-        );
-        i += 1;
-    }
-    out
-}
-
 // The first n bytes of s before a shuffle.
 fn unshuffle_wrapped(s: [u8; LARGEST], n: usize) -> [u8; LARGEST]
     requires { ⌜ (SMALLEST ≤ n) × (n ≤ LARGEST) ⌝ }
@@ -142,7 +118,7 @@ fn unshuffle_wrapped(s: [u8; LARGEST], n: usize) -> [u8; LARGEST]
     out
 }
 
-// Whether a state of n bytes is shuffled.
+// Whether a state of n bytes is one that is shuffled.
 fn is_wide(n: usize) -> bool
     ensures { λ r. ⌜ r ≡ wide n ⌝ }
 {
@@ -152,14 +128,7 @@ fn is_wide(n: usize) -> bool
     n <= LARGEST
 }
 
-// The first n bytes of a state shuffled, where a state may have as many; else it stays.
-pub fn shuffle(s: [u8; LARGEST], n: usize) -> [u8; LARGEST]
-    ensures { λ r. ⌜ r ≡ whereWide n (onFirst n shuffle s) s ⌝ }
-{
-    if is_wide(n) { shuffle_wrapped(s, n) } else { s }
-}
-
-// Its inverse.
+// The first n bytes of a state before a shuffle, where a state may have as many; else it stays.
 pub fn unshuffle(s: [u8; LARGEST], n: usize) -> [u8; LARGEST]
     ensures { λ r. ⌜ r ≡ whereWide n (onFirst n unshuffle s) s ⌝ }
 {
