@@ -29,12 +29,13 @@ pub record Substituting (l : ℕ) (y : ℕ → ℕ) (out : List ℕ) (p i : ℕ)
 pub substituting-none : (y : ℕ → ℕ) (out : List ℕ) (p : ℕ) → Substituting (p % 4) y out p 0
 substituting-none y out p = record { last = refl; done = upto-none _ out }
 
-pub substituting-more : {l : ℕ} {y : ℕ → ℕ} {out : List ℕ} {p i : ℕ} (v : ℕ) → Substituting l y out p i → i < length out
-    → v ≡ substitutedByte table (p % 4) (y i) → Substituting l y (set out i v) (y i) (i + 1)
+-- one more byte, b
+pub substituting-more : {l : ℕ} {y : ℕ → ℕ} {out : List ℕ} {p i : ℕ} (b v : ℕ) → Substituting l y out p i → i < length out → b ≡ y i
+    → v ≡ substitutedByte table (p % 4) b → Substituting l y (set out i v) b (i + 1)
 unfolding substitutedAt
-substituting-more {l} {y} {out} {p} {i} v inv h e = record {
-  last = rw add-one;
-  done = upto-more (substitutedAt l y) out i v (i + 1) (inv .done) h (e ∙ rw (inv .last)) refl;
+substituting-more {l} {y} {out} {p} {i} b v inv h same e = record {
+  last = rw (add-one, same);
+  done = upto-more (substitutedAt l y) out i v (i + 1) (inv .done) h (e ∙ rw (same, inv .last)) refl;
 }
 
 substitute-at : (l : ℕ) (s : List ℕ) (i : ℕ) → i < length s

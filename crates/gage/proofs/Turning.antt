@@ -1,4 +1,4 @@
--- The loops of the permutation and of its inverse: which turns are left. Assumes nothing.
+-- The loop of the inverse: which turns are left. Assumes nothing.
 use mathlib.Core.Path.{_≡_, refl, sym, ap, _∙_}
 use mathlib.Core.List.{List, _∷_, _++_}
 use Prim.Native.Nat.{ℕ, suc, _+_, _-_, _%_, _≤_, _<_}
@@ -8,11 +8,11 @@ use native.Mathlib.Omega.{arith}
 use lib.ListN.{length, getD, take, drop, take-append-drop, drop-of-length-le}
 use lib.Seq.{length-take-le, take-at, drop-at, drop-cons}
 use Rattle.cells.specs.Sizes.{LARGEST}
-use Rattle.cells.specs.Cells.{table, substitute, restore, onFirst}
+use Rattle.cells.specs.Cells.{table, restore, onFirst}
 use Rattle.shuffling.specs.Sizes.{SMALLEST}
-use Rattle.shuffling.specs.Shuffling.{shuffle, unshuffle}
+use Rattle.shuffling.specs.Shuffling.{unshuffle}
 use Rattle.shuffling.specs.Widths.{whereWide, where-wide}
-use Rattle.gage.specs.Permutation.{turns, permuteBy, unturns, unpermuteBy}
+use Rattle.gage.specs.Permutation.{unturns, unpermuteBy}
 
 -- b is a state a whose first n bytes were changed by f
 pub record Changed (f : List ℕ → List ℕ) (n : ℕ) (a b : List ℕ) : Type 0 where
@@ -40,37 +40,6 @@ by-width f keeps n a b w x h e g = changed f keeps n a b h (e ∙ where-wide n (
 -- and back
 pub whole : {f : List ℕ → List ℕ} {n : ℕ} {a b : List ℕ} → Changed f n a b → b ≡ f (take n a) ++ drop n a
 whole {f} {n} {a} {b} c = sym (take-append-drop n b) ∙ rw (c .first, c .rest)
-
--- before turn i the turns left are those of the leaders from i on; a₀ is the state after the first substitution
-pub record Left (ls : List ℕ) (n : ℕ) (a₀ a : List ℕ) (i : ℕ) : Type 0 where
-  pub begun : 1 ≤ i
-  pub turn : i ≤ length ls
-  pub fits : n ≤ length a
-  pub same : turns (drop i ls) (take n a) ≡ turns (drop 1 ls) (take n a₀)
-  pub rest : drop n a ≡ drop n a₀
-
-pub left-more : {ls a₀ a : List ℕ} {n i : ℕ} (l : ℕ) (b v : List ℕ) → Left ls n a₀ a i → i < length ls → l ≡ getD ls i 0
-    → Changed shuffle n a b → Changed (substitute table l) n b v → Left ls n a₀ v (i + 1)
-unfolding turns
-left-more {ls} {a₀} {a} {n} {i} l b v inv h w p q =
-    record {
-      begun = omega arith;
-      turn = omega arith;
-      fits = q .long;
-      same = rw (add-one, q .first, p .first, w) (sym (ap (λ (r : List ℕ). turns r (take n a)) (drop-cons ls i 0 h)) ∙ inv .same);
-      rest = q .rest ∙ p .rest ∙ inv .rest;
-    }
-
--- after the last
-pub left-none : {ls a₀ a : List ℕ} {n i : ℕ} (l : ℕ) (s : List ℕ) → Left ls n a₀ a i → length ls ≤ i → 0 < length ls
-    → l ≡ getD ls 0 0 → Changed (substitute table l) n s a₀ → a ≡ permuteBy ls (take n s) ++ drop n s
-unfolding turns permuteBy
-left-none {ls} {a₀} {a} {n} {i} l s inv h g w p =
-    let done : take n a ≡ turns (drop 1 ls) (substitute table l (take n s)) =
-    sym (ap (λ (x : List ℕ). turns x (take n a)) (drop-of-length-le ls h)) ∙ inv .same ∙ ap (turns (drop 1 ls)) (p .first) in
-    let from-first : permuteBy ls (take n s) ≡ turns (drop 1 ls) (substitute table l (take n s)) =
-    ap (λ (x : List ℕ). permuteBy x (take n s)) (drop-cons ls 0 0 g) ∙ rw w in
-    sym (take-append-drop n a) ∙ rw (done, inv .rest, p .rest, from-first)
 
 -- of the inverse: the turns of the leaders from i on are undone
 pub record Undone (ls : List ℕ) (n : ℕ) (s a : List ℕ) (i : ℕ) : Type 0 where

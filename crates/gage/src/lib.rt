@@ -2,7 +2,9 @@
 // 01, 'The permutation'). Substitution and shuffle are crates of their own, and a turn of both is in wide.rt; the promises cite
 // specs/Permutation.antt.
 use cells::WIDE;
+
 mod wide;
+
 ghost use mathlib.Core.Path.{_≡_};
 ghost use mathlib.Core.List.{_++_};
 ghost use Prim.Native.Nat.{_/_, _<_, _≤_};

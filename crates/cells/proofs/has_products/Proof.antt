@@ -55,12 +55,11 @@ loop-less c = search needs
 loop-again : tie.Need-loop-again Inv-loop μ-loop
 loop-again c =
     let i = c .before .before .before .before .loop .i in
-    let t = c .before .before .before .before .before .args .t1 in
-    (
+    let t = c .before .before .before .before .before .args .t1 in (
       search needs,
       c .before .before .before .before .loop .inv .1
-      ∙ products-more t i (search needs)
-      (eq-eqb (star t (i / 4) (i % 4)) (star table (i / 4) (i % 4)) (c .if1 .left ∙ c .before .star .ensures .0)),
+          ∙ products-more t i (search needs)
+          (eq-eqb (star t (i / 4) (i % 4)) (star table (i / 4) (i % 4)) (c .if1 .left ∙ c .before .star .ensures .0)),
     )
 
 returns-2 : tie.Need-returns-2 Inv-loop μ-loop

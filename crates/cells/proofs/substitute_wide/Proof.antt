@@ -1,6 +1,6 @@
 -- `substitute_wide` meets its promise. The invariant: the bytes before i are substituted (`Substituting`); the measure is how many are left.
 -- Assumes nothing.
-use mathlib.Core.Path.{_≡_, sym}
+use mathlib.Core.Path.{_≡_, refl, sym}
 use Prim.Native.Nat.{_-_, _%_}
 use lib.ListN.{length, take, getD}
 use lib.Seq.{length-take-le, getD-take}
@@ -45,7 +45,7 @@ loop-less : tie.Need-loop-less Inv-loop μ-loop
 loop-less c = search needs
 
 loop-again : tie.Need-loop-again Inv-loop μ-loop
-loop-again c = (search needs, substituting-more _ (c .before .before .loop .inv .1) (search needs) (c .substituted-byte .ensures))
+loop-again c = (search needs, substituting-more _ _ (c .before .before .loop .inv .1) (search needs) refl (c .substituted-byte .ensures))
 
 returns : tie.Need-returns Inv-loop μ-loop
 returns c =

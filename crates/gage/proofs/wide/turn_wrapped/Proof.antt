@@ -1,65 +1,68 @@
-use native.Mathlib.Omega.{arith}
+-- `turn_wrapped` meets its promise. The invariant: the bytes before i are gathered and substituted (`Substituting`); the measure is how many are
+-- left. Assumes nothing.
+use mathlib.Core.Path.{_≡_, sym, _∙_}
+use Prim.Native.Nat.{_-_, _%_}
+use native.Mathlib.Nat.{zero-add}
+use lib.ListN.{length}
+use Rattle.cells.specs.Sizes.{WIDE}
+use Rattle.cells.specs.Wide.{Substituting, substituting-none, substituting-more, substituted-first}
+use Rattle.shuffling.specs.Shuffling.{tabled}
+use Rattle.shuffling.specs.States.{length-tabled, tabled-at}
+use Rattle.shuffling.specs.Wrapped.{gatheredAt}
 use borrow.Author.Needs.{needs}
 use Rattle.gage.proofs.wide.turn_wrapped.Statement.{statement}
 use Rattle.gage.proofs.wide.turn_wrapped.Tie as tie
-use Rattle.gage.proofs.wide.turn_wrapped.Reads as reads
-use Rattle.gage.proofs.wide.turn_wrapped.Lts as lts
-use Rattle.cells.proofs.substituted_byte.Reads as substituted-byte-reads
-use Rattle.gage.proofs.wide.gathered_at.Reads as gathered-at-reads
 
 abbrev Inv-loop : tie.InvT-loop
-Inv-loop e out₀ n leader end p₀ i₀ out p i = ?
+Inv-loop e out₀ n leader end p₀ i₀ out p i = (length out ≡ WIDE) × Substituting (leader % 4) (gatheredAt e) out p i
 
 abbrev μ-loop : tie.MeasureT-loop
-μ-loop e out₀ n leader end p₀ i₀ out p i = ?
+μ-loop e out₀ n leader end p₀ i₀ out p i = end - i
 
--- src/wide.rt:52:21
 sub-end : tie.Need-sub-end Inv-loop μ-loop
 sub-end c = search needs
 
--- src/wide.rt:52:16
 add-end : tie.Need-add-end Inv-loop μ-loop
 add-end c = search needs
 
--- src/wide.rt:52:15
 mul-end : tie.Need-mul-end Inv-loop μ-loop
 mul-end c = search needs
 
--- src/wide.rt:55:5
 loop-holds : tie.Need-loop-holds Inv-loop μ-loop
-loop-holds c = search needs
+loop-holds c = (search needs, substituting-none _ _ _)
 
--- src/wide.rt:56:13
 gathered-at-requires : tie.Need-gathered-at-requires Inv-loop μ-loop
 gathered-at-requires c κs = search needs
 
--- src/wide.rt:57:18
 substituted-byte-requires : tie.Need-substituted-byte-requires Inv-loop μ-loop
 substituted-byte-requires c κs = search needs
 
--- src/wide.rt:57:9
 slice-write-out : tie.Need-slice-write-out Inv-loop μ-loop
 slice-write-out c = search needs
 
--- src/wide.rt:59:9
 add-i : tie.Need-add-i Inv-loop μ-loop
 add-i c = search needs
 
--- src/wide.rt:55:5
 loop-less : tie.Need-loop-less Inv-loop μ-loop
 loop-less c = search needs
 
--- src/wide.rt:55:5
 loop-again : tie.Need-loop-again Inv-loop μ-loop
-loop-again c = search needs
+loop-again c = (
+  search needs,
+  substituting-more _ _ (c .before .before .before .loop .inv .1) (search needs) (c .before .gathered-at .ensures) (c .substituted-byte .ensures),
+)
 
--- src/wide.rt:47:1
 same-length : tie.Need-same-length Inv-loop μ-loop
 same-length c = search needs
 
--- src/wide.rt:47:1
 returns : tie.Need-returns Inv-loop μ-loop
-returns c = search needs
+returns c =
+    let n = c .before .before .before .before .args .n in
+    let y = gatheredAt (c .before .before .before .before .args .e .now) in (
+      search needs,
+      substituted-first n (tabled y 0 n) (c .before .loop .inv .1) (search needs) (search needs) (length-tabled y 0 n)
+          (λ k h. sym (tabled-at y 0 n k h ∙ rw zero-add)),
+    )
 
 pub turn-wrapped-spec : {M : Type 1} → statement M
 turn-wrapped-spec =

@@ -1,0 +1,106 @@
+-- What the functions over wide states need of plain lists: the wrapping copy, one turn, the turns left, and a state put back. Assumes nothing.
+use mathlib.Core.Path.{_≡_, refl, sym, ap, _∙_}
+use mathlib.Core.List.{List, [], _∷_, _++_, append-nil}
+use Prim.Native.Nat.{ℕ, _+_, _-_, _%_, _≤_, _<_}
+use native.Mathlib.Nat.{mod-eq-of-lt}
+use native.Mathlib.Numerals.{add-one}
+use native.Mathlib.Omega.{arith}
+use lib.ListN.{length, getD, take, drop, replicate, length-append, length-take, length-drop, drop-of-length-le}
+use lib.Seq.{length-take-le, take-all, take-at, take-append-le, drop-cons, drop-drop, getD-take}
+use borrow.Rule.Slice.PartMut.{putMid}
+use Rattle.lists.specs.Buffers.{copied}
+use Rattle.lists.specs.Over.{copied-all}
+use Rattle.cells.specs.Sizes.{LARGEST, WIDE}
+use Rattle.cells.specs.Cells.{table, substitute, onFirst}
+use Rattle.cells.specs.States.{length-substitute}
+use Rattle.shuffling.specs.Sizes.{SMALLEST}
+use Rattle.shuffling.specs.Shuffling.{tabled, shuffle}
+use Rattle.shuffling.specs.Wrapped.{wrapped, gatheredAt, wrapped-shuffled}
+use Rattle.gage.specs.Permutation.{ROUNDS, leaders, turns, permuteBy, permute}
+use Rattle.gage.specs.Tables.{length-leaders}
+use Rattle.gage.specs.States.{length-permute}
+
+-- a list copied over one of its length
+copied-whole : (x o : List ℕ) → length x ≡ length o → copied x o ≡ x
+copied-whole x o h = copied-all x o (omega arith) ∙ rw (drop-of-length-le o {i = length x} (omega arith), append-nil x)
+
+-- the first eight bytes of e copied out, and back behind its first n
+pub wrap-is : (n : ℕ) (e first w : List ℕ) → length e ≡ WIDE → n ≤ LARGEST → first ≡ copied (take (SMALLEST - 0) (drop 0 e)) (replicate SMALLEST 0)
+    → w ≡ copied first (take (n + SMALLEST - n) (drop n e)) → putMid n (n + SMALLEST - n) e w ≡ wrapped n e
+wrap-is n e first w l h a b =
+    let k : n + SMALLEST - n ≡ SMALLEST = omega arith in
+    let eight : length (take SMALLEST e) ≡ SMALLEST = length-take-le SMALLEST e (omega arith) in
+    let room : length (take SMALLEST (drop n e)) ≡ SMALLEST = length-take-le SMALLEST (drop n e) (omega (arith, length-drop n e)) in
+    let same : first ≡ take SMALLEST e = a ∙ copied-whole (take SMALLEST e) (replicate SMALLEST 0) eight in
+    let put : w ≡ take SMALLEST e = b ∙ rw (k, same) (copied-whole (take SMALLEST e) (take SMALLEST (drop n e)) (eight ∙ sym room)) in
+    rw (k, put, drop-drop SMALLEST n e)
+
+pub wrapped-long : (n : ℕ) (e : List ℕ) → length e ≡ WIDE → n ≤ LARGEST → length (wrapped n e) ≡ WIDE
+wrapped-long n e l h = simp (length-append, length-take, length-drop) (omega arith)
+
+-- a turn of the wrapped bytes is shuffle and substitution
+pub turn-is : (n leader : ℕ) (e v out : List ℕ) → SMALLEST ≤ n → n ≤ LARGEST → leader < 4 → length e ≡ WIDE → v ≡ wrapped n e
+    → take n out ≡ substitute table (leader % 4) (tabled (gatheredAt v) 0 n) → take n out ≡ substitute table leader (shuffle (take n e))
+turn-is n leader e v out w h c l same t =
+    let m : leader % 4 ≡ leader = mod-eq-of-lt c in
+    t ∙ rw (m, same, wrapped-shuffled n e w (omega arith))
+
+-- before turn i the turns left are those of the leaders from i on; x is the state after the first substitution
+pub record Left (ls : List ℕ) (n : ℕ) (x a : List ℕ) (i : ℕ) : Type 0 where
+  pub begun : 1 ≤ i
+  pub turn : i ≤ length ls
+  pub same : turns (drop i ls) (take n a) ≡ turns (drop 1 ls) x
+
+pub left-more : {ls x a : List ℕ} {n i : ℕ} (l : ℕ) (b : List ℕ) → Left ls n x a i → i < length ls → l ≡ getD ls i 0
+    → take n b ≡ substitute table l (shuffle (take n a)) → Left ls n x b (i + 1)
+unfolding turns
+left-more {ls} {x} {a} {n} {i} l b inv h w p = record {
+  begun = omega arith;
+  turn = omega arith;
+  same = rw (add-one, p, w) (sym (ap (λ (r : List ℕ). turns r (take n a)) (drop-cons ls i 0 h)) ∙ inv .same);
+}
+
+-- two turns, from a to b and back
+pub left-two : {ls x a : List ℕ} {n i : ℕ} (l m : ℕ) (b c : List ℕ) → Left ls n x a i → i + 1 < length ls → l ≡ getD ls i 0 → m ≡ getD ls (i + 1) 0
+    → take n b ≡ substitute table l (shuffle (take n a)) → take n c ≡ substitute table m (shuffle (take n b)) → Left ls n x c (i + 2)
+left-two {ls} {x} {a} {n} {i} l m b c inv h w v p q =
+    let e : i + 1 + 1 ≡ i + 2 = omega arith in
+    rw e at (left-more m c (left-more l b inv (omega arith) w p) h v q)
+
+-- after the last
+pub left-none : {ls x a : List ℕ} {n i : ℕ} → Left ls n x a i → length ls ≤ i → take n a ≡ turns (drop 1 ls) x
+unfolding turns
+left-none {ls} {x} {a} {n} {i} inv h = sym (ap (λ (r : List ℕ). turns r (take n a)) (drop-of-length-le ls h)) ∙ inv .same
+
+-- the first substitution, the turns, and the first n bytes put back
+module _ (n k l : ℕ) (s : List ℕ) (long : length s ≡ LARGEST) (fits : n ≤ LARGEST) (some : 1 ≤ k) (few : k ≤ ROUNDS) (cell : l < 4)
+    (led : l ≡ getD leaders 0 0) where
+  begun : (first w : List ℕ) → first ≡ onFirst n (substitute table (l % 4)) s → w ≡ copied first (replicate WIDE 0)
+      → take n w ≡ substitute table l (take n s)
+  begun first w a b =
+      let m : l % 4 ≡ l = mod-eq-of-lt cell in
+      let x = substitute table l (take n s) in
+      let lx : length x ≡ n = length-substitute table l (take n s) ∙ length-take-le n s (omega arith) in
+      let f : first ≡ x ++ drop n s = a ∙ rw m in
+      let lf : length first ≡ LARGEST = rw f (length-append x (drop n s) ∙ omega (arith, length-drop n s)) in
+      ap (take n) (b ∙ copied-all first (replicate WIDE 0) (omega arith))
+      ∙ take-append-le n first (drop (length first) (replicate WIDE 0)) (omega arith)
+      ∙ ap (take n) f
+      ∙ take-at x (drop n s) n lx
+
+  pub turned-is : (first w done r : List ℕ) → first ≡ onFirst n (substitute table (l % 4)) s → w ≡ copied first (replicate WIDE 0)
+      → take n done ≡ turns (drop 1 (take k leaders)) (take n w) → r ≡ copied (take (n - 0) (drop 0 done)) s
+      → r ≡ permute k (take n s) ++ drop n s
+  unfolding permute permuteBy
+  turned-is first w done r a b t p =
+      let ls = take k leaders in
+      let z : n - 0 ≡ n = omega arith in
+      let lls : length ls ≡ k = length-take-le k leaders (omega (arith, length-leaders)) in
+      let led-ls : l ≡ getD ls 0 0 = led ∙ sym (getD-take k leaders 0 0 (omega arith)) in
+      let from-first : permuteBy ls (take n s) ≡ turns (drop 1 ls) (substitute table l (take n s)) =
+      ap (λ (x : List ℕ). permuteBy x (take n s)) (drop-cons ls 0 0 (omega arith)) ∙ rw led-ls in
+      let all : take n done ≡ permute k (take n s) = t ∙ ap (turns (drop 1 ls)) (begun first w a b) ∙ sym from-first in
+      let ld : length (take n done) ≡ n = ap length all ∙ length-permute k (take n s) ∙ length-take-le n s (omega arith) in
+      let put : copied (take (n - 0) (drop 0 done)) s ≡ take n done ++ drop (length (take n done)) s =
+      rw z (copied-all (take n done) s (omega arith)) in
+      p ∙ put ∙ rw (ld, all)

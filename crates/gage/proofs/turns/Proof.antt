@@ -1,0 +1,143 @@
+-- `turns` meets its promise. The invariant: the turns of the leaders from i on are left (`Left`); the measure is their number. Assumes nothing.
+use mathlib.Core.Path.{_≡_, refl, sym}
+use Prim.Native.Nat.{ℕ, _+_, _-_, _≤_}
+use lib.ListN.{length, take}
+use lib.Seq.{length-take-le, getD-take}
+use Rattle.cells.specs.Sizes.{WIDE}
+use Rattle.gage.specs.Permutation.{ROUNDS, leaders}
+use Rattle.gage.specs.Tables.{leader-below, length-leaders}
+use Rattle.gage.proofs.Rounds.{Left, left-more, left-two, left-none}
+use native.Mathlib.Omega.{arith}
+use borrow.Author.Needs.{needs}
+use Rattle.gage.proofs.turns.Statement.{statement}
+use Rattle.gage.proofs.turns.Tie as tie
+
+-- as many leaders as rounds
+long : (k : ℕ) → k ≤ ROUNDS → length (take k leaders) ≡ k
+long k h = length-take-le k leaders (omega (arith, length-leaders))
+
+abbrev Inv-loop : tie.InvT-loop
+Inv-loop n k ls a₀ b₀ i₀ a b i =
+    (i ≤ k) × (length a ≡ WIDE) × (length b ≡ WIDE) × Left (take k leaders) n (take n a₀) a i
+
+abbrev μ-loop : tie.MeasureT-loop
+μ-loop n k ls a₀ b₀ i₀ a b i = k - i
+
+loop-holds : tie.Need-loop-holds Inv-loop μ-loop
+loop-holds c =
+    let l = long (c .args .k) (search needs) in
+    (search needs, search needs, search needs, record { begun = search needs; turn = omega arith; same = refl })
+
+add-loop : tie.Need-add-loop Inv-loop μ-loop
+add-loop c = search needs
+
+slice-aggregate-turn : tie.Need-slice-aggregate-turn Inv-loop μ-loop
+slice-aggregate-turn c = search needs
+
+slice-aggregate-turn-2 : tie.Need-slice-aggregate-turn-2 Inv-loop μ-loop
+slice-aggregate-turn-2 c = search needs
+
+array-read-turn : tie.Need-array-read-turn Inv-loop μ-loop
+array-read-turn c = search needs
+
+turn-requires : tie.Need-turn-requires Inv-loop μ-loop
+unfolding leaders
+turn-requires c κs =
+    (search needs, search needs, search needs, search needs, leader-below (c .before .before .before .loop .i) (search needs))
+
+slice-aggregate-turn-3 : tie.Need-slice-aggregate-turn-3 Inv-loop μ-loop
+slice-aggregate-turn-3 c = search needs
+
+slice-aggregate-turn-4 : tie.Need-slice-aggregate-turn-4 Inv-loop μ-loop
+slice-aggregate-turn-4 c = search needs
+
+add-turn : tie.Need-add-turn Inv-loop μ-loop
+add-turn c = search needs
+
+array-read-turn-2 : tie.Need-array-read-turn-2 Inv-loop μ-loop
+array-read-turn-2 c = search needs
+
+turn-requires-2 : tie.Need-turn-requires-2 Inv-loop μ-loop
+unfolding leaders
+turn-requires-2 c κs =
+    (c .before .before .before .before .turn .ensures .1, c .before .before .before .before .turn .ensures .0, search needs, search needs, leader-below (c .before .before .before .before .before .before .before .before .loop .i + 1) (search needs))
+
+add-i : tie.Need-add-i Inv-loop μ-loop
+add-i c = search needs
+
+loop-less : tie.Need-loop-less Inv-loop μ-loop
+loop-less c = search needs
+
+loop-again : tie.Need-loop-again Inv-loop μ-loop
+unfolding leaders
+loop-again c =
+    let before = c .before .before .before .before .before .before .before .before .before .before .before in
+    let k = before .before .args .k in
+    let i = before .loop .i in
+    let l = long k (search needs) in
+    let first = c .before .before .before .before .before .before .before .turn .ensures in
+    let second = c .before .before .turn2 .ensures in (
+      search needs,
+      second .1,
+      second .0,
+      left-two _ _ _ _ (before .loop .inv .3) (omega arith) (sym (getD-take k leaders i 0 (search needs)))
+          (sym (getD-take k leaders (i + 1) 0 (search needs))) (first .2) (second .2),
+    )
+
+slice-aggregate-turn-5 : tie.Need-slice-aggregate-turn-5 Inv-loop μ-loop
+slice-aggregate-turn-5 c = search needs
+
+slice-aggregate-turn-6 : tie.Need-slice-aggregate-turn-6 Inv-loop μ-loop
+slice-aggregate-turn-6 c = search needs
+
+array-read-turn-3 : tie.Need-array-read-turn-3 Inv-loop μ-loop
+array-read-turn-3 c = search needs
+
+turn-requires-3 : tie.Need-turn-requires-3 Inv-loop μ-loop
+unfolding leaders
+turn-requires-3 c κs =
+    (search needs, search needs, search needs, search needs, leader-below (c .before .before .before .before .loop .i) (search needs))
+
+returns : tie.Need-returns Inv-loop μ-loop
+unfolding leaders
+returns c =
+    let before = c .before .before .before .before .before .before .before in
+    let k = before .before .args .k in
+    let i = before .loop .i in
+    let l = long k (search needs) in
+    left-none
+    (left-more _ _ (before .loop .inv .3) (omega arith) (sym (getD-take k leaders i 0 (search needs))) (c .before .before .turn3 .ensures .2))
+    (omega arith)
+
+returns-2 : tie.Need-returns-2 Inv-loop μ-loop
+returns-2 c =
+    let before = c .before .before in
+    let l = long (before .before .args .k) (search needs) in
+    left-none (before .loop .inv .3) (omega arith)
+
+pub turns-spec : {M : Type 1} → statement M
+turns-spec =
+    tie.close
+    (tie.spec
+    Inv-loop
+    μ-loop
+    loop-holds
+    add-loop
+    slice-aggregate-turn
+    slice-aggregate-turn-2
+    array-read-turn
+    turn-requires
+    slice-aggregate-turn-3
+    slice-aggregate-turn-4
+    add-turn
+    array-read-turn-2
+    turn-requires-2
+    add-i
+    loop-less
+    loop-again
+    slice-aggregate-turn-5
+    slice-aggregate-turn-6
+    array-read-turn-3
+    turn-requires-3
+    returns
+    returns-2)
