@@ -1,5 +1,5 @@
-/* Times the proved library beside plain C, in one run.
-   bench                 a table: nanoseconds an operation for each version, and ours divided by the better C version
+/* Times the proved library beside C, in one run.
+   bench                 a table: nanoseconds an operation for each version, the best of many repeats in turn, and ours divided by each
    bench one WORK WHO N  N operations of one work by one version, for counting instructions (digests of 1,024 bytes, not 65,536)
    bench works           the names of the works */
 #include "plain.h"
@@ -9,46 +9,42 @@
 #include <string.h>
 #include <time.h>
 
-enum { OURS, MOD, WRAP, VERSIONS };
-static const char *const version_name[VERSIONS] = {"ours", "mod", "wrap"};
+enum { OURS, SSE2, BITS, WRAP, MOD, VERSIONS };
+static const char *const version_name[VERSIONS] = {"ours", "sse2", "bits", "wrap", "mod"};
 
 /* The smallest state is the cipher's and hash instance 1's. The associated data of a line is the font's field: tag, length, digest. */
-enum { MARK = 0x7E, SMALLEST_STATE = 29, FONT_FIELD = 3 + LUBDHVANI_DIGEST };
+enum { REPEATS = 400, MARK = 0x7E, SMALLEST_STATE = 29, FONT_FIELD = 3 + LUBDHVANI_DIGEST };
 
 static uint8_t message[LUBDHVANI_LONGEST_INPUT], out[LUBDHVANI_LONGEST_INPUT], stream[LUBDHVANI_LONGEST_INPUT];
 static uint8_t key[LUBDHVANI_KEY], nonce[LUBDHVANI_NONCE], font[LUBDHVANI_DIGEST], seal[LUBDHVANI_SEAL], line[LUBDHVANI_LONGEST_LINE];
 static size_t calls, stream_length, digested = sizeof message;
 
+typedef void permutes(uint8_t *, size_t);
+typedef void digests(unsigned, const uint8_t *, size_t, uint8_t *);
+typedef void seals(const uint8_t[16], const uint8_t[12], const uint8_t *, size_t, const uint8_t *, size_t, uint8_t *, uint8_t[16]);
+
+static void ours_permute(uint8_t *s, size_t n) { lubdhvani_permute(s, n); }
+static void ours_digest(unsigned instance, const uint8_t *m, size_t length, uint8_t *to)
+{
+    lubdhvani_digest(instance, m, length, to, LUBDHVANI_DIGEST, &calls);
+}
+static void ours_seal(const uint8_t k[16], const uint8_t n[12], const uint8_t *a, size_t alen, const uint8_t *m, size_t mlen, uint8_t *to,
+                      uint8_t t[16])
+{
+    lubdhvani_seal(k, LUBDHVANI_KEY, n, LUBDHVANI_NONCE, a, alen, m, mlen, to, mlen, t, LUBDHVANI_SEAL, &calls);
+}
+
+static permutes *const permute_by[VERSIONS] = {ours_permute, plain_sse2_permute, plain_bits_permute, plain_wrap_permute, plain_mod_permute};
+static digests *const digest_by[VERSIONS] = {ours_digest, plain_sse2_digest, plain_bits_digest, plain_wrap_digest, plain_mod_digest};
+static seals *const seal_by[VERSIONS] = {ours_seal, plain_sse2_seal, plain_bits_seal, plain_wrap_seal, plain_mod_seal};
+
 static void permute(int who, size_t size)
 {
     static uint8_t state[LUBDHVANI_LARGEST_STATE];
-    if (who == OURS)
-        lubdhvani_permute(state, size);
-    else if (who == MOD)
-        plain_mod_permute(state, size);
-    else
-        plain_wrap_permute(state, size);
+    permute_by[who](state, size);
 }
-
-static void digest(int who, unsigned instance)
-{
-    if (who == OURS)
-        lubdhvani_digest(instance, message, digested, out, LUBDHVANI_DIGEST, &calls);
-    else if (who == MOD)
-        plain_mod_digest(instance, message, digested, out);
-    else
-        plain_wrap_digest(instance, message, digested, out);
-}
-
-static void seal_text(int who, size_t length)
-{
-    if (who == OURS)
-        lubdhvani_seal(key, sizeof key, nonce, sizeof nonce, message, FONT_FIELD, message, length, out, length, seal, sizeof seal, &calls);
-    else if (who == MOD)
-        plain_mod_seal(key, nonce, message, FONT_FIELD, message, length, out, seal);
-    else
-        plain_wrap_seal(key, nonce, message, FONT_FIELD, message, length, out, seal);
-}
+static void digest(int who, unsigned instance) { digest_by[who](instance, message, digested, out); }
+static void seal_text(int who, size_t length) { seal_by[who](key, nonce, message, FONT_FIELD, message, length, out, seal); }
 
 static void permute_smallest(int who) { permute(who, SMALLEST_STATE); }
 static void permute_largest(int who) { permute(who, LUBDHVANI_LARGEST_STATE); }
@@ -71,22 +67,39 @@ static double now(void)
     return (double)t.tv_sec * 1e9 + (double)t.tv_nsec;
 }
 
-/* Nanoseconds an operation: the best of five runs of at least 50 ms each. */
+/* Nanoseconds of each of n operations in a row. */
+static double repeated(void (*run)(int), int who, long n)
+{
+    double start = now();
+    for (long i = 0; i < n; i++)
+        run(who);
+    return (now() - start) / (double)n;
+}
+
+/* As many operations as take some tenths of a millisecond, so that a repeat is seldom disturbed. */
+static long enough(void (*run)(int), int who) { return 1 + (long)(3e5 / repeated(run, who, 3)); }
+
+/* Nanoseconds an operation: the best of many repeats. */
 static double timed(void (*run)(int), int who)
 {
-    double best = 0;
-    for (int again = 0; again < 5; again++) {
-        long n = 0;
-        double start = now(), took;
-        do {
-            run(who);
-            n++;
-            took = now() - start;
-        } while (took < 5e7);
-        if (again == 0 || took / (double)n < best)
-            best = took / (double)n;
-    }
+    long n = enough(run, who);
+    double best = repeated(run, who, n), took;
+    for (int again = 0; again < REPEATS; again++)
+        if ((took = repeated(run, who, n)) < best)
+            best = took;
     return best;
+}
+
+/* The same for all versions in turn, so that what disturbs the machine disturbs them alike. */
+static void timed_all(void (*run)(int), double best[VERSIONS])
+{
+    long n[VERSIONS];
+    double took;
+    for (int v = 0; v < VERSIONS; v++)
+        best[v] = repeated(run, v, n[v] = enough(run, v));
+    for (int again = 0; again < REPEATS * VERSIONS; again++)
+        if ((took = repeated(run, again % VERSIONS, n[again % VERSIONS])) < best[again % VERSIONS])
+            best[again % VERSIONS] = took;
 }
 
 enum kind { GOOD, DAMAGED, MARKS };
@@ -149,16 +162,25 @@ static void run_one(const char *name, const char *who, long times)
                     work[w].run(v);
 }
 
-static void print_tables(void)
+static void print_works_timed(void)
 {
-    printf("| work | ours, ns | C with %%, ns | C with a wrapped copy, ns | ours / better C |\n|---|---|---|---|---|\n");
+    printf("| ns | ours | SSE2 by hand | bit formula | look-ups | look-ups, %% | ours / SSE2 | / formula | / look-ups | / %% |\n");
+    printf("|---|---|---|---|---|---|---|---|---|---|\n");
     for (int w = 0; w < WORKS; w++) {
         double t[VERSIONS];
+        timed_all(work[w].run, t);
+        printf("| %s |", work[w].name);
         for (int v = 0; v < VERSIONS; v++)
-            t[v] = timed(work[w].run, v);
-        printf("| %s | %.0f | %.0f | %.0f | %.2f |\n", work[w].name, t[OURS], t[MOD], t[WRAP],
-               t[OURS] / (t[MOD] < t[WRAP] ? t[MOD] : t[WRAP]));
+            printf(" %.0f |", t[v]);
+        for (int v = SSE2; v < VERSIONS; v++)
+            printf(" %.2f |", t[OURS] / t[v]);
+        printf("\n");
     }
+}
+
+static void print_tables(void)
+{
+    print_works_timed();
     printf("\n| ns a byte of a stream of | 8 KiB | 16 KiB | 32 KiB | 64 KiB |\n|---|---|---|---|---|\n");
     reading("good frames", GOOD);
     reading("damaged frames", DAMAGED);

@@ -1,15 +1,29 @@
-/* The same work in plain C, as a careful programmer writes it from the papers: two-bit cells by look-up, one byte at a time.
-   Compiled twice: with PLAIN_WRAPPED the shuffle reads a copy with seven bytes wrapped around, without it it takes the index
-   modulo the size, as a reference implementation does. */
+/* The same work in C, as a careful programmer writes it from the papers: two-bit cells, one byte at a time. Compiled four times: as it is the
+   shuffle takes the index modulo the size, as a reference implementation does, and cells are looked up; with PLAIN_WRAPPED it reads a copy with
+   seven bytes wrapped around; with PLAIN_BITS besides, the products of a byte's cells are a bit formula; with PLAIN_SSE2 the rounds are those of sse2.h. */
 #include "plain.h"
 #include <string.h>
 
-static const uint8_t product[4][4] = {{1, 0, 3, 2}, {0, 2, 1, 3}, {2, 3, 0, 1}, {3, 1, 2, 0}};
-static const uint8_t leader[32] = {0, 3, 0, 3, 0, 1, 2, 3, 2, 1, 2, 3, 2, 1, 2, 3,
-                                   0, 1, 2, 3, 2, 3, 0, 3, 2, 3, 2, 3, 2, 1, 2, 1};
-static const uint8_t place[8] = {1, 3, 5, 8, 7, 6, 2, 4};
 static const uint16_t instance[10][2] = {{232, 8},  {240, 16}, {256, 32},  {288, 64}, {272, 16},
                                          {288, 32}, {320, 64}, {384, 128}, {544, 32}, {576, 64}};
+
+#ifdef PLAIN_SSE2
+#include "sse2.h"
+#else
+static const uint8_t place[8] = {1, 3, 5, 8, 7, 6, 2, 4};
+
+#ifdef PLAIN_BITS
+static void substitute(uint8_t *s, size_t n, uint8_t l)
+{
+    for (size_t i = 0; i < n; i++) {
+        uint8_t b = s[i], x = (uint8_t)(l << 6 | b >> 2);
+        uint8_t x0 = x & 0x55, x1 = x >> 1 & 0x55, y0 = b & 0x55, y1 = b >> 1 & 0x55, d = (y0 ^ y1) & x0;
+        s[i] = (uint8_t)((y1 ^ d ^ x1) << 1 | (y0 ^ d ^ x0 ^ x1 ^ 0x55));
+        l = b & 3;
+    }
+}
+#else
+static const uint8_t product[4][4] = {{1, 0, 3, 2}, {0, 2, 1, 3}, {2, 3, 0, 1}, {3, 1, 2, 0}};
 
 static void substitute(uint8_t *s, size_t n, uint8_t l)
 {
@@ -20,6 +34,7 @@ static void substitute(uint8_t *s, size_t n, uint8_t l)
         l = a3;
     }
 }
+#endif
 
 #ifdef PLAIN_WRAPPED
 static void shuffle(uint8_t *s, size_t n)
@@ -56,6 +71,7 @@ static void rounds(uint8_t *s, size_t n, unsigned k)
         substitute(s, n, leader[i]);
     }
 }
+#endif
 
 void PLAIN(permute)(uint8_t *s, size_t n) { rounds(s, n, 32); }
 

@@ -1,10 +1,15 @@
-/* The plain C versions: plain_mod_* takes indices modulo the size, plain_wrap_* reads a wrapped copy. */
+/* The C versions beside ours, from one source: plain_mod_* takes indices modulo the size, plain_wrap_* reads a wrapped copy, plain_bits_* does
+   that with a bit formula in place of the table, and plain_sse2_* is the permutation written by hand with SSE2 registers. */
 #ifndef PLAIN_H
 #define PLAIN_H
 #include <stddef.h>
 #include <stdint.h>
 
-#ifdef PLAIN_WRAPPED
+#if defined PLAIN_SSE2
+#define PLAIN(name) plain_sse2_##name
+#elif defined PLAIN_BITS
+#define PLAIN(name) plain_bits_##name
+#elif defined PLAIN_WRAPPED
 #define PLAIN(name) plain_wrap_##name
 #else
 #define PLAIN(name) plain_mod_##name
@@ -17,4 +22,10 @@
                        size_t mlen, uint8_t *out, uint8_t seal[16]);
 PLAIN_CALLS(plain_mod)
 PLAIN_CALLS(plain_wrap)
+PLAIN_CALLS(plain_bits)
+PLAIN_CALLS(plain_sse2)
+
+/* The leaders (document 000, Table 1.2). */
+static const uint8_t leader[32] = {0, 3, 0, 3, 0, 1, 2, 3, 2, 1, 2, 3, 2, 1, 2, 3,
+                                   0, 1, 2, 3, 2, 3, 0, 3, 2, 3, 2, 3, 2, 1, 2, 1};
 #endif

@@ -1,5 +1,5 @@
-// Prints the rows that the second program makes of its own permutation (tests/second, src/rows/permute.rs): every permitted size
-// over three states, forwards and backwards, then sizes that are not permitted.
+// Prints the rows that the second program makes of its own permutation (tests/second, src/rows/permute.rs): whether the formula gives the table's
+// products, every permitted size over three states, forwards and backwards, then sizes that are not permitted.
 use gage::LARGEST;
 use libc::STDOUT_FILENO;
 
@@ -89,7 +89,16 @@ fn refused_rows() {
     }
 }
 
+fn products_row() {
+    if cells::table_holds() {
+        say(b"products same\n");
+    } else {
+        say(b"products changed\n");
+    }
+}
+
 fn main() {
+    products_row();
     permitted_rows();
     refused_rows();
 }

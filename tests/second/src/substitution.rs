@@ -23,6 +23,11 @@ fn four_stars(x: u8, y: u8) -> u8 {
     high << 1 | low
 }
 
+/// Whether expression 1.2 gives the sixteen products of expression 1.1.
+pub fn products_agree() -> bool {
+    (0..4).all(|x| (0..4).all(|y| four_stars(x, y) & 3 == star(x, y)))
+}
+
 /// New cells l * a0, a0 * a1, a1 * a2, .. over the OLD cells.
 pub fn substitute(convention: Convention, leader: u8, state: &mut [u8]) {
     let from_right = convention == Convention::Right;
