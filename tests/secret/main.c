@@ -1,0 +1,105 @@
+/* Calls of the static library with secret bytes marked undefined, to run under valgrind's memcheck: it reports every branch and every address
+   that depends on them. Each call's output must still be undefined afterwards, so that the test is not empty.
+   secret work     permute and unpermute at every size, digest at every instance, seal
+   secret write    write with a secret key
+   secret lookup   the permutation of lookup.c, which looks products up */
+#include "../../include/lubdhvani.h"
+#include "lookup.h"
+#include <stdio.h>
+#include <string.h>
+#include <valgrind/memcheck.h>
+
+enum { MESSAGE = 40, ASSOCIATED = 35, LINE = 20 };
+
+static int failed;
+
+static void secret(uint8_t *bytes, size_t n) { (void)VALGRIND_MAKE_MEM_UNDEFINED(bytes, n); }
+
+/* Every byte of an output depends on the secret; then it is made public. */
+static void given(const char *what, size_t which, uint8_t *bytes, size_t n)
+{
+    uint8_t undefined[LUBDHVANI_FRAME];
+    int got = (int)VALGRIND_GET_VBITS(bytes, undefined, n);
+    size_t some = 0;
+    (void)VALGRIND_MAKE_MEM_DEFINED(undefined, n);
+    for (size_t i = 0; i < n; i++)
+        some += undefined[i] != 0;
+    (void)VALGRIND_MAKE_MEM_DEFINED(bytes, n);
+    if (got != 1 || some != n) {
+        printf("secret: %s %zu: %zu of %zu bytes are undefined\n", what, which, some, n);
+        failed = 1;
+    }
+}
+
+static void permutations(void)
+{
+    static const size_t size[] = {29, 30, 32, 34, 36, 40, 48, 68, 72};
+    uint8_t state[LUBDHVANI_LARGEST_STATE] = {0};
+    for (size_t i = 0; i < sizeof size / sizeof size[0]; i++) {
+        secret(state, size[i]);
+        failed |= lubdhvani_permute(state, size[i]) != LUBDHVANI_DONE;
+        given("permute", size[i], state, size[i]);
+        secret(state, size[i]);
+        failed |= lubdhvani_unpermute(state, size[i]) != LUBDHVANI_DONE;
+        given("unpermute", size[i], state, size[i]);
+    }
+}
+
+static void digests(void)
+{
+    uint8_t message[MESSAGE] = {0}, out[LUBDHVANI_DIGEST];
+    size_t calls;
+    for (size_t i = 1; i <= LUBDHVANI_INSTANCES; i++) {
+        secret(message, sizeof message);
+        failed |= lubdhvani_digest(i, message, sizeof message, out, sizeof out, &calls) != LUBDHVANI_DONE;
+        given("digest", i, out, sizeof out);
+    }
+}
+
+static void seals(void)
+{
+    uint8_t key[LUBDHVANI_KEY] = {0}, nonce[LUBDHVANI_NONCE] = {0}, associated[ASSOCIATED] = {0}, message[MESSAGE] = {0};
+    uint8_t out[MESSAGE], seal[LUBDHVANI_SEAL];
+    size_t calls;
+    secret(key, sizeof key);
+    secret(message, sizeof message);
+    failed |= lubdhvani_seal(key, sizeof key, nonce, sizeof nonce, associated, sizeof associated, message, sizeof message, out, sizeof out, seal,
+                             sizeof seal, &calls)
+              != LUBDHVANI_DONE;
+    given("seal", 1, out, sizeof out);
+    given("seal", 2, seal, sizeof seal);
+}
+
+static void writes(void)
+{
+    static const uint8_t line[LINE + 1] = "A12345 678C 0000125B";
+    uint8_t key[LUBDHVANI_KEY] = {0}, nonce[LUBDHVANI_NONCE] = {0}, font[LUBDHVANI_DIGEST] = {0}, frame[LUBDHVANI_FRAME] = {0};
+    size_t length, calls;
+    secret(key, sizeof key);
+    failed |= lubdhvani_write(key, sizeof key, nonce, sizeof nonce, font, sizeof font, line, LINE, frame, sizeof frame, &length, &calls)
+              != LUBDHVANI_DONE;
+}
+
+static void looked_up(void)
+{
+    uint8_t state[LUBDHVANI_LARGEST_STATE] = {0};
+    secret(state, sizeof state);
+    lookup_permute(state, sizeof state);
+}
+
+int main(int count, char **word)
+{
+    if (RUNNING_ON_VALGRIND == 0 || count != 2) {
+        puts("secret: to be run under valgrind, with one word");
+        return 1;
+    }
+    if (strcmp(word[1], "work") == 0) {
+        permutations();
+        digests();
+        seals();
+    } else if (strcmp(word[1], "write") == 0)
+        writes();
+    else
+        looked_up();
+    return failed;
+}
