@@ -13,7 +13,10 @@ enum { OURS, SSE2, BITS, WRAP, MOD, VERSIONS };
 static const char *const version_name[VERSIONS] = {"ours", "sse2", "bits", "wrap", "mod"};
 
 /* The smallest state is the cipher's and hash instance 1's. The associated data of a line is the font's field: tag, length, digest. */
-enum { REPEATS = 400, MARK = 0x7E, SMALLEST_STATE = 29, FONT_FIELD = 3 + LUBDHVANI_DIGEST };
+enum { LEAST = 2, REPEATS = 1000, MARK = 0x7E, SMALLEST_STATE = 29, FONT_FIELD = 3 + LUBDHVANI_DIGEST };
+
+/* Nanoseconds of a repeat, and of all repeats of a work. */
+static const double REPEAT = 3e5, LONGEST = 4e9;
 
 static uint8_t message[LUBDHVANI_LONGEST_INPUT], out[LUBDHVANI_LONGEST_INPUT], stream[LUBDHVANI_LONGEST_INPUT];
 static uint8_t key[LUBDHVANI_KEY], nonce[LUBDHVANI_NONCE], font[LUBDHVANI_DIGEST], seal[LUBDHVANI_SEAL], line[LUBDHVANI_LONGEST_LINE];
@@ -77,14 +80,17 @@ static double repeated(void (*run)(int), int who, long n)
 }
 
 /* As many operations as take some tenths of a millisecond, so that a repeat is seldom disturbed. */
-static long enough(void (*run)(int), int who) { return 1 + (long)(3e5 / repeated(run, who, 3)); }
+static long enough(void (*run)(int), int who) { return 1 + (long)(REPEAT / repeated(run, who, 1)); }
 
-/* Nanoseconds an operation: the best of many repeats. */
+/* Whether to go on after so many repeats: there are many, but those of long operations end after some seconds. */
+static int more(int repeats, double since) { return repeats < LEAST || (repeats < REPEATS && now() - since < LONGEST); }
+
+/* Nanoseconds an operation: the best of the repeats. */
 static double timed(void (*run)(int), int who)
 {
     long n = enough(run, who);
-    double best = repeated(run, who, n), took;
-    for (int again = 0; again < REPEATS; again++)
+    double since = now(), best = repeated(run, who, n), took;
+    for (int again = 0; more(again, since); again++)
         if ((took = repeated(run, who, n)) < best)
             best = took;
     return best;
@@ -94,10 +100,10 @@ static double timed(void (*run)(int), int who)
 static void timed_all(void (*run)(int), double best[VERSIONS])
 {
     long n[VERSIONS];
-    double took;
+    double since = now(), took;
     for (int v = 0; v < VERSIONS; v++)
         best[v] = repeated(run, v, n[v] = enough(run, v));
-    for (int again = 0; again < REPEATS * VERSIONS; again++)
+    for (int again = 0; more(again / VERSIONS, since); again++)
         if ((took = repeated(run, again % VERSIONS, n[again % VERSIONS])) < best[again % VERSIONS])
             best[again % VERSIONS] = took;
 }

@@ -16,9 +16,8 @@ static const uint8_t place[8] = {1, 3, 5, 8, 7, 6, 2, 4};
 static void substitute(uint8_t *s, size_t n, uint8_t l)
 {
     for (size_t i = 0; i < n; i++) {
-        uint8_t b = s[i], x = (uint8_t)(l << 6 | b >> 2);
-        uint8_t x0 = x & 0x55, x1 = x >> 1 & 0x55, y0 = b & 0x55, y1 = b >> 1 & 0x55, d = (y0 ^ y1) & x0;
-        s[i] = (uint8_t)((y1 ^ d ^ x1) << 1 | (y0 ^ d ^ x0 ^ x1 ^ 0x55));
+        uint8_t b = s[i], x = (uint8_t)(l << 6 | b >> 2), d = (b ^ b >> 1) & x & 0x55;
+        s[i] = (uint8_t)(b ^ x ^ d ^ d << 1 ^ (x >> 1 & 0x55) ^ 0x55);
         l = b & 3;
     }
 }

@@ -9,16 +9,13 @@ static inline __m128i all(int byte) { return _mm_set1_epi8((char)byte); }
 static inline __m128i load(const uint8_t *p) { return _mm_loadu_si128((const __m128i *)p); }
 static inline __m128i or4(__m128i a, __m128i b, __m128i c, __m128i d) { return _mm_or_si128(_mm_or_si128(a, b), _mm_or_si128(c, d)); }
 
-/* The products of the cells of x and y, by expression 1.2. */
+/* The products of the cells of x and y, by the formula that ours has too. */
 static inline __m128i products(__m128i x, __m128i y)
 {
     const __m128i low = all(0x55);
-    __m128i x0 = _mm_and_si128(x, low), x1 = _mm_and_si128(_mm_srli_epi16(x, 1), low);
-    __m128i y0 = _mm_and_si128(y, low), y1 = _mm_and_si128(_mm_srli_epi16(y, 1), low);
-    __m128i d = _mm_and_si128(_mm_xor_si128(y0, y1), x0);
-    __m128i high = _mm_xor_si128(_mm_xor_si128(y1, d), x1);
-    __m128i lower = _mm_xor_si128(_mm_xor_si128(y0, d), _mm_xor_si128(_mm_xor_si128(x0, x1), low));
-    return _mm_or_si128(_mm_add_epi8(high, high), lower);
+    __m128i d = _mm_and_si128(_mm_and_si128(_mm_xor_si128(y, _mm_srli_epi16(y, 1)), x), low);
+    return _mm_xor_si128(_mm_xor_si128(_mm_xor_si128(x, y), _mm_xor_si128(d, low)),
+                         _mm_xor_si128(_mm_add_epi8(d, d), _mm_and_si128(_mm_srli_epi16(x, 1), low)));
 }
 
 /* Sixteen bytes substituted after those in `before`, of which the last counts. */

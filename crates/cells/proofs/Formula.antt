@@ -12,8 +12,8 @@ use Rattle.cells.specs.Cells.{star, table, substitutedByte}
 -- x * y by their bits
 unfoldable pub product : ℕ → ℕ → ℕ
 product x y =
-    let d : ℕ = bitAnd (bitXor (bitAnd y 1) (y / 2 ^ 1)) (bitAnd x 1) in
-    bitXor (bitXor (bitXor (y / 2 ^ 1) d) (x / 2 ^ 1) * 2 ^ 1 % 2 ^ 8) (bitXor (bitXor (bitXor (bitXor (bitAnd y 1) d) (bitAnd x 1)) (x / 2 ^ 1)) 1)
+    let d : ℕ = bitAnd (bitAnd (bitXor y (y / 2 ^ 1)) x) 1 in
+    bitXor (bitXor (bitXor (bitXor (bitXor y x) d) (d * 2 ^ 1 % 2 ^ 8)) (x / 2 ^ 1)) 1
 
 pairTest : ℕ → ℕ → Bool
 pairTest k z = eqb (product (k / 4) (k % 4)) (star table (k / 4) (k % 4))
@@ -31,9 +31,8 @@ product-is x y h g =
 unfoldable pub mixed : ℕ → ℕ → ℕ
 mixed u b =
     let x : ℕ = bitXor u (b / 2 ^ 2) in
-    let d : ℕ = bitAnd (bitXor (bitAnd b 0x55) (bitAnd (b / 2 ^ 1) 0x55)) (bitAnd x 0x55) in
-    bitXor (bitXor (bitXor (bitAnd (b / 2 ^ 1) 0x55) d) (bitAnd (x / 2 ^ 1) 0x55) * 2 ^ 1 % 2 ^ 8)
-    (bitXor (bitXor (bitXor (bitXor (bitAnd b 0x55) d) (bitAnd x 0x55)) (bitAnd (x / 2 ^ 1) 0x55)) 0x55)
+    let d : ℕ = bitAnd (bitAnd (bitXor b (b / 2 ^ 1)) x) 0x55 in
+    bitXor (bitXor (bitXor (bitXor (bitXor b x) d) (d * 2 ^ 1 % 2 ^ 8)) (bitAnd (x / 2 ^ 1) 0x55)) 0x55
 
 byteTest : ℕ → ℕ → Bool
 byteTest k z = eqb (mixed (k / 256 * 64) (k % 256)) (substitutedByte table (k / 256) (k % 256))

@@ -28,12 +28,8 @@ fn star(x: u8, y: u8) -> u8
     requires { ⌜ (x < 4) × (y < 4) ⌝ }
     ensures { λ r. ⌜ (r ≡ star table x y) × (r < 4) ⌝ }
 {
-    let x0 = x & 1;
-    let x1 = x >> 1;
-    let y0 = y & 1;
-    let y1 = y >> 1;
-    let d = (y0 ^ y1) & x0;
-    ((y1 ^ d ^ x1) << 1) ^ (y0 ^ d ^ x0 ^ x1 ^ 1)
+    let d = (y ^ (y >> 1)) & x & 1;
+    y ^ x ^ d ^ (d << 1) ^ (x >> 1) ^ 1
 }
 
 // Whether a table, passed whole, has the sixteen products that the formula gives. Counters index it, never a state.
@@ -64,12 +60,8 @@ pub fn substituted_byte(p: u8, b: u8) -> u8
     ensures { λ r. ⌜ r ≡ substitutedByte table (p % 4) b ⌝ }
 {
     let x = (p << 6) ^ (b >> 2);
-    let x0 = x & LOWER;
-    let x1 = (x >> 1) & LOWER;
-    let y0 = b & LOWER;
-    let y1 = (b >> 1) & LOWER;
-    let d = (y0 ^ y1) & x0;
-    ((y1 ^ d ^ x1) << 1) ^ (y0 ^ d ^ x0 ^ x1 ^ LOWER)
+    let d = (b ^ (b >> 1)) & x & LOWER;
+    b ^ x ^ d ^ (d << 1) ^ ((x >> 1) & LOWER) ^ LOWER
 }
 
 // How many of a state's bytes are its first n.
