@@ -1,5 +1,5 @@
 // GAGE's substitution over two-bit cells and its inverse (document 000, section 1.1.1; specs/Cells.antt), by shifts, XOR and AND on the state's
-// bytes: nothing is looked up. The table of products stands beside the formula, which is held to it.
+// bytes (document 003, Algorithm 2): nothing is looked up. The table of products stands beside the formula, which is held to it.
 ghost use mathlib.Core.Path.{_≡_};
 ghost use mathlib.Core.Bool.{true};
 ghost use Prim.Native.Nat.{_<_, _≤_, _%_, min};
@@ -17,7 +17,7 @@ const WORD: usize = 16;
 
 pub const WIDE: usize = 6 * WORD;
 
-// The lower bit of each of a byte's four cells.
+// The lower bit of each of a byte's four cells: document 003's Mask.
 const LOWER: u8 = 0x55;
 
 // The table x * y (document 000, expression 1.1), rows first.

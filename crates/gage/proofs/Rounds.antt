@@ -1,12 +1,12 @@
 -- What the functions over wide states need of plain lists: the wrapping copy, one turn, the turns left, and a state put back. Assumes nothing.
-use mathlib.Core.Path.{_≡_, refl, sym, ap, _∙_}
-use mathlib.Core.List.{List, [], _∷_, _++_, append-nil}
+use mathlib.Core.Path.{_≡_, sym, ap, _∙_}
+use mathlib.Core.List.{List, _++_, append-nil}
 use Prim.Native.Nat.{ℕ, _+_, _-_, _%_, _≤_, _<_}
 use native.Mathlib.Nat.{mod-eq-of-lt}
 use native.Mathlib.Numerals.{add-one}
 use native.Mathlib.Omega.{arith}
 use lib.ListN.{length, getD, take, drop, replicate, length-append, length-take, length-drop, drop-of-length-le}
-use lib.Seq.{length-take-le, take-all, take-at, take-append-le, drop-cons, drop-drop, getD-take}
+use lib.Seq.{length-take-le, take-at, take-append-le, drop-cons, drop-drop, getD-take}
 use borrow.Rule.Slice.PartMut.{putMid}
 use Rattle.lists.specs.Buffers.{copied}
 use Rattle.lists.specs.Over.{copied-all}

@@ -3,7 +3,7 @@
 use mathlib.Core.Path.{_≡_, refl, sym, ap, _∙_}
 use mathlib.Core.List.{List, [], _∷_, _++_}
 use Prim.Native.Nat.{ℕ, zero, suc, _+_, _-_, _≤_, _<_, _%_}
-use native.Mathlib.Nat.{add-zero, zero-add, add-suc, suc-add, mod-lt, mod-eq-of-lt, add-mod-left}
+use native.Mathlib.Nat.{add-zero, zero-add, add-suc, suc-add, mod-eq-of-lt, add-mod-left}
 use native.Mathlib.Decide.{decLt}
 use native.Mathlib.Omega.{arith}
 use lib.ListN.{length, getD, take, drop, List·getD-append}

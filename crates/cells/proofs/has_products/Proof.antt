@@ -5,7 +5,6 @@ use Prim.Native.Nat.{_/_, _%_, _-_, _≤_}
 use borrow.Author.Tests.{eq-eqb, ne-eqb}
 use Rattle.cells.specs.Cells.{table, star}
 use Rattle.cells.specs.Products.{hasProducts, productsFrom, products-none, products-more, products-differ, products-all}
-use native.Mathlib.Omega.{arith}
 use borrow.Author.Needs.{needs}
 use Rattle.cells.proofs.has_products.Statement.{statement}
 use Rattle.cells.proofs.has_products.Tie as tie

@@ -1,13 +1,11 @@
 -- `restore_first` meets its promise. The invariant: what is left is restored from the cell p on (`Restored`); the measure is how many bytes are
 -- left. Assumes nothing.
-use mathlib.Core.Path.{_≡_, refl, ap, _∙_}
-use Prim.Native.Nat.{ℕ, _+_, _*_, _/_, _-_, _≤_, _<_, _%_, _^_}
-use native.Mathlib.Nat.{lt-of-lt-of-le}
+use mathlib.Core.Path.{_≡_, _∙_}
+use Prim.Native.Nat.{_/_, _-_, _%_, _^_}
 use lib.Bits.{bitAnd, and-mask, mask-lt}
-use lib.ListN.{length, getD}
+use lib.ListN.{getD}
 use mir.Syntax.{w8}
 use mir.Val.{Fits}
-use Rattle.cells.specs.Cells.{table, star}
 use Rattle.cells.proofs.Formula.{joined, joined-is}
 use Rattle.cells.proofs.Restoring.{Restored, back-none, back-more, back-all}
 use native.Mathlib.Omega.{arith}

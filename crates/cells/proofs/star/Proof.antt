@@ -3,8 +3,6 @@ use mathlib.Core.Path.{sym, subst}
 use Prim.Native.Nat.{ℕ, _<_}
 use Rattle.cells.specs.Quasigroup.{table-closed}
 use Rattle.cells.proofs.Formula.{product, product-is}
-use native.Mathlib.Omega.{arith}
-use borrow.Author.Needs.{needs}
 use Rattle.cells.proofs.star.Statement.{statement}
 use Rattle.cells.proofs.star.Tie as tie
 

@@ -6,7 +6,6 @@ use lib.ListN.{length, take, getD}
 use lib.Seq.{length-take-le, getD-take}
 use Rattle.cells.specs.Sizes.{WIDE}
 use Rattle.cells.specs.Wide.{Substituting, substituting-none, substituting-more, substituted-first}
-use native.Mathlib.Omega.{arith}
 use borrow.Author.Needs.{needs}
 use Rattle.cells.proofs.substitute_wide.Statement.{statement}
 use Rattle.cells.proofs.substitute_wide.Tie as tie

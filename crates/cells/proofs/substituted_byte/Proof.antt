@@ -1,7 +1,5 @@
 -- `substituted_byte` meets its promise: the formula gives the products of the table (`mixed-is`). Assumes nothing.
 use Rattle.cells.proofs.Formula.{mixed, mixed-is}
-use native.Mathlib.Omega.{arith}
-use borrow.Author.Needs.{needs}
 use Rattle.cells.proofs.substituted_byte.Statement.{statement}
 use Rattle.cells.proofs.substituted_byte.Tie as tie
 
