@@ -36,21 +36,12 @@ static inline __m128i gathered(const uint8_t *e)
 
 static inline __m128i led(uint8_t l) { return _mm_slli_si128(_mm_cvtsi32_si128(l), WORD - 1); }
 
-static void turn(const uint8_t *from, uint8_t *to, size_t words, uint8_t l)
+/* One pass over the words, each as `word` gives it, substituted after the one before. */
+static inline void pass(const uint8_t *from, uint8_t *to, size_t words, uint8_t l, __m128i (*word)(const uint8_t *))
 {
     __m128i before = led(l);
     for (size_t k = 0; k < words; k++) {
-        __m128i y = gathered(from + WORD * k);
-        _mm_storeu_si128((__m128i *)(to + WORD * k), substituted(before, y));
-        before = y;
-    }
-}
-
-static void first(const uint8_t *from, uint8_t *to, size_t words, uint8_t l)
-{
-    __m128i before = led(l);
-    for (size_t k = 0; k < words; k++) {
-        __m128i y = load(from + WORD * k);
+        __m128i y = word(from + WORD * k);
         _mm_storeu_si128((__m128i *)(to + WORD * k), substituted(before, y));
         before = y;
     }
@@ -61,10 +52,10 @@ static void rounds(uint8_t *s, size_t n, unsigned k)
     uint8_t room[2][ROOM], *from = room[0], *to = room[1], *other;
     size_t words = (n + WORD - 1) / WORD;
     memcpy(to, s, STATE);
-    first(to, from, words, leader[0]);
+    pass(to, from, words, leader[0], load);
     for (unsigned i = 1; i < k; i++) {
         memcpy(from + n, from, 8); /* seven are read, and eight are one move */
-        turn(from, to, words, leader[i]);
+        pass(from, to, words, leader[i], gathered);
         other = from;
         from = to;
         to = other;
