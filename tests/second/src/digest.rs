@@ -51,6 +51,19 @@ impl Sponge {
         }
     }
 
+    /// A sponge that goes on from a state.
+    pub fn from_state(readings: &Readings, rate: usize, state: &[u8]) -> Sponge {
+        Sponge {
+            permutation: Permutation::new(readings),
+            state: state.to_vec(),
+            rate,
+        }
+    }
+
+    pub fn state(&self) -> &[u8] {
+        &self.state
+    }
+
     pub fn absorb(&mut self, blocks: &[u8]) {
         for block in blocks.chunks(self.rate) {
             for (byte, &from) in self.state.iter_mut().zip(block) {

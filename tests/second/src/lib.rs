@@ -21,6 +21,7 @@ pub mod permutation;
 pub mod reader;
 pub mod readings;
 pub mod rows;
+pub mod running;
 pub mod shuffle;
 pub mod stream;
 pub mod stuffing;

@@ -29,6 +29,8 @@ pub const NO_BUNDLE: u8 = 11;
 pub const SAME_GLYPHS: u8 = 12;
 /// Line of listed bytes that is not the trade's (order W2).
 pub const NOT_TRADE: u8 = 13;
+/// Feed or finish after a finish (order W4).
+pub const AFTER_FINISH: u8 = 14;
 /// The stretch takes more work than is allowed (order W5).
 pub const OVER_WORK: u8 = 15;
 
