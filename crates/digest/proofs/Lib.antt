@@ -1,4 +1,5 @@
 pub mod Taking
 pub mod Giving
+pub mod Parting
 pub mod Answering
 pub mod Single

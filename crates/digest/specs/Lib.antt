@@ -6,3 +6,5 @@ pub mod Shapes
 pub mod Calls
 pub mod Outputs
 pub mod Order
+pub mod Parts
+pub mod Joining

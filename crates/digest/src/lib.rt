@@ -3,15 +3,16 @@
 use gage::LARGEST;
 ghost use mathlib.Core.Path.{_≡_};
 ghost use mathlib.Core.Bool.{true, false};
-ghost use Prim.Native.Nat.{_*_};
-ghost use lib.ListN.{take};
+ghost use Prim.Native.Nat.{_*_, _/_};
+ghost use lib.ListN.{length, take};
 ghost use Rattle.gage.specs.Permutation.{ROUNDS, permitted, permute};
-ghost use Rattle.sponge.specs.Padding.{blockCount};
-ghost use Rattle.sponge.specs.Absorbing.{from};
+ghost use Rattle.sponge.specs.Padding.{blockCount, lastBlock};
+ghost use Rattle.sponge.specs.Absorbing.{from, xored};
 ghost use Rattle.digest.specs.Instances.{DIGEST, unknown, sizeOf, rateOf, outputsOf};
 ghost use Rattle.digest.specs.Shapes.{Fits};
 ghost use Rattle.digest.specs.Hashing.{absorbed, squeezed};
 ghost use Rattle.digest.specs.Answers.{digestAnswer, digestOut};
+ghost use Rattle.digest.specs.Parts.{taken, spongeOf, takenIn, closedBy};
 
 // The bits of a byte, and of a digest.
 const BYTE: usize = 8;
@@ -48,10 +49,10 @@ pub enum Digested {
 }
 
 // What the sponge of an instance works with: state size and rate in bytes, and how often it gives out.
-struct Shape {
-    size: usize,
-    rate: usize,
-    outputs: usize,
+pub struct Shape {
+    pub size: usize,
+    pub rate: usize,
+    pub outputs: usize,
 }
 
 fn is_unknown(instance: usize) -> bool
@@ -87,23 +88,41 @@ fn turned(s: [u8; LARGEST], n: usize) -> [u8; LARGEST]
     p.state
 }
 
-// The state after the message's whole blocks, taken straight from the message, and its padded last block.
-fn absorb(message: &[u8], size: usize, rate: usize) -> [u8; LARGEST]
+// A state after a message's whole blocks, taken straight from the message.
+fn absorb_whole(s: [u8; LARGEST], message: &[u8], size: usize, rate: usize) -> [u8; LARGEST]
     requires { ⌜ Fits size rate ⌝ }
-    ensures { λ r. ⌜ take size r ≡ absorbed size rate (now (message .entry)) (blockCount rate (now (message .entry))) .state ⌝ }
+    ensures { λ r. ⌜ take size r ≡ taken rate (now (message .entry)) (from (take size s)) (length (now (message .entry)) / rate) .state ⌝ }
 {
-    let mut s = [0u8; LARGEST];
+    let mut state = s;
     let blocks = message.len() / rate;
     let mut at = 0;
     let mut i = 0;
     while i < blocks {
         let end = at + rate;
-        s = turned(sponge::mix(s, &message[at..end]), size);
+        state = turned(sponge::mix(state, &message[at..end]), size);
         at = end;
         i += 1;
     }
-    let last = sponge::last_block(&message[at..]);
+    state
+}
+
+// A state after what is left of the message, padded.
+fn absorb_last(s: [u8; LARGEST], rest: &[u8], size: usize, rate: usize) -> [u8; LARGEST]
+    requires { ⌜ Fits size rate ⌝ }
+    ensures { λ r. ⌜ take size r ≡ permute ROUNDS (xored (take rate (lastBlock (now (rest .entry)))) (take size s)) ⌝ }
+{
+    let last = sponge::last_block(rest);
     turned(sponge::mix(s, &last[0..rate]), size)
+}
+
+// The state after the message's whole blocks and its padded last block.
+fn absorb(message: &[u8], size: usize, rate: usize) -> [u8; LARGEST]
+    requires { ⌜ Fits size rate ⌝ }
+    ensures { λ r. ⌜ take size r ≡ absorbed size rate (now (message .entry)) (blockCount rate (now (message .entry))) .state ⌝ }
+{
+    let s = absorb_whole([0u8; LARGEST], message, size, rate);
+    let at = message.len() / rate * rate;
+    absorb_last(s, &message[at..], size, rate)
 }
 
 // The digest given out of a state: before each output the permutation.
@@ -123,6 +142,48 @@ fn squeeze(s: [u8; LARGEST], size: usize, rate: usize, outputs: usize) -> [u8; D
         k += 1;
     }
     hash
+}
+
+// What the sponge of an instance works with; nothing for an unknown one.
+pub fn sponge_of(instance: usize) -> Shape
+    ensures { λ r. ⌜ r ≡ spongeOf instance ⌝ }
+{
+    if is_unknown(instance) {
+        return Shape {
+            size: 0,
+            rate: 0,
+            outputs: 0,
+        };
+    }
+    shape_of(instance)
+}
+
+// A state after the whole blocks of a part of a message, zero past its size; of an unknown instance it stays.
+pub fn take_in(instance: usize, s: [u8; LARGEST], part: &[u8]) -> [u8; LARGEST]
+    ensures { λ r. ⌜ r ≡ takenIn instance s (now (part .entry)) ⌝ }
+{
+    if is_unknown(instance) {
+        return s;
+    }
+    let shape = shape_of(instance);
+    let size = shape.size;
+    let state = absorb_whole(s, part, size, shape.rate);
+    let mut out = [0u8; LARGEST];
+    lists::copy(&state[0..size], &mut out);
+    out
+}
+
+// The digest of a message whose whole blocks made a state, from what is left of the message; zeros for an unknown instance.
+pub fn close(instance: usize, s: [u8; LARGEST], rest: &[u8]) -> [u8; DIGEST]
+    ensures { λ r. ⌜ r ≡ closedBy instance s (now (rest .entry)) ⌝ }
+{
+    if is_unknown(instance) {
+        return [0u8; DIGEST];
+    }
+    let shape = shape_of(instance);
+    let rate = shape.rate;
+    let state = absorb_last(s, rest, shape.size, rate);
+    squeeze(state, shape.size, rate, shape.outputs)
 }
 
 // The digest of a message over the first 32 bytes of out; the rest of out stays, and all of it on a refusal.
