@@ -2,8 +2,7 @@
 use mathlib.Core.Path.{_≡_, sym, ap, _∙_}
 use mathlib.Core.Bool.{false}
 use mathlib.Core.List.{List}
-use Prim.Native.Nat.{ℕ, _+_, _*_, _/_, _≤_, _<_}
-use native.Mathlib.Nat.{div-le-self, mul-le-mul-left}
+use Prim.Native.Nat.{ℕ, _+_, _/_, _≤_}
 use native.Mathlib.Omega.{arith}
 use lib.ListN.{length, take}
 use lib.Seq.{take-all}
@@ -12,7 +11,6 @@ use Rattle.sponge.specs.Padding.{blockCount}
 use Rattle.sponge.specs.Absorbing.{from}
 use Rattle.digest.specs.Instances.{DIGEST, unknown, sizeOf, rateOf, outputsOf}
 use Rattle.digest.specs.Hashing.{absorbed, squeezed, sponged, digestOf, digestCalls}
-use Rattle.digest.specs.Shapes.{known-whole}
 use Rattle.digest.specs.Calls.{digest-calls}
 use Rattle.digest.specs.Outputs.{length-digest, squeezed-state}
 use Rattle.digest.specs.Answers.{LONGEST-MESSAGE, digestAnswer, digestOut}
@@ -49,11 +47,3 @@ finished i m o {n} {R} {k} s {hash} {w} e h g n-is R-is k-is taken given put =
     let d : hash ≡ digestOf i m = (rw (n-is, R-is, k-is) at given) ∙ hashed i m s (rw (n-is, R-is) at taken) in
     let r = digest-done i m o e h g in
     (rw (R-is, k-is) (counted i m (r .0)), rw (put, d) (copied-whole i m o e g ∙ sym (r .1)))
-
--- the count is far below the machine's largest number
-pub count-fits : (i n : ℕ) → unknown i ≡ false → n ≤ LONGEST-MESSAGE → (0 < rateOf i) × (n / rateOf i + outputsOf i ≤ LONGEST-MESSAGE + DIGEST)
-count-fits i n e h =
-    let w = known-whole i e in
-    let some : 0 < rateOf i = w .fits .some in
-    let k : outputsOf i * 1 ≤ outputsOf i * rateOf i = mul-le-mul-left (outputsOf i) some in
-    (some, omega (arith, w .makes, div-le-self n (rateOf i)))

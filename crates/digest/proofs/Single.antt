@@ -2,6 +2,7 @@
 -- Assumes nothing.
 use mathlib.Core.Path.{_≡_, sym, _∙_}
 use mathlib.Core.List.{List}
+use mathlib.Core.Bool.{Bool}
 use Prim.Native.Nat.{ℕ}
 use contract.Lifetimes.{Lfts}
 use denote.Triple.Clauses.{AtExit}
@@ -10,6 +11,8 @@ use Rattle.digest.specs.declared.Digested.{Digested}
 use Rattle.digest.specs.declared.Shape.{Shape}
 use Rattle.digest.proofs.digest.Kinds as kinds
 use Rattle.digest.proofs.digest.Reads as reads
+use Rattle.digest.proofs.is_unknown.Kinds as is-unknown-kinds
+use Rattle.digest.proofs.is_unknown.Reads as is-unknown-reads
 use Rattle.digest.proofs.sponge_of.Kinds as sponge-of-kinds
 use Rattle.digest.proofs.sponge_of.Reads as sponge-of-reads
 use Rattle.digest.proofs.take_in.Kinds as take-in-kinds
@@ -20,6 +23,10 @@ use Rattle.digest.proofs.close.Reads as close-reads
 pub digest-single : (κs : Lfts 2) (a : Dens κs kinds.ps) (r r′ : Digested) (x x′ : AtExit (endedOf 2 kinds.ps kinds.r) κs)
     → reads.Post κs a r x → reads.Post κs a r′ x′ → (r ≡ r′) × (x .1 .1 .0 .now ≡ x′ .1 .1 .0 .now)
 digest-single κs a r r′ x x′ p q = (p .0 ∙ sym (q .0), p .1 ∙ sym (q .1))
+
+pub is-unknown-single : (κs : Lfts 0) (a : Dens κs is-unknown-kinds.ps) (r r′ : Bool) (x x′ : AtExit (endedOf 0 is-unknown-kinds.ps is-unknown-kinds.r) κs)
+    → is-unknown-reads.Post κs a r x → is-unknown-reads.Post κs a r′ x′ → r ≡ r′
+is-unknown-single κs a r r′ x x′ p q = p ∙ sym q
 
 pub sponge-of-single : (κs : Lfts 0) (a : Dens κs sponge-of-kinds.ps) (r r′ : Shape) (x x′ : AtExit (endedOf 0 sponge-of-kinds.ps sponge-of-kinds.r) κs)
     → sponge-of-reads.Post κs a r x → sponge-of-reads.Post κs a r′ x′ → r ≡ r′

@@ -3,20 +3,21 @@
 use mathlib.Core.Path.{_≡_, refl, sym, ap, _∙_}
 use mathlib.Core.List.{List, _++_}
 use Prim.Native.Nat.{ℕ, zero, suc, _+_, _*_, _/_, _≤_, _<_}
-use native.Mathlib.Nat.{add-zero, add-suc, add-mul, suc-mul, div-mul-le-self}
+use native.Mathlib.Nat.{add-zero, add-suc, add-mul, suc-mul, zero-mul, div-mul-le-self, div-eq-of-lt, mul-add-div-right}
 use native.Mathlib.Numerals.{add-one}
 use native.Mathlib.Omega.{arith}
-use lib.ListN.{length, take, drop, replicate, length-drop}
-use lib.Seq.{take-append-le, drop-append-le, drop-append-add}
+use lib.ListN.{length, take, drop, replicate, length-append, length-drop, length-replicate, take-append-drop}
+use lib.Seq.{take-all, take-at, take-append-le, drop-append-le, drop-append-add}
 use Rattle.gage.specs.Permutation.{ROUNDS, permute}
 use Rattle.gage.specs.States.{length-permute}
 use Rattle.sponge.specs.Padding.{LARGEST-RATE, block, lastBlock}
 use Rattle.sponge.specs.Absorbing.{xored, Run, from, changed, called}
-use Rattle.sponge.specs.Blocks.{block-whole, last-block-cut}
+use Rattle.sponge.specs.Blocks.{block-whole, last-block-cut, take-replicate}
 use Rattle.sponge.specs.Xor.{length-xored}
 use Rattle.digest.specs.Hashing.{absorbed, squeezed, sponged}
 use Rattle.digest.specs.Calls.{squeezed-calls}
-use Rattle.digest.specs.Parts.{taken, closed}
+use Rattle.digest.specs.Outputs.{squeezed-state}
+use Rattle.digest.specs.Parts.{taken, closed, within}
 
 -- one block, then the permutation
 step : List ℕ → Run → Run
@@ -50,6 +51,29 @@ taken-join R a b r j (suc k) e =
     ∙ ap (λ (x : List ℕ). step (take R x) (taken R (a ++ b) r (j + k))) at
     ∙ ap (step (take R (drop (k * R) b))) (taken-join R a b r j k e)
 
+-- a list of j whole blocks and more: what is taken in of it, and what is left
+module _ (R j : ℕ) (a c : List ℕ) (pos : 0 < R) (e : length a ≡ j * R) where
+  blocks-split : length (a ++ c) / R ≡ j + length c / R
+  blocks-split = ap (λ (n : ℕ). n / R) (length-append a c ∙ ap (λ (n : ℕ). n + length c) e) ∙ mul-add-div-right pos j (length c)
+
+  pub taken-split : (r : Run) → taken R (a ++ c) r (length (a ++ c) / R) ≡ taken R c (taken R a r j) (length c / R)
+  taken-split r = ap (taken R (a ++ c) r) blocks-split ∙ taken-join R a c r j (length c / R) e
+
+  pub left-split : drop (length (a ++ c) / R * R) (a ++ c) ≡ drop (length c / R * R) c
+  left-split =
+      ap (λ (n : ℕ). drop (n * R) (a ++ c)) blocks-split
+      ∙ ap (λ (n : ℕ). drop n (a ++ c)) (add-mul j (length c / R) R ∙ ap (λ (n : ℕ). n + length c / R * R) (sym e))
+      ∙ drop-append-add a c (length c / R * R)
+
+-- a list with no whole block
+module _ (R : ℕ) (a : List ℕ) (h : length a < R) where
+  pub taken-short : (r : Run) → taken R a r (length a / R) ≡ r
+  unfolding taken
+  taken-short r = rw (div-eq-of-lt h)
+
+  pub left-short : drop (length a / R * R) a ≡ a
+  left-short = rw (div-eq-of-lt h, zero-mul R)
+
 -- a state keeps its length, depends on no call made before, and each block is one call
 pub length-taken : (R : ℕ) (x : List ℕ) (r : Run) (k : ℕ) → length (taken R x r k .state) ≡ length (r .state)
 unfolding taken
@@ -72,6 +96,28 @@ taken-calls R x r (suc k) = omega (arith, taken-calls R x r k)
 pub closed-calls : (R k : ℕ) (rest : List ℕ) (r : Run) → closed R k rest r .run .calls ≡ r .calls + 1 + k
 unfolding closed
 closed-calls R k rest r = squeezed-calls R (called (permute ROUNDS) (changed (xored (take R (lastBlock rest))) r)) k
+
+pub closed-state : (R k : ℕ) (rest : List ℕ) (r q : Run) → r .state ≡ q .state → closed R k rest r .hash ≡ closed R k rest q .hash
+unfolding closed step
+closed-state R k rest r q e =
+    let b : List ℕ = take R (lastBlock rest) in
+    squeezed-state R (step b r) (step b q) k (ap (λ (s : List ℕ). permute ROUNDS (xored b s)) e)
+
+-- x stands first in a longer list of zeros
+pub within-front : (n k : ℕ) (x : List ℕ) → length x ≡ n → n ≤ k → take n (within k x) ≡ x
+within-front n k x e h =
+    let z : List ℕ = replicate k 0 in
+    let all : take (length z) x ≡ x = rw (length-replicate {A = ℕ} k 0) (take-all k x (omega arith)) in
+    rw all (take-at x (drop (length x) z) n e)
+
+-- zeros with zeros behind them
+pub within-zeros : (n k : ℕ) → n ≤ k → within k (replicate n 0) ≡ replicate k 0
+within-zeros n k h =
+    let z : List ℕ = replicate k 0 in
+    let s : List ℕ = replicate n 0 in
+    let ls : length s ≡ n = length-replicate {A = ℕ} n 0 in
+    let all : take (length z) s ≡ s = rw (length-replicate {A = ℕ} k 0) (take-all k s (omega arith)) in
+    rw (all, ls) (ap (λ (l : List ℕ). l ++ drop n z) (sym (take-replicate n k 0 h)) ∙ take-append-drop n z)
 
 -- a message's whole blocks, from a state of zeros
 pub absorbed-taken : (n R : ℕ) (m : List ℕ) (i : ℕ) → i * R ≤ length m → absorbed n R m i ≡ taken R m (from (replicate n 0)) i

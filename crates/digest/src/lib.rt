@@ -55,7 +55,8 @@ pub struct Shape {
     pub outputs: usize,
 }
 
-fn is_unknown(instance: usize) -> bool
+// Whether there is no such instance.
+pub fn is_unknown(instance: usize) -> bool
     ensures { λ r. ⌜ r ≡ unknown instance ⌝ }
 {
     if instance < 1 {

@@ -3,7 +3,8 @@
 use lib.ListN.{length}
 use mathlib.Core.Path.{sym, _∙_}
 use Rattle.digest.specs.Shapes.{known-whole}
-use Rattle.digest.proofs.Answering.{refused, finished, count-fits}
+use Rattle.digest.specs.Calls.{count-fits}
+use Rattle.digest.proofs.Answering.{refused, finished}
 use Rattle.digest.specs.Order.{instance-refused, length-refused, room-refused}
 use native.Mathlib.Omega.{arith}
 use borrow.Author.Needs.{needs}

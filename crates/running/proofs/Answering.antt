@@ -1,0 +1,118 @@
+-- Each return of a step by value gives what the order's refusals say, in their order. Assumes nothing.
+use mathlib.Core.Path.{_≡_, refl, sym, ap, _∙_}
+use mathlib.Core.Bool.{false}
+use mathlib.Core.List.{List, [], _∷_, _++_}
+use mathlib.Core.Logic.{⊎-elim}
+use Prim.Native.Nat.{ℕ, _+_, _-_, _/_, _%_, _≤_, _<_}
+use native.Mathlib.Nat.{mod-lt}
+use native.Mathlib.Omega.{arith}
+use types.Run.{OneOf}
+use denote.Enum.Declared.{tagOf}
+use borrow.Author.Tests.{le-ltb}
+use lib.ListN.{length, take}
+use Rattle.lists.specs.Buffers.{copied, over}
+use Rattle.lists.specs.Over.{copied-all}
+use Rattle.gage.specs.Permutation.{LARGEST}
+use Rattle.sponge.specs.Padding.{LARGEST-RATE}
+use Rattle.sponge.specs.Absorbing.{from}
+use Rattle.digest.specs.Instances.{DIGEST, unknown, sizeOf, rateOf, outputsOf}
+use Rattle.digest.specs.Answers.{LONGEST-MESSAGE}
+use Rattle.digest.specs.Calls as digest-calls
+use Rattle.digest.specs.Shapes.{known-whole}
+use Rattle.digest.specs.Parts.{spongeOf, takenIn, closedBy, within}
+use Rattle.digest.specs.Joining.{taken-state, closed-calls, closed-state}
+use Rattle.digest.specs.declared.Shape.{Shape}
+use Rattle.running.specs.Running.{written, soFar, unfinished, unfed, takenUp, leftOf, grown, feedAnswer, feedRecord, concluded, finishAnswer, finishOut, onFinish, ended}
+use Rattle.running.specs.Growing.{Growing}
+use Rattle.running.specs.Order.{finish-passes}
+use Rattle.running.specs.declared.Record.{Record}
+use Rattle.running.specs.declared.Fed.{Fed}
+use Rattle.running.specs.declared.Fed.the-variants as fed-is
+use Rattle.running.specs.declared.Finished.{Finished}
+use Rattle.running.specs.declared.Finished.the-variants as finished-is
+use Rattle.running.proofs.Fed as fed-type
+use Rattle.running.proofs.Finished as finished-type
+
+-- a refused feed leaves the record
+pub feed-refused : (r : Record) (b : List ℕ) (a : Fed) → OneOf (1 ∷ 2 ∷ 3 ∷ []) (tagOf fed-type.the-type a) → a ≡ feedAnswer r b → r ≡ feedRecord r b
+unfolding feedRecord
+feed-refused r b fed-is.Done k e = absurd (⊎-elim (λ h. omega (arith, h)) (⊎-elim (λ h. omega (arith, h)) (λ h. omega (arith, h))) k)
+feed-refused r b fed-is.AfterFinish k e = rw (sym e)
+feed-refused r b fed-is.Unknown k e = rw (sym e)
+feed-refused r b fed-is.TooLong k e = rw (sym e)
+
+-- a refused finish leaves the record
+pub finish-refused : (r : Record) (a : Finished) → OneOf (1 ∷ 2 ∷ 3 ∷ []) (tagOf finished-type.the-type a) → r ≡ onFinish a (ended r) r
+finish-refused r (finished-is.Done n) k = absurd (⊎-elim (λ h. omega (arith, h)) (⊎-elim (λ h. omega (arith, h)) (λ h. omega (arith, h))) k)
+finish-refused r finished-is.AfterFinish k = refl
+finish-refused r finished-is.Unknown k = refl
+finish-refused r finished-is.NoRoom k = refl
+
+-- what the code works out of a record that is fed
+module _ (r : Record) (known : unknown (r .instance) ≡ false) {shape : Shape} (shape-is : shape ≡ spongeOf (r .instance)) where
+  pub rate-is : shape .rate ≡ rateOf (r .instance)
+  unfolding spongeOf
+  rate-is = rw (shape-is, known)
+
+  pub outputs-is : shape .outputs ≡ outputsOf (r .instance)
+  unfolding spongeOf
+  outputs-is = rw (shape-is, known)
+
+  pub some : 0 < shape .rate
+  some = rw rate-is (known-whole (r .instance) known .fits .some)
+
+  pub held-less : r .total % shape .rate < shape .rate
+  held-less = mod-lt (r .total) some
+
+  pub held-fits : r .total % shape .rate ≤ LARGEST-RATE
+  held-fits =
+      let l : shape .rate ≤ LARGEST-RATE = rw rate-is (known-whole (r .instance) known .fits .least) in
+      omega (arith, held-less)
+
+  pub growing : Growing (r .instance) (r .total % shape .rate) (shape .rate - r .total % shape .rate)
+  growing = let h = held-less in record { known = known; whole = rw (sym rate-is) (omega arith); lacks = omega arith }
+
+  -- the state grown by a step is the one after the full blocks
+  grown-state : (x : List ℕ) → takenIn (r .instance) (r .state) x ≡ within LARGEST (takenUp r x)
+  unfolding takenIn takenUp soFar
+  grown-state x =
+      rw known
+      (ap (within LARGEST) (taken-state (rateOf (r .instance)) x (from (take (sizeOf (r .instance)) (r .state))) (soFar r)
+      (length x / rateOf (r .instance)) refl))
+
+  pub feed-done : (b state block : List ℕ) → fed-is.Done ≡ feedAnswer r b
+      → state ≡ takenIn (r .instance) (r .state) (take (r .total % shape .rate) (r .block) ++ b)
+      → block ≡ within LARGEST-RATE (leftOf (r .instance) (take (r .total % shape .rate) (r .block) ++ b))
+      → record { total = r .total + length b; instance = r .instance; finished = 0; state = state; block = block } ≡ feedRecord r b
+  unfolding feedRecord grown written unfinished
+  feed-done b state block e s-is b-is =
+      let s : state ≡ within LARGEST (takenUp r (take (r .total % shape .rate) (r .block) ++ b)) =
+      s-is ∙ grown-state (take (r .total % shape .rate) (r .block) ++ b) in
+      rw (s, b-is, sym e, rate-is)
+
+  -- the digest that is given out, and its count
+  given-out : (hash : List ℕ) → hash ≡ closedBy (r .instance) (r .state) (take (r .total % shape .rate) (r .block))
+      → hash ≡ concluded r .hash
+  unfolding closedBy concluded unfinished soFar
+  given-out hash e =
+      e ∙ rw (known, rate-is)
+      (closed-state (rateOf (r .instance)) (outputsOf (r .instance)) (take (r .total % rateOf (r .instance)) (r .block))
+      (from (take (sizeOf (r .instance)) (r .state))) (soFar r) refl)
+
+  counted : r .total / shape .rate + 1 + shape .outputs ≡ concluded r .run .calls
+  unfolding concluded soFar
+  counted =
+      rw (rate-is, outputs-is)
+      (sym (closed-calls (rateOf (r .instance)) (outputsOf (r .instance)) (unfinished r) (soFar r)))
+
+  -- the count is far below the machine's largest number
+  pub count-fits : r .total ≤ LONGEST-MESSAGE → r .total / shape .rate + shape .outputs ≤ LONGEST-MESSAGE + DIGEST
+  count-fits h = rw (rate-is, outputs-is) (digest-calls.count-fits (r .instance) (r .total) known h .1)
+
+  pub finish-done : (o hash w : List ℕ) → length hash ≡ DIGEST → unfed r ≡ false → r .finished ≤ 0 → DIGEST ≤ length o
+      → hash ≡ closedBy (r .instance) (r .state) (take (r .total % shape .rate) (r .block)) → w ≡ copied hash o
+      → (finished-is.Done (r .total / shape .rate + 1 + shape .outputs) ≡ finishAnswer r o) × (w ≡ finishOut r o)
+  finish-done o hash w long u f h hash-is w-is =
+      let p = finish-passes r o (le-ltb 0 (r .finished) f) u h in
+      let copy : w ≡ over hash o = w-is ∙ copied-all hash o (omega arith) in
+      (ap finished-is.Done counted ∙ sym (p .0), copy ∙ ap (λ (l : List ℕ). over l o) (given-out hash hash-is) ∙ sym (p .1))

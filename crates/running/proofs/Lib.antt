@@ -1,0 +1,4 @@
+pub mod Filling
+pub mod Growing
+pub mod Starting
+pub mod Answering

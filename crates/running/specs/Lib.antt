@@ -1,0 +1,5 @@
+pub mod Running
+pub mod Growing
+pub mod Order
+pub mod Growth
+pub mod Cutting
