@@ -2,3 +2,4 @@ pub mod Filling
 pub mod Growing
 pub mod Starting
 pub mod Answering
+pub mod Single

@@ -24,7 +24,8 @@ use Rattle.running.specs.declared.Fed.the-variants as fed-is
 use Rattle.running.specs.declared.Finished.{Finished}
 use Rattle.running.specs.declared.Finished.the-variants as finished-is
 
--- what each call promises: of a record r before it, an answer, and a record r′ after it (proofs/Contracts.antt has that it is the contract)
+-- what each call promises: of a record r before it, an answer, and a record r′ after it (proofs/Single.antt of `lending` has that these are
+-- the contracts)
 abbrev pub Starts : Record → ℕ → Started → Record → Type 0
 Starts r i a r′ = (a ≡ startAnswer i) × (r′ ≡ startRecord r i)
 

@@ -12,9 +12,10 @@ use Rattle.lists.specs.Never.{never}
 use Rattle.lists.specs.Buffers.{over}
 use Rattle.digest.specs.Instances.{DIGEST, unknown}
 use Rattle.digest.specs.Answers.{LONGEST-MESSAGE}
-use Rattle.running.specs.Running.{unfinished, unfed, grown, concluded, feedAnswer, feedRecord, finishAnswer, finishOut}
+use Rattle.running.specs.Running.{unfinished, unfed, grown, concluded, feedAnswer, feedRecord, finishAnswer, finishOut, finishRecord, onFinish, ended}
 use Rattle.running.specs.declared.Record.{Record}
 use Rattle.running.specs.declared.Fed.the-variants as fed-is
+use Rattle.running.specs.declared.Finished.{Finished}
 use Rattle.running.specs.declared.Finished.the-variants as finished-is
 
 -- a record that can be fed has a known instance and counts no more than can be fed
@@ -59,3 +60,8 @@ pub finish-passes : (r : Record) (o : List ℕ) → ltb 0 (r .finished) ≡ fals
     → (finishAnswer r o ≡ finished-is.Done (concluded r .run .calls)) × (finishOut r o ≡ over (concluded r .hash) o)
 unfolding finishOut finishAnswer
 finish-passes r o f u h = let e = le-ltb (length o) DIGEST h in (rw (f, u, e), rw (f, u, e))
+
+-- the record that a finish leaves, from its answer
+pub finish-leaves : (r : Record) (o : List ℕ) {a : Finished} → a ≡ finishAnswer r o → onFinish a (ended r) r ≡ finishRecord r o
+unfolding finishRecord
+finish-leaves r o e = ap (λ (a : Finished). onFinish a (ended r) r) e
