@@ -17,6 +17,7 @@ ghost use Rattle.reader.specs.Answers.{readAnswer, readOut};
 ghost use Rattle.stream.specs.Stretches.{nextSpan};
 ghost use Rattle.glyphs.specs.Answers as judging;
 ghost use Rattle.bundling.specs.Answers as bundles;
+ghost use Rattle.running.specs.Running.{startAnswer, startRecord, startNumber, feedAnswer, feedRecord, feedNumber, finishAnswer, finishRecord, finishOut, finishNumber, finishCount};
 ghost use Rattle.lubdhvani.specs.Calls.{permuteNumber, permuteState};
 ghost use Rattle.lubdhvani.specs.Readings.{askedOf, readingOut};
 use gage::Answer;
@@ -34,6 +35,12 @@ use numbers::seal_number;
 use numbers::write_count;
 use numbers::write_length;
 use numbers::write_number;
+use running::Finished;
+use running::Record;
+use running::feed_number;
+use running::finish_count;
+use running::finish_number;
+use running::start_number;
 
 // A state of at most LARGEST bytes at the start of a whole one.
 fn widened(state: &[u8]) -> [u8; LARGEST]
@@ -93,6 +100,41 @@ pub extern "C" fn lubdhvani_digest(
     let answer = digest::digest(instance, message, out);
     *calls = digest_count(answer);
     digest_number(answer)
+}
+
+// Starts a running digest on a record lent.
+#[no_mangle]
+pub extern "C" fn lubdhvani_start(running: &mut Record, instance: usize) -> u32
+    ensures { λ r. ⌜ (r ≡ startNumber (startAnswer instance)) × (now (running .exit) ≡ startRecord (now (running .entry)) instance) ⌝ }
+{
+    let answer = lending::start(running, instance);
+    start_number(answer)
+}
+
+// Feeds it.
+#[no_mangle]
+pub extern "C" fn lubdhvani_feed(running: &mut Record, bytes: &[u8]) -> u32
+    ensures { λ r. ⌜ (r ≡ feedNumber (feedAnswer (now (running .entry)) (now (bytes .entry)))) × (now (running .exit) ≡ feedRecord (now (running .entry)) (now (bytes .entry))) ⌝ }
+{
+    let answer = lending::feed(running, bytes);
+    feed_number(answer)
+}
+
+// The number and the count of what a finish answers.
+fn finish_report(answer: Finished, calls: &mut usize) -> u32
+    ensures { λ r. ⌜ (r ≡ finishNumber answer) × (now (calls .exit) ≡ finishCount answer) ⌝ }
+{
+    *calls = finish_count(answer);
+    finish_number(answer)
+}
+
+// Finishes it.
+#[no_mangle]
+pub extern "C" fn lubdhvani_finish(running: &mut Record, out: &mut [u8], calls: &mut usize) -> u32
+    ensures { λ r. ⌜ (r ≡ finishNumber (finishAnswer (now (running .entry)) (now (out .entry)))) × (now (running .exit) ≡ finishRecord (now (running .entry)) (now (out .entry))) × (now (out .exit) ≡ finishOut (now (running .entry)) (now (out .entry))) × (now (calls .exit) ≡ finishCount (finishAnswer (now (running .entry)) (now (out .entry)))) ⌝ }
+{
+    let answer = lending::finish(running, out);
+    finish_report(answer, calls)
 }
 
 // Seals a message.

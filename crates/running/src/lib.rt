@@ -152,11 +152,12 @@ fn grow_block(
     requires { ⌜ Growing instance held missing ⌝ }
     ensures { λ r. ⌜ r ≡ within LARGEST-RATE (leftOf instance (take held block ++ now (bytes .entry))) ⌝ }
 {
-    if bytes.len() < missing {
+    let fed = bytes.len();
+    if fed < missing {
         return joined(block, held, bytes);
     }
     let rate = held + missing;
-    let whole = (bytes.len() - missing) / rate * rate;
+    let whole = (fed - missing) / rate * rate;
     let at = missing + whole;
     joined(block, 0, &bytes[at..])
 }

@@ -19,9 +19,6 @@ returns c =
 add-rate : tie.Need-add-rate
 add-rate c = omega (arith, sizes (c .before .before .args .instance) (c .before .before .pre))
 
-sub-whole : tie.Need-sub-whole
-sub-whole c = search needs
-
 div-whole : tie.Need-div-whole
 div-whole c = omega (arith, sizes (c .before .before .args .instance) (c .before .before .pre))
 
@@ -45,7 +42,7 @@ part-joined-end : tie.Need-part-joined-end
 part-joined-end c = search needs
 
 joined-requires-2 : tie.Need-joined-requires-2
-joined-requires-2 c κs = search needs
+joined-requires-2 c κs = omega (arith, sizes (c .before .before .before .args .instance) (c .before .before .before .pre))
 
 returns-2 : tie.Need-returns-2
 returns-2 c =
@@ -58,7 +55,6 @@ grow-block-spec =
     joined-requires
     returns
     add-rate
-    sub-whole
     div-whole
     mul-whole
     add-at
