@@ -12,6 +12,7 @@
  *    buffer of the call. A reading comes back as a struct by value, and what a reader is told anew goes in as one.
  *  - The return value is one of the numbers below. They are tested in the order 1, 2, 3, 9, 13, 4, 10; the first that holds is given. A
  *    stretch is judged in the order 7 for its length, 6, 7 for its fields, 8, 15, 5, 9, 13. A call of a bundle: 3, 11, 12, 4.
+ *    The calls of a running digest test 14 before these. Their record is never NULL, and is the caller's alone while the call runs.
  *  - `calls` (and `length`, `first`, `closing`) are always written: counts of calls of the permutation, lengths, places.
  *  - Nothing is changed but what is named; the rest of a longer buffer stays as it was.
  *  - The library has no state of its own: calls on different buffers may run at the same time. Keys and states that a call works with are
@@ -47,6 +48,7 @@ enum {
     LUBDHVANI_FRAME = 276,             /* the least room for a frame */
     LUBDHVANI_LONGEST_STRETCH = 274,   /* a longer one is refused with 7 */
     LUBDHVANI_ALL_WORK = 104,          /* calls of the permutation that are enough for every stretch: those of the longest line */
+    LUBDHVANI_LARGEST_BLOCK = 16,      /* the largest rate of a hash instance */
     LUBDHVANI_INSTANCES = 10,          /* hash instances are 1 to 10; fonts are digested with 1 */
     LUBDHVANI_LONGEST_NAME = 32,       /* the name of a bundle has 1 to 32 bytes */
     LUBDHVANI_GLYPHS = 14,             /* 0 to 9, A to D, in this order */
@@ -60,7 +62,7 @@ enum {
 /* Numbers returned. */
 enum {
     LUBDHVANI_DONE = 0,        /* done, or the end of the stream */
-    LUBDHVANI_UNKNOWN = 1,     /* unknown hash instance, or state size not permitted */
+    LUBDHVANI_UNKNOWN = 1,     /* unknown hash instance, state size not permitted, or a record that no feeding gives */
     LUBDHVANI_SIZES = 2,       /* key, nonce, digest, seal or seal buffer not 16, 12, 32, 16, 16 bytes */
     LUBDHVANI_TOO_LONG = 3,    /* an input over its limit, or the writer's line not 1 to 65 bytes */
     LUBDHVANI_NO_ROOM = 4,     /* a buffer too small */
@@ -73,6 +75,7 @@ enum {
     LUBDHVANI_NO_BUNDLE = 11,  /* not of the shape of a bundle, or of what one is made of: a name's length, the rows, a top bit */
     LUBDHVANI_ALIKE = 12,      /* two glyphs with the same dots */
     LUBDHVANI_NOT_TRADE = 13,  /* the line's bytes are listed, but it is not the trade's line */
+    LUBDHVANI_AFTER_FINISH = 14, /* feed or finish of a running digest after its finish */
     LUBDHVANI_OVER_WORK = 15   /* the stretch takes more calls of the permutation than are allowed */
 };
 
@@ -85,6 +88,35 @@ uint32_t lubdhvani_unpermute(uint8_t *state, size_t size);
  * 0: out[0..32] is the digest, *calls the count. 1, 3 (over 65,536 bytes), 4 (room under 32): out is untouched, *calls is 0. */
 uint32_t lubdhvani_digest(size_t instance, const uint8_t *message, size_t message_length, uint8_t *out, size_t room,
                           size_t *calls);
+
+/* A running digest: the same digest of a message that comes in pieces, through a window as small as the caller likes. The record is the
+ * caller's, may stand on the stack, and is updated where it stands. It holds nothing of the message but its unfinished block. Fields are for
+ * the calls below; set all to zero, `= {0}`, before the first start. It is plain memory: copy it to go on from one place twice. */
+struct lubdhvani_running {
+    size_t total;                            /* bytes fed */
+    uint32_t instance;
+    uint32_t finished;                       /* 0 before a finish, 1 after it; any other number counts as finished */
+    uint8_t state[LUBDHVANI_LARGEST_STATE];  /* zero past the instance's size */
+    uint8_t block[LUBDHVANI_LARGEST_BLOCK];  /* the unfinished block's bytes, zeros behind them */
+};
+#if defined(__STDC_VERSION__) && __STDC_VERSION__ >= 201112L
+_Static_assert(sizeof(struct lubdhvani_running) == 104, "the record has no padding");
+#endif
+
+/* Starts a digest with hash instance 1 to 10, whatever the record held, a finished digest too.
+ * 0: the record is that of the empty message. 1: there is no such instance, and the record is as it was. */
+uint32_t lubdhvani_start(struct lubdhvani_running *running, size_t instance);
+
+/* Feeds more of the message, any number of bytes, none too. Each block is taken in as it fills.
+ * 0: taken in, and written anew: all but instance, total, state and unfinished block is zero. 14: after a finish. 1: the record has no known
+ * instance, or a total over 65,536. 3: the total would pass 65,536. A refused feed leaves the record byte for byte and takes nothing in. */
+uint32_t lubdhvani_feed(struct lubdhvani_running *running, const uint8_t *bytes, size_t length);
+
+/* Gives the digest of all that was fed.
+ * 0: out[0..32] is the digest and *calls the count, both those of lubdhvani_digest for the whole message; the record is finished, keeps
+ * instance and total, and is zero else. 14, 1 as above, 4 (room under 32): record and out are untouched, *calls is 0; after 4 the finish may be
+ * asked for again. */
+uint32_t lubdhvani_finish(struct lubdhvani_running *running, uint8_t *out, size_t room, size_t *calls);
 
 /* Seals a message. `seal` is the buffer for the seal, of exactly 16 bytes.
  * 0: out[0..message_length] is the ciphertext, seal the seal, *calls = associated_length + message_length + 4.

@@ -59,6 +59,36 @@ static void check_digest(void)
     check(lubdhvani_digest(11, NULL, 0, digest, sizeof digest, &calls) == LUBDHVANI_UNKNOWN && calls == 0, "there is no instance 11");
 }
 
+/* A font digested as it loads, through a window of 512 bytes: the same digest and the same count. */
+
+enum { WINDOW = 512 };
+
+static void check_running(void)
+{
+    static uint8_t loaded[3 * WINDOW + 77];
+    struct lubdhvani_running running = {0}, before;
+    uint8_t whole[LUBDHVANI_DIGEST], digest[LUBDHVANI_DIGEST];
+    size_t calls, whole_calls;
+
+    for (size_t i = 0; i < sizeof loaded; i++)
+        loaded[i] = (uint8_t)(7 * i);
+    check(lubdhvani_feed(&running, loaded, 1) == LUBDHVANI_UNKNOWN, "a record that was not started can't be fed");
+    check(lubdhvani_start(&running, 1) == LUBDHVANI_DONE, "a digest is started");
+    for (size_t at = 0; at < sizeof loaded; at += WINDOW) {
+        size_t left = sizeof loaded - at;
+        check(lubdhvani_feed(&running, loaded + at, left < WINDOW ? left : WINDOW) == LUBDHVANI_DONE, "a window is fed");
+    }
+    before = running;
+    check(lubdhvani_feed(&running, loaded, LUBDHVANI_LONGEST_INPUT) == LUBDHVANI_TOO_LONG, "more than 65,536 bytes are too long");
+    check(lubdhvani_finish(&running, digest, sizeof digest - 1, &calls) == LUBDHVANI_NO_ROOM && calls == 0, "31 bytes are no room");
+    check(memcmp(&running, &before, sizeof running) == 0, "refusals leave the record as it was");
+    check(lubdhvani_finish(&running, digest, sizeof digest, &calls) == LUBDHVANI_DONE, "the digest is given");
+    check(lubdhvani_digest(1, loaded, sizeof loaded, whole, sizeof whole, &whole_calls) == LUBDHVANI_DONE
+              && memcmp(digest, whole, sizeof digest) == 0 && calls == whole_calls,
+          "it is that of the whole, with its count");
+    check(lubdhvani_feed(&running, loaded, 0) == LUBDHVANI_AFTER_FINISH, "a finished digest can't be fed");
+}
+
 /* Sealing and opening, and a seal with one bit changed. */
 
 static void check_seal(void)
@@ -325,6 +355,7 @@ int main(void)
     check(lubdhvani_digest(1, font_file, sizeof font_file - 1, font, sizeof font, &calls) == LUBDHVANI_DONE, "the font is digested");
     check_permutation();
     check_digest();
+    check_running();
     check_seal();
     check_trade();
     check_bundle();

@@ -26,12 +26,17 @@ static uint8_t state[LUBDHVANI_LARGEST_STATE], digest[LUBDHVANI_DIGEST], line[LU
 static uint8_t text[LUBDHVANI_LONGEST_TEXT], out[LUBDHVANI_LONGEST_TEXT], associated[LUBDHVANI_LONGEST_ASSOCIATED];
 static uint8_t frame[LUBDHVANI_FRAME], stretch[LUBDHVANI_LONGEST_STRETCH + 2];
 static size_t calls, length, first, closing;
+static struct lubdhvani_running running;
 static const struct lubdhvani_asked everything = {.allowed = LUBDHVANI_ALL_WORK};
 
 static void permute(void) { lubdhvani_permute(state, sizeof state); }
 static void unpermute(void) { lubdhvani_unpermute(state, sizeof state); }
 static void digest_one(void) { lubdhvani_digest(1, text, sizeof text, digest, sizeof digest, &calls); }
 static void digest_last(void) { lubdhvani_digest(LUBDHVANI_INSTANCES, text, sizeof text, digest, sizeof digest, &calls); }
+static void start_one(void) { lubdhvani_start(&running, 1); }
+static void start_last(void) { lubdhvani_start(&running, LUBDHVANI_INSTANCES); }
+static void feed_text(void) { lubdhvani_feed(&running, text, sizeof text); }
+static void finish(void) { lubdhvani_finish(&running, digest, sizeof digest, &calls); }
 static void seal_text(void)
 {
     lubdhvani_seal(key, sizeof key, nonce, sizeof nonce, associated, sizeof associated, text, sizeof text, out, sizeof out, seal,
@@ -91,6 +96,11 @@ static const struct {
     {"unpermute", nothing, unpermute, LUBDHVANI_STACK_BUT_READ},
     {"digest, instance 1", nothing, digest_one, LUBDHVANI_STACK_BUT_READ},
     {"digest, instance 10", nothing, digest_last, LUBDHVANI_STACK_BUT_READ},
+    {"start", nothing, start_one, LUBDHVANI_STACK_BUT_READ},
+    {"feed, instance 1", start_one, feed_text, LUBDHVANI_STACK_BUT_READ},
+    {"feed, instance 10", start_last, feed_text, LUBDHVANI_STACK_BUT_READ},
+    {"finish, instance 1", start_one, finish, LUBDHVANI_STACK_BUT_READ},
+    {"finish, instance 10", start_last, finish, LUBDHVANI_STACK_BUT_READ},
     {"seal", nothing, seal_text, LUBDHVANI_STACK_BUT_READ},
     {"open", nothing, open_text, LUBDHVANI_STACK_BUT_READ},
     {"write", a_line, write_line, LUBDHVANI_STACK_BUT_READ},

@@ -13,7 +13,8 @@ use crate::readings::PRODUCT;
 pub const STATE: usize = 72;
 pub const BLOCK: usize = 16;
 
-/// The record as a caller lends it.
+/// The record as a caller lends it, laid out as in C: it has no padding.
+#[repr(C)]
 #[derive(Clone, Copy, Debug, PartialEq, Eq)]
 pub struct Record {
     /// Bytes fed.
@@ -34,6 +35,18 @@ impl Record {
         state: [0; STATE],
         block: [0; BLOCK],
     };
+
+    /// Its bytes as they stand in memory.
+    pub fn bytes(&self) -> Vec<u8> {
+        [
+            &self.total.to_ne_bytes()[..],
+            &self.instance.to_ne_bytes(),
+            &self.finished.to_ne_bytes(),
+            &self.state,
+            &self.block,
+        ]
+        .concat()
+    }
 
     /// The order's 14, then its 1; else state size and rate.
     fn usable(&self) -> Result<(usize, usize), u8> {

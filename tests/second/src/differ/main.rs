@@ -7,6 +7,7 @@ mod cases;
 mod library;
 mod memory;
 mod reference;
+mod running;
 mod stock;
 mod streams;
 mod watch;
@@ -111,8 +112,9 @@ fn differ(seed: u64, count: u64) -> bool {
         tally.count(index, case.call, &reference.outcome(case.call));
     }
     let complete = tally.print();
+    let fed = running::differ(seed, count / running::SERVES);
     println!("differ: {} calls, {} differ", count, differing);
-    differing == 0 && complete
+    differing == 0 && complete && fed
 }
 
 /// How often each answer of each call was met.
