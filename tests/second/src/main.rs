@@ -6,8 +6,9 @@ use std::io::{self, Read, Write};
 use std::path::Path;
 use std::process::exit;
 
-use second::numbers::STREAM_LIMIT;
-use second::{answers, compose, diffusion, kat, lines, rows};
+use second::numbers::{DIGEST, DONE, MESSAGE_LIMIT, STREAM_LIMIT};
+use second::text::value;
+use second::{answers, compose, diffusion, digest, kat, lines, rows};
 
 const USAGE: &str = "\
 second rows OUTDIR                expected outputs of the product's test programs
@@ -16,7 +17,8 @@ second kat aead I                 known-answer entries of cipher instance I
 second readings                   first known answers under every reading
 second diffusion                  full diffusion and pair-matching period
 second compose KEYFILE FONTFILE   orders on standard input, frames out
-second lines KEYFILE FONTFILE     stream on standard input, listing out";
+second lines KEYFILE FONTFILE     stream on standard input, listing out
+second sum I                      digest of standard input by hash instance I";
 
 /// What ends the program: a line for standard error and the exit status.
 struct Stop(String, i32);
@@ -53,6 +55,7 @@ fn run(words: &[&str]) -> Result<(), Stop> {
             let stream = standard_input(STREAM_LIMIT as u64 + 1)?;
             print(lines::listing(file(key), file(font), &stream).as_bytes())
         }
+        ["sum", instance] => sum(instance),
         _ => Err(Stop(USAGE.to_string(), 2)),
     }
 }
@@ -62,6 +65,17 @@ fn entries(of: fn(usize) -> Option<String>, instance: &str) -> Result<(), Stop> 
     match entries {
         None => Err(Stop(format!("no instance {}", instance), 1)),
         Some(entries) => print(entries.as_bytes()),
+    }
+}
+
+/// The digest of standard input, of which one byte more than the limit is read.
+fn sum(instance: &str) -> Result<(), Stop> {
+    let message = standard_input(MESSAGE_LIMIT as u64 + 1)?;
+    let mut out = [0; DIGEST];
+    let number = digest::digest(instance.parse().unwrap_or(0), &message, &mut out).number;
+    match number {
+        DONE => print(format!("{}\n", value(&out)).as_bytes()),
+        _ => Err(Stop(format!("refused {}", number), 1)),
     }
 }
 
