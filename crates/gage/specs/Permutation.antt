@@ -48,9 +48,9 @@ unpermuteBy (l ∷ ls) s = restore table l (unturns ls s)
 unfoldable pub unpermute : ℕ → List ℕ → List ℕ
 unpermute k s = unpermuteBy (take k leaders) s
 
--- document 01: the permitted state sizes in bytes
+-- the permitted state sizes in bytes: document 01's, and order W8's 64
 abbrev pub sizes : List ℕ
-sizes = 29 ∷ 30 ∷ 32 ∷ 34 ∷ 36 ∷ 40 ∷ 48 ∷ 68 ∷ 72 ∷ []
+sizes = 29 ∷ 30 ∷ 32 ∷ 34 ∷ 36 ∷ 40 ∷ 48 ∷ 64 ∷ 68 ∷ 72 ∷ []
 
 unfoldable pub among : ℕ → List ℕ → Bool
 among n [] = false

@@ -54,10 +54,10 @@ const LEADERS: [u8; ROUNDS] = [
     1,
 ];
 
-// The permitted state sizes in bytes (document 01, 'The permutation').
-const SIZE_COUNT: usize = 9;
+// The permitted state sizes in bytes (document 01, 'The permutation', and order W8's 64).
+const SIZE_COUNT: usize = 10;
 
-const SIZES: [usize; SIZE_COUNT] = [29, 30, 32, 34, 36, 40, 48, 68, LARGEST];
+const SIZES: [usize; SIZE_COUNT] = [29, 30, 32, 34, 36, 40, 48, 64, 68, LARGEST];
 
 // Done, or refused for a state size that is not permitted.
 pub enum Answer {

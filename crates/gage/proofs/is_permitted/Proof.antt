@@ -10,10 +10,10 @@ use Rattle.gage.proofs.is_permitted.Statement.{statement}
 use Rattle.gage.proofs.is_permitted.Tie as tie
 
 abbrev Inv-loop : tie.InvT-loop
-Inv-loop n sizes i₀ i = (i ≤ 9) × (among n (drop i sizes) ≡ among n sizes)
+Inv-loop n sizes i₀ i = (i ≤ 10) × (among n (drop i sizes) ≡ among n sizes)
 
 abbrev μ-loop : tie.MeasureT-loop
-μ-loop n sizes i₀ i = 9 - i
+μ-loop n sizes i₀ i = 10 - i
 
 loop-holds : tie.Need-loop-holds Inv-loop μ-loop
 loop-holds c = search needs
