@@ -7,8 +7,9 @@ use lib.ListN.{length, take, drop}
 use Rattle.lists.specs.Buffers.{over}
 use Rattle.lists.specs.Over.{over-whole, take-over}
 use Rattle.ingage.specs.declared.Sealed.the-variants as sealed-is
-use Rattle.cipher.specs.Instances.{first}
-use Rattle.ingage.specs.Answers.{SealCall, sealCall}
+use Rattle.cipher.specs.Instances.{named, FIRST, first}
+use Rattle.ingage.specs.Answers.{SealCall, sealCall, sealNamed}
+use Rattle.ingage.specs.Naming.{seal-first}
 use Rattle.ingage.specs.Exactly.{sealed-within}
 use Rattle.body.specs.Fields.{associated}
 use Rattle.body.specs.Lengths.{associatedLength, longestBody, length-associated}
@@ -44,11 +45,11 @@ module _ {t : Told} {nonce line : List ℕ} (z : Sealable t nonce line) where
           room = l;
         }))
 
-    pub sealed-text : (x : List ℕ) → x ≡ sealCall first (t .key) nonce A line cipher seal .out → x ≡ over (sealedLine t nonce line .text) cipher
-    sealed-text x h = h ∙ ap (λ (w : SealCall). w .out) sealed-call
+    pub sealed-text : (x : List ℕ) → x ≡ sealNamed (named FIRST) (t .key) nonce A line cipher seal .out → x ≡ over (sealedLine t nonce line .text) cipher
+    sealed-text x h = h ∙ ap (λ (w : SealCall). w .out) (seal-first (t .key) nonce A line cipher seal ∙ sealed-call)
 
-    pub sealed-seal : (x : List ℕ) → x ≡ sealCall first (t .key) nonce A line cipher seal .seal → x ≡ sealedLine t nonce line .seal
-    sealed-seal x h = h ∙ ap (λ (w : SealCall). w .seal) sealed-call
+    pub sealed-seal : (x : List ℕ) → x ≡ sealNamed (named FIRST) (t .key) nonce A line cipher seal .seal → x ≡ sealedLine t nonce line .seal
+    sealed-seal x h = h ∙ ap (λ (w : SealCall). w .seal) (seal-first (t .key) nonce A line cipher seal ∙ sealed-call)
 
   -- the first bytes of the scratch are the ciphertext
   cipher-taken : (o x : List ℕ) → x ≡ over (sealedLine t nonce line .text) o → take (length line - 0) (drop 0 x) ≡ sealedLine t nonce line .text

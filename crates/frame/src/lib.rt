@@ -16,6 +16,9 @@ use stuffing::Stuffed;
 // The length of a key in bytes (document 01, number 2).
 pub const KEY_LENGTH: usize = 16;
 
+// The instance of InGAGE by which frames are sealed (document 01, 'What is supplied').
+pub const INSTANCE: usize = 1;
+
 // The room that a frame asks for, whatever its own length (document 01, number 4).
 pub const FRAME_ROOM: usize = 276;
 
@@ -72,7 +75,7 @@ fn sealed_body(key: &[u8], nonce: &[u8], font: &[u8], line: &[u8]) -> [u8; body:
     putting::put_associated(font, &mut assoc);
     let mut cipher = [0u8; body::LONGEST_LINE];
     let mut seal = [0u8; body::SEAL_LENGTH];
-    ingage::seal(key, nonce, &assoc, line, &mut cipher, &mut seal);
+    ingage::seal(INSTANCE, key, nonce, &assoc, line, &mut cipher, &mut seal);
     let mut out = [0u8; body::LONGEST_BODY];
     putting::put_body(nonce, font, &cipher[0..line.len()], &seal, &mut out);
     out

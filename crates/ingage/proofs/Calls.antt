@@ -17,11 +17,14 @@ use Rattle.sponge.specs.Absorbing.{Run, from}
 use Rattle.cipher.specs.declared.Instance.{Instance}
 use Rattle.ingage.specs.declared.Sealed.the-variants as sealed
 use Rattle.ingage.specs.declared.Opened.the-variants as opened
-use Rattle.cipher.specs.Instances.{Fitting, first, first-fits}
+use Rattle.cipher.specs.declared.Named.{Named}
+use Rattle.cipher.specs.declared.Named.the-variants.{Unknown, Known}
+use Rattle.cipher.specs.Instances.{Fitting, named, named-fits}
 use Rattle.cipher.specs.Cipher.{begun, encrypting, decrypting, finished, sealOf, encrypted, decrypted, accepted}
-use Rattle.ingage.specs.Answers.{LONGEST-ASSOCIATED, LONGEST-TEXT, sized, tooLong, SealCall, sealCall, OpenCall, openCall}
+use Rattle.ingage.specs.Answers.{LONGEST-ASSOCIATED, LONGEST-TEXT, sized, tooLong, SealCall, sealCall, sealNamed, OpenCall, openCall, openNamed}
 use Rattle.cipher.specs.Runs.{encrypting-from, decrypting-from}
 use Rattle.cipher.specs.Results.{seal-calls, open-calls, length-seal, length-decrypted}
+use Rattle.ingage.specs.Naming.{seal-unnamed, open-unnamed, seal-named, open-named}
 use Rattle.ingage.specs.Exactly.{Within, sealed-within, opened-within}
 
 never : {P : Type 0} → _≡_ {A = Bool} true false → P
@@ -177,14 +180,20 @@ module _ (z : Instance) (fits : Fitting z) (key nonce A text seal out : List ℕ
         (length-decrypted z fits key nonce A (w .key-size) (w .nonce-size) text) (w .room)) in
         opened-within z key nonce A text seal out w ∙ rw (m, counted, b)
 
--- the instance that the code works with
-pub fits-first : (z : Instance) → z ≡ first → Fitting z
-fits-first z e = rw e first-fits
+-- what a number is found to name
+module _ (i : ℕ) {r : Named} (found : r ≡ named i) (key nonce A text out seal : List ℕ) where
+  pub seal-unknown : r ≡ Unknown → sealNamed (named i) key nonce A text out seal ≡ record { answer = sealed.Instance; out = out; seal = seal }
+  seal-unknown e = seal-unnamed i key nonce A text out seal (sym found ∙ e)
 
-pub seal-by : (key nonce A P out seal : List ℕ) {z : Instance} {x : SealCall} → z ≡ first → sealCall z key nonce A P out seal ≡ x
-    → sealCall first key nonce A P out seal ≡ x
-seal-by key nonce A P out seal e h = ap (λ (y : Instance). sealCall y key nonce A P out seal) (sym e) ∙ h
+  pub open-unknown : r ≡ Unknown → openNamed (named i) key nonce A text seal out ≡ record { answer = opened.Instance; out = out }
+  open-unknown e = open-unnamed i key nonce A text out seal (sym found ∙ e)
 
-pub open-by : (key nonce A C seal out : List ℕ) {z : Instance} {x : OpenCall} → z ≡ first → openCall z key nonce A C seal out ≡ x
-    → openCall first key nonce A C seal out ≡ x
-open-by key nonce A C seal out e h = ap (λ (y : Instance). openCall y key nonce A C seal out) (sym e) ∙ h
+  module _ {z : Instance} (e : r ≡ Known z) where
+    pub seal-known : {x : SealCall} → sealCall z key nonce A text out seal ≡ x → sealNamed (named i) key nonce A text out seal ≡ x
+    seal-known h = seal-named i key nonce A text out seal z (sym found ∙ e) ∙ h
+
+    pub open-known : {x : OpenCall} → openCall z key nonce A text seal out ≡ x → openNamed (named i) key nonce A text seal out ≡ x
+    open-known h = open-named i key nonce A text out seal z (sym found ∙ e) ∙ h
+
+pub fits-known : (i : ℕ) {r : Named} {z : Instance} → r ≡ named i → r ≡ Known z → Fitting z
+fits-known i {r} {z} found e = named-fits i z (sym found ∙ e)

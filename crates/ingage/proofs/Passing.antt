@@ -1,28 +1,31 @@
--- One piece of a text: what is given out of it, and the state that follows. The loops over blocks: what the state and the buffer hold
+-- One piece of a text: what is given out of it, and the state that follows. The loop over blocks: what the state and the buffer hold
 -- after i of them, with laws none, more, all. Assumes nothing.
 use mathlib.Core.Path.{_≡_, refl, sym, ap, ap₂, _∙_}
-use mathlib.Core.List.{List, _++_}
+use mathlib.Core.List.{List, [], _∷_, _++_}
 use Prim.Native.Nat.{ℕ, _+_, _-_, _*_, _/_, _≤_, _<_, min}
-use native.Mathlib.Nat.{le-div-iff-mul-le}
+use native.Mathlib.Nat.{le-div-iff-mul-le, le-trans}
 use native.Mathlib.Numerals.{add-one}
 use native.Mathlib.Omega.{arith}
-use lib.ListN.{length, take, drop, length-take, length-append}
+use lib.ListN.{length, take, drop, length-take, length-drop, length-append}
 use lib.Seq.{take-all, take-at, take-take, take-nil, drop-at, length-take-le}
 use Rattle.lists.specs.Buffers.{over, copied}
 use Rattle.lists.specs.Over.{over-length}
 use Rattle.gage.specs.Permutation.{LARGEST}
 use Rattle.sponge.specs.Padding.{padded, block, blockCount, lastBlock, LARGEST-RATE}
 use Rattle.sponge.specs.Blocks.{length-last-block}
-use Rattle.sponge.specs.Absorbing.{xored, from}
+use Rattle.sponge.specs.Absorbing.{xored, Run, from}
 use Rattle.sponge.specs.Xor.{xored-front}
 use Rattle.cipher.specs.declared.Instance.{Instance}
 use Rattle.cipher.specs.Instances.{Fitting}
-use Rattle.cipher.specs.Cipher.{AFTER-ASSOCIATED, half, lastXored, associatedBlock, absorbing, absorbed, encrypting, piece, masked, decrypting}
+use Rattle.cipher.specs.Cipher.{AFTER-ASSOCIATED, half, lastXored, absorbing, absorbed, encrypting, piece, masked, decrypting}
+use Rattle.ingage.specs.declared.steps.Way.{Way}
+use Rattle.ingage.specs.declared.steps.Way.the-variants.{Absorb, Encrypt, Decrypt}
+use Rattle.ingage.specs.Ways.{markedBlock, pieceBlock, pieceText, given, flow}
 use Rattle.cipher.specs.Masking.{masked-take, length-masked}
 use Rattle.cipher.specs.Pieces.{piece-starts, length-piece}
 use Rattle.cipher.specs.Runs.{length-encrypting, length-decrypting}
 use Rattle.cipher.specs.Flows.{sealing-grows, opening-grows, length-found}
-use Rattle.ingage.proofs.Pads.{block-of, piece-part}
+use Rattle.ingage.proofs.Pads.{block-of, piece-part, marked-piece}
 use Rattle.ingage.proofs.Writing.{copied-in, written}
 
 -- a block of R bytes mixed into an array whose first n bytes count
@@ -40,22 +43,29 @@ passed-on z fits p s b x r e f g =
     let d = fits .ends in
     g ∙ ap half (rw (f, e) (mixed (z .state) (z .rate) (lastBlock p) s (omega arith)))
 
+-- a block of the associated data mixed into an array s, and the permutation after it
+pub piece-absorbed : (z : Instance) → Fitting z → (p s b x r : List ℕ) → take (z .rate) b ≡ markedBlock (z .rate) p → x ≡ xored (take (z .rate) b) s
+    → take (z .state) r ≡ half (take (z .state) x) → take (z .state) r ≡ half (xored (markedBlock (z .rate) p) (take (z .state) s))
+piece-absorbed z fits p s b x r e f g =
+    let d = fits .ends in
+    g ∙ ap half (rw (f, ← e) (mixed (z .state) (z .rate) b s (omega arith)))
+
 -- one piece p of a text, over a buffer o of its length: what was copied there, and the state that follows
 module _ (z : Instance) (fits : Fitting z) (p s : List ℕ) (size : length s ≡ LARGEST) (short : length p ≤ z .rate) (o part : List ℕ) (fills : length o ≡ length p) where
-  abbrev given : List ℕ
-  given = masked p (take (z .state) s)
+  abbrev counterpart : List ℕ
+  counterpart = masked p (take (z .state) s)
 
   -- the first bytes of y were copied there
-  filled-by : (y : List ℕ) → take (length p) y ≡ given → part ≡ copied y o → part ≡ given
+  filled-by : (y : List ℕ) → take (length p) y ≡ counterpart → part ≡ copied y o → part ≡ counterpart
   filled-by y e g =
       let d = fits .ends in
       let h = fits .held in
-      let l : length given ≡ length p = length-masked p (take (z .state) s) (omega (arith, length-take-le (z .state) s (omega arith))) in
-      g ∙ copied-in given y o (fills ∙ sym l) (rw l e)
+      let l : length counterpart ≡ length p = length-masked p (take (z .state) s) (omega (arith, length-take-le (z .state) s (omega arith))) in
+      g ∙ copied-in counterpart y o (fills ∙ sym l) (rw l e)
 
   pub piece-sealed : (b x r : List ℕ) → b ≡ lastBlock p → x ≡ xored (take (z .rate) b) s → part ≡ copied x o
       → take (z .state) r ≡ half (take (z .state) x)
-      → (take (z .state) r ≡ half (xored (take (z .rate) (lastBlock p)) (take (z .state) s))) × (part ≡ given)
+      → (take (z .state) r ≡ half (xored (take (z .rate) (lastBlock p)) (take (z .state) s))) × (part ≡ counterpart)
   unfolding lastBlock padded
   piece-sealed b x r e f g q =
       let d = fits .ends in
@@ -73,69 +83,53 @@ module _ (z : Instance) (fits : Fitting z) (p s : List ℕ) (size : length s ≡
 
   pub piece-opened : (m b x r : List ℕ) → m ≡ xored p s → part ≡ copied m o → b ≡ lastBlock part → x ≡ xored (take (z .rate) b) s
       → take (z .state) r ≡ half (take (z .state) x)
-      → (take (z .state) r ≡ half (xored (take (z .rate) (lastBlock given)) (take (z .state) s))) × (part ≡ given)
+      → (take (z .state) r ≡ half (xored (take (z .rate) (lastBlock counterpart)) (take (z .state) s))) × (part ≡ counterpart)
   unfolding masked
   piece-opened m b x r f g e y q =
       let d = fits .ends in
       let mix : take (z .state) m ≡ xored p (take (z .state) s) =
       rw f (xored-front (z .state) p s (omega arith)) in
-      let found : part ≡ given = filled-by m (in-front (length p) (z .state) m (xored p (take (z .state) s)) (omega arith) mix) g in
-      (passed-on z fits given s b x r (e ∙ ap lastBlock found) y q, found)
+      let found : part ≡ counterpart = filled-by m (in-front (length p) (z .state) m (xored p (take (z .state) s)) (omega arith) mix) g in
+      (passed-on z fits counterpart s b x r (e ∙ ap lastBlock found) y q, found)
 
--- the associated data
-pub record Absorbing (z : Instance) (A s r : List ℕ) (i : ℕ) : Type 0 where
-  pub turns : i ≤ blockCount (z .rate) A
+-- a piece p passed for what its text is passed for: what each of the three calls promises is what the definitions by way say
+none-left : (o : List ℕ) → length o ≡ 0 → o ≡ []
+none-left [] e = refl
+none-left (x ∷ o) e = absurd (omega arith)
+
+module _ (w : Way) (n R : ℕ) (p s r o : List ℕ) where
+  abbrev Goes : Type 0
+  Goes = (take n r ≡ half (xored (pieceBlock w R p (take n s)) (take n s))) × (o ≡ pieceText w p (take n s))
+
+  pub absorb-goes : w ≡ Absorb → length o ≡ given w (length p) → take n r ≡ half (xored (markedBlock R p) (take n s)) → Goes
+  absorb-goes e l q = let k : length o ≡ 0 = rw e at l in rw e (q, none-left o k)
+
+  pub encrypt-goes : w ≡ Encrypt → take n r ≡ half (xored (take R (lastBlock p)) (take n s)) → o ≡ masked p (take n s) → Goes
+  encrypt-goes e q t = rw e (q, t)
+
+  pub decrypt-goes : w ≡ Decrypt → take n r ≡ half (xored (take R (lastBlock (masked p (take n s)))) (take n s)) → o ≡ masked p (take n s) → Goes
+  decrypt-goes e q t = rw e (q, t)
+
+-- a text passed, by what it is passed for: after i blocks
+pub record Passing (w : Way) (z : Instance) (T s o r out : List ℕ) (i : ℕ) : Type 0 where
+  pub turns : i ≤ blockCount (z .rate) T
   pub long : length r ≡ LARGEST
-  pub state : take (z .state) r ≡ absorbing z (from (take (z .state) s)) A i .state
+  pub state : take (z .state) r ≡ flow w z (from (take (z .state) s)) T i .run .state
+  pub text : out ≡ over (flow w z (from (take (z .state) s)) T i .text) o
 
-module _ (z : Instance) (A s : List ℕ) where
-  pub absorbing-none : length s ≡ LARGEST → Absorbing z A s s 0
-  unfolding absorbing
-  absorbing-none l = record { turns = omega arith; long = l; state = refl }
+-- none yet
+none-passed : (w : Way) (z : Instance) (r : Run) (T : List ℕ) → (flow w z r T 0 .run ≡ r) × (flow w z r T 0 .text ≡ [])
+unfolding absorbing encrypting decrypting
+none-passed Absorb z r T = (refl, refl)
+none-passed Encrypt z r T = (refl, take-nil (length T))
+none-passed Decrypt z r T = (refl, refl)
 
-  pub absorbing-more : {r : List ℕ} {i : ℕ} (b x r′ : List ℕ) → Fitting z → Absorbing z A s r i → i < blockCount (z .rate) A
-      → take (z .rate) b ≡ associatedBlock z A i → x ≡ xored (take (z .rate) b) r → take (z .state) r′ ≡ half (take (z .state) x) → length r′ ≡ LARGEST
-      → Absorbing z A s r′ (i + 1)
-  unfolding absorbing
-  absorbing-more {r} {i} b x r′ fits w h e f g l =
-      let d = fits .ends in
-      record {
-        turns = omega arith;
-        long = l;
-        state = rw (add-one i) (g ∙ ap half (rw f (mixed (z .state) (z .rate) b r (omega arith) ∙ ap₂ xored e (w .state))));
-      }
+pub passing-none : (w : Way) (z : Instance) (T s o : List ℕ) → length s ≡ LARGEST → Passing w z T s o s o 0
+passing-none w z T s o l =
+    let n = none-passed w z (from (take (z .state) s)) T in
+    record { turns = omega arith; long = l; state = rw (n .0); text = rw (n .1) }
 
-  pub absorbing-all : {r : List ℕ} {i : ℕ} (r′ : List ℕ) → Absorbing z A s r i → blockCount (z .rate) A ≤ i
-      → take (z .state) r′ ≡ lastXored AFTER-ASSOCIATED (take (z .state) r) → take (z .state) r′ ≡ absorbed z (from (take (z .state) s)) A .state
-  unfolding absorbed
-  absorbing-all {r} {i} r′ w h e =
-      let t = w .turns in
-      let k : i ≡ blockCount (z .rate) A = omega arith in
-      e ∙ ap (lastXored AFTER-ASSOCIATED) (w .state ∙ ap (λ (j : ℕ). absorbing z (from (take (z .state) s)) A j .state) k)
-
--- the message: n bytes of the state count, and a block has R
-pub record Sealing (n R : ℕ) (P s o r out : List ℕ) (i : ℕ) : Type 0 where
-  pub turns : i ≤ blockCount R P
-  pub long : length r ≡ LARGEST
-  pub state : take n r ≡ encrypting R (from (take n s)) P i .run .state
-  pub text : out ≡ over (take (length P) (encrypting R (from (take n s)) P i .text)) o
-
-pub record Opening (n R : ℕ) (C s o r out : List ℕ) (i : ℕ) : Type 0 where
-  pub turns : i ≤ blockCount R C
-  pub long : length r ≡ LARGEST
-  pub state : take n r ≡ decrypting R (from (take n s)) C i .run .state
-  pub text : out ≡ over (decrypting R (from (take n s)) C i .text) o
-
-module _ (n R : ℕ) (P s o : List ℕ) where
-  pub sealing-none : length s ≡ LARGEST → Sealing n R P s o s o 0
-  unfolding encrypting
-  sealing-none l = record { turns = omega arith; long = l; state = refl; text = rw (take-nil (length P)) }
-
-  pub opening-none : length s ≡ LARGEST → Opening n R P s o s o 0
-  unfolding decrypting
-  opening-none l = record { turns = omega arith; long = l; state = refl; text = refl }
-
-module _ (z : Instance) (fits : Fitting z) (P s o : List ℕ) (size : length s ≡ LARGEST) (room : length P ≤ length o) where
+module _ (z : Instance) (fits : Fitting z) (P s o : List ℕ) (size : length s ≡ LARGEST) where
   abbrev R : ℕ
   R = z .rate
 
@@ -154,10 +148,10 @@ module _ (z : Instance) (fits : Fitting z) (P s o : List ℕ) (size : length s �
       let m : length (masked (piece R P i) state) ≡ length (piece R P i) = length-masked (piece R P i) state (omega (arith, wide)) in
       omega arith
 
-  pub sealing-more : {r out : List ℕ} {i : ℕ} (end : ℕ) (part r′ : List ℕ) → Sealing n R P s o r out i → i < blockCount R P
+  sealing-more : {r out : List ℕ} {i : ℕ} (end : ℕ) (part r′ : List ℕ) → Passing Encrypt z P s o r out i → i < blockCount R P
       → end ≡ min (i * R + R) (length P) → take n r′ ≡ half (xored (take R (lastBlock (take (end - i * R) (drop (i * R) P)))) (take n r))
       → part ≡ masked (take (end - i * R) (drop (i * R) P)) (take n r) → length r′ ≡ LARGEST
-      → Sealing n R P s o r′ (take (i * R) out ++ (part ++ drop (end - i * R) (drop (i * R) out))) (i + 1)
+      → Passing Encrypt z P s o r′ (take (i * R) out ++ (part ++ drop (end - i * R) (drop (i * R) out))) (i + 1)
   unfolding encrypting
   sealing-more {r} {out} {i} end part r′ w h e q p l =
       let grows = sealing-grows R (fits .moves) (from (take n s)) wide P in
@@ -184,11 +178,11 @@ module _ (z : Instance) (fits : Fitting z) (P s o : List ℕ) (size : length s �
       let there : i ≤ length (d ++ x) / R = le-div-iff-mul-le (fits .moves) .1 (omega (arith, length-append d x)) in
       ap (λ (c : List ℕ). take R (lastBlock c)) (sym last) ∙ block-of R (d ++ x) i (fits .moves) (fits .small) (omega arith)
 
-  pub opening-more : {r out : List ℕ} {i : ℕ} (end : ℕ) (part r′ : List ℕ) → Opening n R P s o r out i → i < blockCount R P
+  opening-more : {r out : List ℕ} {i : ℕ} (end : ℕ) (part r′ : List ℕ) → Passing Decrypt z P s o r out i → i < blockCount R P
       → end ≡ min (i * R + R) (length P)
       → take n r′ ≡ half (xored (take R (lastBlock (masked (take (end - i * R) (drop (i * R) P)) (take n r)))) (take n r))
       → part ≡ masked (take (end - i * R) (drop (i * R) P)) (take n r) → length r′ ≡ LARGEST
-      → Opening n R P s o r′ (take (i * R) out ++ (part ++ drop (end - i * R) (drop (i * R) out))) (i + 1)
+      → Passing Decrypt z P s o r′ (take (i * R) out ++ (part ++ drop (end - i * R) (drop (i * R) out))) (i + 1)
   unfolding decrypting
   opening-more {r} {out} {i} end part r′ w h e q p l =
       let grows = opening-grows R (fits .moves) (from (take n s)) wide P in
@@ -207,20 +201,73 @@ module _ (z : Instance) (fits : Fitting z) (P s o : List ℕ) (size : length s �
             ∙ written text next o out (i * R) end (w .text) (grows .long i h) long);
       }
 
-  -- the buffer keeps its length
-  pub length-sealing : {r out : List ℕ} {i : ℕ} → Sealing n R P s o r out i → length out ≡ length o
-  length-sealing {r} {out} {i} w =
-      let t : List ℕ = encrypting R (from (take n s)) P i .text in
-      ap length (w .text) ∙ over-length (take (length P) t) o (omega (arith, length-take (length P) t))
+  absorbing-more : {r out : List ℕ} {i : ℕ} (end : ℕ) (part r′ : List ℕ) → Passing Absorb z P s o r out i → i < blockCount R P
+      → end ≡ min (i * R + R) (length P) → take n r′ ≡ half (xored (markedBlock R (take (end - i * R) (drop (i * R) P))) (take n r))
+      → part ≡ [] → length r′ ≡ LARGEST → Passing Absorb z P s o r′ (take 0 out ++ (part ++ drop (0 - 0) (drop 0 out))) (i + 1)
+  unfolding absorbing
+  absorbing-more {r} {out} {i} end part r′ w h e q p l =
+      let c : take (end - i * R) (drop (i * R) P) ≡ piece R P i = piece-part R P i end (piece-starts R P i h) e in
+      record {
+        turns = omega arith;
+        long = l;
+        state = rw (add-one i) (q ∙ ap₂ (λ (x y : List ℕ). half (xored x y)) (rw c (marked-piece z P i fits h)) (w .state));
+        text = rw p (w .text);
+      }
 
-  pub length-opening : {r out : List ℕ} {i : ℕ} → Opening n R P s o r out i → length out ≡ length o
-  length-opening {r} {out} {i} w =
-      ap length (w .text) ∙ over-length (decrypting R (from (take n s)) P i .text) o (omega (arith, length-found R (fits .moves) (from (take n s)) wide P i))
+  -- one more, whatever the text is passed for: the part of the buffer that the code lends is from a to b
+  pub passing-more : (w : Way) {r out : List ℕ} {i : ℕ} (end a b : ℕ) (part r′ : List ℕ) → Passing w z P s o r out i → i < blockCount R P
+      → end ≡ min (i * R + R) (length P) → a ≡ given w (i * R) → b ≡ given w end
+      → take n r′ ≡ half (xored (pieceBlock w R (take (end - i * R) (drop (i * R) P)) (take n r)) (take n r))
+      → part ≡ pieceText w (take (end - i * R) (drop (i * R) P)) (take n r) → length r′ ≡ LARGEST
+      → Passing w z P s o r′ (take a out ++ (part ++ drop (b - a) (drop a out))) (i + 1)
+  passing-more Absorb end a b part r′ w h e f g q p l = rw (f, g) (absorbing-more end part r′ w h e q p l)
+  passing-more Encrypt end a b part r′ w h e f g q p l = rw (f, g) (sealing-more end part r′ w h e q p l)
+  passing-more Decrypt end a b part r′ w h e f g q p l = rw (f, g) (opening-more end part r′ w h e q p l)
+
+  -- no more is given out than there is of the text
+  given-long : (w : Way) (i : ℕ) → length (flow w z (from (take n s)) P i .text) ≤ given w (length P)
+  given-long Absorb i = omega arith
+  given-long Encrypt i = omega (arith, length-take (length P) (encrypting R (from (take n s)) P i .text))
+  given-long Decrypt i = omega (arith, length-found R (fits .moves) (from (take n s)) wide P i)
+
+  -- the buffer keeps its length
+  pub length-passing : (w : Way) {r out : List ℕ} {i : ℕ} → given w (length P) ≤ length o → Passing w z P s o r out i → length out ≡ length o
+  length-passing w {r} {out} {i} room p =
+      ap length (p .text) ∙ over-length (flow w z (from (take n s)) P i .text) o (le-trans (given-long w i) room)
 
 -- after the last block
-module _ {n R : ℕ} {P s o r out : List ℕ} {i : ℕ} (h : blockCount R P ≤ i) where
-  pub sealing-all : Sealing n R P s o r out i → Sealing n R P s o r out (blockCount R P)
-  sealing-all w = let t = w .turns in let e : i ≡ blockCount R P = omega arith in rw e at w
+pub passing-all : {w : Way} {z : Instance} {T s o r out : List ℕ} {i : ℕ} → blockCount (z .rate) T ≤ i → Passing w z T s o r out i
+    → Passing w z T s o r out (blockCount (z .rate) T)
+passing-all {w} {z} {T} {s} {o} {r} {out} {i} h p = let t = p .turns in let e : i ≡ blockCount (z .rate) T = omega arith in rw e at p
 
-  pub opening-all : Opening n R P s o r out i → Opening n R P s o r out (blockCount R P)
-  opening-all w = let t = w .turns in let e : i ≡ blockCount R P = omega arith in rw e at w
+-- the part of the buffer that is lent for the piece of a text from at to end: within the buffer, and as long as what is given out for it
+pub record Lent (w : Way) (a b : ℕ) (p out : List ℕ) : Type 0 where
+  pub starts : a ≤ b
+  pub ends : b ≤ length out
+  pub fills : length (take (b - a) (drop a out)) ≡ given w (length p)
+
+pub lent : (w : Way) (at end a b : ℕ) (m out : List ℕ) → at ≤ end → end ≤ length m → given w (length m) ≤ length out
+    → a ≡ given w at → b ≡ given w end → Lent w a b (take (end - at) (drop at m)) out
+lent w at end a b m out h k g e f =
+    let p : length (take (end - at) (drop at m)) ≡ end - at = length-take-le (end - at) (drop at m) (rw length-drop (omega arith)) in
+    by w g e f p
+  where
+    by : (w : Way) → given w (length m) ≤ length out → a ≡ given w at → b ≡ given w end → length (take (end - at) (drop at m)) ≡ end - at
+        → Lent w a b (take (end - at) (drop at m)) out
+    by Absorb g e f p = record { starts = omega arith; ends = omega arith; fills = rw (e, f) refl }
+    by Encrypt g e f p = record {
+      starts = omega arith;
+      ends = omega arith;
+      fills = rw (e, f) (length-take-le (end - at) (drop at out) (rw length-drop (omega arith)) ∙ sym p);
+    }
+    by Decrypt g e f p = record {
+      starts = omega arith;
+      ends = omega arith;
+      fills = rw (e, f) (length-take-le (end - at) (drop at out) (rw length-drop (omega arith)) ∙ sym p);
+    }
+
+-- the associated data whole, and the constant after it
+pub absorbed-all : (z : Instance) (A s r r′ : List ℕ) → take (z .state) r ≡ flow Absorb z (from (take (z .state) s)) A (blockCount (z .rate) A) .run .state
+    → take (z .state) r′ ≡ lastXored AFTER-ASSOCIATED (take (z .state) r) → take (z .state) r′ ≡ absorbed z (from (take (z .state) s)) A .state
+unfolding absorbed
+absorbed-all z A s r r′ e f = f ∙ ap (lastXored AFTER-ASSOCIATED) e

@@ -13,10 +13,10 @@ use Rattle.ingage.proofs.open.Reads as open-reads
 
 pub seal-single : (κs : Lfts 6) (a : Dens κs seal-kinds.ps) (r r′ : Sealed) (x x′ : AtExit (endedOf 6 seal-kinds.ps seal-kinds.r) κs)
     → seal-reads.Post κs a r x → seal-reads.Post κs a r′ x′
-    → (r ≡ r′) × (x .1 .1 .1 .1 .0 .now ≡ x′ .1 .1 .1 .1 .0 .now) × (x .1 .1 .1 .1 .1 .0 .now ≡ x′ .1 .1 .1 .1 .1 .0 .now)
+    → (r ≡ r′) × (x .1 .1 .1 .1 .1 .0 .now ≡ x′ .1 .1 .1 .1 .1 .0 .now) × (x .1 .1 .1 .1 .1 .1 .0 .now ≡ x′ .1 .1 .1 .1 .1 .1 .0 .now)
 seal-single κs a r r′ x x′ p q = (p .0 ∙ sym (q .0), p .1 .0 ∙ sym (q .1 .0), p .1 .1 ∙ sym (q .1 .1))
 
 pub open-single : (κs : Lfts 6) (a : Dens κs open-kinds.ps) (r r′ : Opened) (x x′ : AtExit (endedOf 6 open-kinds.ps open-kinds.r) κs)
     → open-reads.Post κs a r x → open-reads.Post κs a r′ x′
-    → (r ≡ r′) × (x .1 .1 .1 .1 .1 .0 .now ≡ x′ .1 .1 .1 .1 .1 .0 .now)
+    → (r ≡ r′) × (x .1 .1 .1 .1 .1 .1 .0 .now ≡ x′ .1 .1 .1 .1 .1 .1 .0 .now)
 open-single κs a r r′ x x′ p q = (p .0 ∙ sym (q .0), p .1 ∙ sym (q .1))

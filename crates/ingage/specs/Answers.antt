@@ -8,6 +8,8 @@ use lib.ListN.{length}
 use Rattle.lists.specs.Buffers.{over, cleared}
 use Rattle.cipher.specs.Cipher.{encrypted, decrypted, accepted}
 use Rattle.cipher.specs.declared.Instance.{Instance}
+use Rattle.cipher.specs.declared.Named.{Named}
+use Rattle.cipher.specs.declared.Named.the-variants.{Unknown, Known}
 use Rattle.ingage.specs.declared.Sealed.{Sealed}
 use Rattle.ingage.specs.declared.Sealed.the-variants as sealed
 use Rattle.ingage.specs.declared.Opened.{Opened}
@@ -44,6 +46,11 @@ sealCall z key nonce A P out seal =
       seal = encrypted z key nonce A P .seal;
     })))
 
+-- at what a number names: 1 comes first, then the refusals of the instance
+unfoldable pub sealNamed : Named → List ℕ → List ℕ → List ℕ → List ℕ → List ℕ → List ℕ → SealCall
+sealNamed Unknown key nonce A P out seal = record { answer = sealed.Instance; out = out; seal = seal }
+sealNamed (Known z) key nonce A P out seal = sealCall z key nonce A P out seal
+
 -- the answer of open, and its buffer afterwards
 pub record OpenCall : Type 0 where
   pub answer : Opened
@@ -63,15 +70,21 @@ openCall z key nonce A C seal out =
       out = over (decrypted z key nonce A C .text) out;
     }))))
 
+unfoldable pub openNamed : Named → List ℕ → List ℕ → List ℕ → List ℕ → List ℕ → List ℕ → OpenCall
+openNamed Unknown key nonce A C seal out = record { answer = opened.Instance; out = out }
+openNamed (Known z) key nonce A C seal out = openCall z key nonce A C seal out
+
 -- document 01, 'Numbers returned'
 abbrev pub sealNumber : Sealed → ℕ
 sealNumber (sealed.Done calls) = 0
+sealNumber sealed.Instance = 1
 sealNumber sealed.Sizes = 2
 sealNumber sealed.TooLong = 3
 sealNumber sealed.NoRoom = 4
 
 abbrev pub openNumber : Opened → ℕ
 openNumber (opened.Done calls) = 0
+openNumber opened.Instance = 1
 openNumber opened.Sizes = 2
 openNumber opened.TooLong = 3
 openNumber opened.NoRoom = 4
@@ -80,12 +93,14 @@ openNumber (opened.Seal calls) = 5
 -- the count: 0 on every refusal but 5
 abbrev pub sealCount : Sealed → ℕ
 sealCount (sealed.Done calls) = calls
+sealCount sealed.Instance = 0
 sealCount sealed.Sizes = 0
 sealCount sealed.TooLong = 0
 sealCount sealed.NoRoom = 0
 
 abbrev pub openCount : Opened → ℕ
 openCount (opened.Done calls) = calls
+openCount opened.Instance = 0
 openCount opened.Sizes = 0
 openCount opened.TooLong = 0
 openCount opened.NoRoom = 0

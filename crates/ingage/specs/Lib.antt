@@ -1,2 +1,4 @@
 pub mod Answers
+pub mod Naming
+pub mod Ways
 pub mod Exactly

@@ -1,5 +1,6 @@
 // The steps of InGAGE's Algorithms 5 and 6 (cipher/specs/Cipher.antt) over the sizes of an instance. A state is an array by value of which
-// the first bytes count, as many as the instance's state has. Every block, the last one too, is its piece of the text, padded.
+// the first bytes count, as many as the instance's state has. One loop passes the blocks of every text: a block, the last one too, is its
+// piece of the text, padded.
 use cipher::Instance;
 use gage::LARGEST;
 use sponge::LARGEST_RATE;
@@ -14,7 +15,15 @@ ghost use Rattle.sponge.specs.Padding.{blockCount, lastBlock};
 ghost use Rattle.sponge.specs.Absorbing.{xored, from};
 ghost use Rattle.cipher.specs.Instances.{Fitting};
 ghost use Rattle.ingage.specs.Answers.{LONGEST-ASSOCIATED, LONGEST-TEXT};
-ghost use Rattle.cipher.specs.Cipher.{whole, half, lastXored, passed, associatedBlock, absorbed, begun, encrypting, masked, decrypting, finished, sealOf};
+ghost use Rattle.ingage.specs.Ways.{markedBlock, pieceBlock, pieceText, given, flow};
+ghost use Rattle.cipher.specs.Cipher.{whole, half, lastXored, passed, absorbed, begun, masked, finished, sealOf};
+
+// What a text is passed for: 'Absorb associated data A', 'Absorb and encrypt the plaintext P', 'Process the ciphertext C'.
+pub enum Way {
+    Absorb,
+    Encrypt,
+    Decrypt,
+}
 
 // What is XORed into the last block of the associated data, into the state after it, and into the state after the message (document 000,
 // section 2.1).
@@ -74,16 +83,14 @@ fn end_of(length: usize, at: usize, rate: usize) -> usize
     at + rate
 }
 
-// Block i of the padded associated data, the last one with its last bit set.
-fn associated_block(z: Instance, assoc: &[u8], i: usize) -> [u8; LARGEST_RATE]
-    requires { ⌜ Fitting z × (i < blockCount (z .rate) (now assoc)) ⌝ }
-    ensures { λ r. ⌜ take (z .rate) r ≡ associatedBlock z (now (assoc .entry)) i ⌝ }
+// The block of one piece of the associated data, padded; the last one, which alone is shorter than a block, has its last bit set.
+fn associated_block(z: Instance, p: &[u8]) -> [u8; LARGEST_RATE]
+    requires { ⌜ Fitting z ⌝ }
+    ensures { λ r. ⌜ take (z .rate) r ≡ markedBlock (z .rate) (now (p .entry)) ⌝ }
 {
     let rate = z.rate;
-    let at = i * rate;
-    let end = end_of(assoc.len(), at, rate);
-    let mut b = sponge::last_block(&assoc[at..end]);
-    if i == assoc.len() / rate {
+    let mut b = sponge::last_block(p);
+    if p.len() < rate {
         b[rate - 1] = LAST_BLOCK ^ b[rate - 1];
     }
     b
@@ -98,33 +105,12 @@ fn mix_block(z: Instance, s: [u8; LARGEST], b: [u8; LARGEST_RATE]) -> [u8; LARGE
     sponge::mix(s, &b[0..rate])
 }
 
-// 'Absorb associated data A'.
-fn absorb(z: Instance, s: [u8; LARGEST], assoc: &[u8]) -> [u8; LARGEST]
+// Step 3 of absorbing, for one piece p of the associated data: its block is XORed in.
+fn absorb_piece(z: Instance, s: [u8; LARGEST], p: &[u8]) -> [u8; LARGEST]
     requires { ⌜ Fitting z ⌝ }
-    ensures { λ r. ⌜ take (z .state) r ≡ absorbed z (from (take (z .state) s)) (now (assoc .entry)) .state ⌝ }
+    ensures { λ r. ⌜ take (z .state) r ≡ passed (markedBlock (z .rate) (now (p .entry))) (from (take (z .state) s)) .state ⌝ }
 {
-    let n = z.state;
-    let rate = z.rate;
-    let count = assoc.len() / rate + 1;
-    let mut r = s;
-    let mut i = 0;
-    while i < count {
-        r = half(mix_block(z, r, associated_block(z, assoc, i)), n);
-        i += 1;
-    }
-    xor_last(r, n, AFTER_ASSOCIATED)
-}
-
-// The state when the message comes: 'Initialize state S', then the associated data. N||K||0* is 0||K||0*, which is needed again after
-// the permutation, with the nonce put in front.
-pub fn begin(z: Instance, key: &[u8], nonce: &[u8], assoc: &[u8]) -> [u8; LARGEST]
-    requires { ⌜ Fitting z × (length (now key) ≡ z .key) × (length (now nonce) ≡ z .nonce) ⌝ }
-    ensures { λ r. ⌜ take (z .state) r ≡ begun z (now (key .entry)) (now (nonce .entry)) (now (assoc .entry)) .state ⌝ }
-{
-    let zeros = [0u8; LARGEST];
-    let k = put(zeros, z.nonce, key);
-    let s = whole(put(k, 0, nonce), z.state);
-    absorb(z, sponge::mix(s, &k), assoc)
+    half(mix_block(z, s, associated_block(z, p)), z.state)
 }
 
 // Steps 3 to 5 of encrypting, for one piece p of the message: its ciphertext fills out, and the piece, padded, is XORed in. The piece is
@@ -150,44 +136,72 @@ fn decrypt_piece(z: Instance, s: [u8; LARGEST], c: &[u8], out: &mut [u8]) -> [u8
     half(mix_block(z, s, sponge::last_block(out)), z.state)
 }
 
-// 'Absorb and encrypt the plaintext P': the ciphertext goes over the start of out.
-pub fn encrypt(z: Instance, s: [u8; LARGEST], message: &[u8], out: &mut [u8]) -> [u8; LARGEST]
-    requires { ⌜ Fitting z × (length (now message) ≤ length (now out)) ⌝ }
-    ensures state { λ r. ⌜ take (z .state) r ≡ encrypting (z .rate) (from (take (z .state) s)) (now (message .entry)) (blockCount (z .rate) (now (message .entry))) .run .state ⌝ }
-    ensures text { λ _. ⌜ now (out .exit) ≡ over (take (length (now (message .entry))) (encrypting (z .rate) (from (take (z .state) s)) (now (message .entry)) (blockCount (z .rate) (now (message .entry))) .text)) (now (out .entry)) ⌝ }
+// One piece of a text, passed the way its text goes.
+fn pass_piece(z: Instance, s: [u8; LARGEST], way: Way, p: &[u8], out: &mut [u8]) -> [u8; LARGEST]
+    requires { ⌜ Fitting z × (length (now p) ≤ z .rate) × (length (now out) ≡ given way (length (now p))) ⌝ }
+    ensures state { λ r. ⌜ take (z .state) r ≡ passed (pieceBlock way (z .rate) (now (p .entry)) (take (z .state) s)) (from (take (z .state) s)) .state ⌝ }
+    ensures text { λ _. ⌜ now (out .exit) ≡ pieceText way (now (p .entry)) (take (z .state) s) ⌝ }
+{
+    match way {
+        Way::Absorb => absorb_piece(z, s, p),
+        Way::Encrypt => encrypt_piece(z, s, p, out),
+        Way::Decrypt => decrypt_piece(z, s, p, out),
+    }
+}
+
+// How much has been given out where a text was passed up to a place: of associated data nothing is.
+fn given(way: Way, at: usize) -> usize
+    ensures { λ r. ⌜ r ≡ given way at ⌝ }
+{
+    match way {
+        Way::Absorb => 0,
+        Way::Encrypt => at,
+        Way::Decrypt => at,
+    }
+}
+
+// A text passed block by block, the associated data, a message or a ciphertext: what is given out goes over the start of out.
+pub fn pass(z: Instance, s: [u8; LARGEST], way: Way, text: &[u8], out: &mut [u8]) -> [u8; LARGEST]
+    requires { ⌜ Fitting z × (given way (length (now text)) ≤ length (now out)) ⌝ }
+    ensures state { λ r. ⌜ take (z .state) r ≡ flow way z (from (take (z .state) s)) (now (text .entry)) (blockCount (z .rate) (now (text .entry))) .run .state ⌝ }
+    ensures text { λ _. ⌜ now (out .exit) ≡ over (flow way z (from (take (z .state) s)) (now (text .entry)) (blockCount (z .rate) (now (text .entry))) .text) (now (out .entry)) ⌝ }
 {
     let rate = z.rate;
-    let count = message.len() / rate + 1;
+    let count = text.len() / rate + 1;
     let mut r = s;
     let mut i = 0;
     while i < count {
         let at = i * rate;
-        let end = end_of(message.len(), at, rate);
-        let next = encrypt_piece(z, r, &message[at..end], &mut out[at..end]);
+        let end = end_of(text.len(), at, rate);
+        let from = given(way, at);
+        let to = given(way, end);
+        let next = pass_piece(z, r, way, &text[at..end], &mut out[from..to]);
         r = next;
         i += 1;
     }
     r
 }
 
-// 'Process the ciphertext C': the message goes over the start of out.
-pub fn decrypt(z: Instance, s: [u8; LARGEST], cipher: &[u8], out: &mut [u8]) -> [u8; LARGEST]
-    requires { ⌜ Fitting z × (length (now cipher) ≤ length (now out)) ⌝ }
-    ensures state { λ r. ⌜ take (z .state) r ≡ decrypting (z .rate) (from (take (z .state) s)) (now (cipher .entry)) (blockCount (z .rate) (now (cipher .entry))) .run .state ⌝ }
-    ensures text { λ _. ⌜ now (out .exit) ≡ over (decrypting (z .rate) (from (take (z .state) s)) (now (cipher .entry)) (blockCount (z .rate) (now (cipher .entry))) .text) (now (out .entry)) ⌝ }
+// 'Absorb associated data A'.
+fn absorb(z: Instance, s: [u8; LARGEST], assoc: &[u8]) -> [u8; LARGEST]
+    requires { ⌜ Fitting z ⌝ }
+    ensures { λ r. ⌜ take (z .state) r ≡ absorbed z (from (take (z .state) s)) (now (assoc .entry)) .state ⌝ }
 {
-    let rate = z.rate;
-    let count = cipher.len() / rate + 1;
-    let mut r = s;
-    let mut i = 0;
-    while i < count {
-        let at = i * rate;
-        let end = end_of(cipher.len(), at, rate);
-        let next = decrypt_piece(z, r, &cipher[at..end], &mut out[at..end]);
-        r = next;
-        i += 1;
-    }
-    r
+    let mut nothing = [0u8; 0];
+    let r = pass(z, s, Way::Absorb, assoc, &mut nothing);
+    xor_last(r, z.state, AFTER_ASSOCIATED)
+}
+
+// The state when the message comes: 'Initialize state S', then the associated data. N||K||0* is 0||K||0*, which is needed again after
+// the permutation, with the nonce put in front.
+pub fn begin(z: Instance, key: &[u8], nonce: &[u8], assoc: &[u8]) -> [u8; LARGEST]
+    requires { ⌜ Fitting z × (length (now key) ≡ z .key) × (length (now nonce) ≡ z .nonce) ⌝ }
+    ensures { λ r. ⌜ take (z .state) r ≡ begun z (now (key .entry)) (now (nonce .entry)) (now (assoc .entry)) .state ⌝ }
+{
+    let zeros = [0u8; LARGEST];
+    let k = put(zeros, z.nonce, key);
+    let s = whole(put(k, 0, nonce), z.state);
+    absorb(z, sponge::mix(s, &k), assoc)
 }
 
 // The step before 'Finalization', and its step 1.

@@ -74,8 +74,8 @@ lubdhvani-next-stretch-single κs a r r′ x x′ p q = (p .0 ∙ sym (q .0), p 
 pub lubdhvani-seal-single : (κs : Lfts 7) (a : Dens κs seal-kinds.ps) (r r′ : ℕ)
     (x x′ : AtExit (endedOf 7 seal-kinds.ps seal-kinds.r) κs)
     → seal-reads.Post κs a r x → seal-reads.Post κs a r′ x′
-    → (r ≡ r′) × (x .1 .1 .1 .1 .0 .now ≡ x′ .1 .1 .1 .1 .0 .now) × (x .1 .1 .1 .1 .1 .0 .now ≡ x′ .1 .1 .1 .1 .1 .0 .now)
-    × (x .1 .1 .1 .1 .1 .1 .0 .now ≡ x′ .1 .1 .1 .1 .1 .1 .0 .now)
+    → (r ≡ r′) × (x .1 .1 .1 .1 .1 .0 .now ≡ x′ .1 .1 .1 .1 .1 .0 .now) × (x .1 .1 .1 .1 .1 .1 .0 .now ≡ x′ .1 .1 .1 .1 .1 .1 .0 .now)
+    × (x .1 .1 .1 .1 .1 .1 .1 .0 .now ≡ x′ .1 .1 .1 .1 .1 .1 .1 .0 .now)
 lubdhvani-seal-single κs a r r′ x x′ p q =
     (p .0 ∙ sym (q .0), p .1 .0 ∙ sym (q .1 .0), p .1 .1 .0 ∙ sym (q .1 .1 .0), p .1 .1 .1 ∙ sym (q .1 .1 .1))
 
@@ -83,7 +83,7 @@ lubdhvani-seal-single κs a r r′ x x′ p q =
 pub lubdhvani-open-single : (κs : Lfts 7) (a : Dens κs open-kinds.ps) (r r′ : ℕ)
     (x x′ : AtExit (endedOf 7 open-kinds.ps open-kinds.r) κs)
     → open-reads.Post κs a r x → open-reads.Post κs a r′ x′
-    → (r ≡ r′) × (x .1 .1 .1 .1 .1 .0 .now ≡ x′ .1 .1 .1 .1 .1 .0 .now) × (x .1 .1 .1 .1 .1 .1 .0 .now ≡ x′ .1 .1 .1 .1 .1 .1 .0 .now)
+    → (r ≡ r′) × (x .1 .1 .1 .1 .1 .1 .0 .now ≡ x′ .1 .1 .1 .1 .1 .1 .0 .now) × (x .1 .1 .1 .1 .1 .1 .1 .0 .now ≡ x′ .1 .1 .1 .1 .1 .1 .1 .0 .now)
 lubdhvani-open-single κs a r r′ x x′ p q = (p .0 ∙ sym (q .0), p .1 .0 ∙ sym (q .1 .0), p .1 .1 ∙ sym (q .1 .1))
 
 -- number, frame, length and count

@@ -8,8 +8,8 @@ ghost use Rattle.digest.specs.Answers.{digestAnswer, digestOut};
 ghost use Rattle.digest.specs.Answers as hashing;
 ghost use Rattle.cells.specs.Sizes.{LARGEST};
 ghost use Rattle.gage.specs.Permutation.{ROUNDS, permute, unpermute};
-ghost use Rattle.cipher.specs.Instances.{first};
-ghost use Rattle.ingage.specs.Answers.{sealCall, openCall, sealNumber, sealCount, openNumber, openCount};
+ghost use Rattle.cipher.specs.Instances.{named};
+ghost use Rattle.ingage.specs.Answers.{sealNamed, openNamed, sealNumber, sealCount, openNumber, openCount};
 ghost use Rattle.frame.specs.Answers.{writeCall};
 ghost use Rattle.frame.specs.Answers as writing;
 ghost use Rattle.framing.specs.Told.{told};
@@ -137,9 +137,10 @@ pub extern "C" fn lubdhvani_finish(running: &mut Record, out: &mut [u8], calls: 
     finish_report(answer, calls)
 }
 
-// Seals a message.
+// Seals a message at an instance.
 #[no_mangle]
 pub extern "C" fn lubdhvani_seal(
+    instance: usize,
     key: &[u8],
     nonce: &[u8],
     associated: &[u8],
@@ -148,19 +149,20 @@ pub extern "C" fn lubdhvani_seal(
     seal: &mut [u8],
     calls: &mut usize,
 ) -> u32
-    ensures { λ r. ⌜ r ≡ sealNumber (sealCall first (now (key .entry)) (now (nonce .entry)) (now (associated .entry)) (now (message .entry)) (now (out .entry)) (now (seal .entry)) .answer) ⌝ }
-    ensures { λ _. ⌜ now (out .exit) ≡ sealCall first (now (key .entry)) (now (nonce .entry)) (now (associated .entry)) (now (message .entry)) (now (out .entry)) (now (seal .entry)) .out ⌝ }
-    ensures { λ _. ⌜ now (seal .exit) ≡ sealCall first (now (key .entry)) (now (nonce .entry)) (now (associated .entry)) (now (message .entry)) (now (out .entry)) (now (seal .entry)) .seal ⌝ }
-    ensures { λ _. ⌜ now (calls .exit) ≡ sealCount (sealCall first (now (key .entry)) (now (nonce .entry)) (now (associated .entry)) (now (message .entry)) (now (out .entry)) (now (seal .entry)) .answer) ⌝ }
+    ensures { λ r. ⌜ r ≡ sealNumber (sealNamed (named instance) (now (key .entry)) (now (nonce .entry)) (now (associated .entry)) (now (message .entry)) (now (out .entry)) (now (seal .entry)) .answer) ⌝ }
+    ensures { λ _. ⌜ now (out .exit) ≡ sealNamed (named instance) (now (key .entry)) (now (nonce .entry)) (now (associated .entry)) (now (message .entry)) (now (out .entry)) (now (seal .entry)) .out ⌝ }
+    ensures { λ _. ⌜ now (seal .exit) ≡ sealNamed (named instance) (now (key .entry)) (now (nonce .entry)) (now (associated .entry)) (now (message .entry)) (now (out .entry)) (now (seal .entry)) .seal ⌝ }
+    ensures { λ _. ⌜ now (calls .exit) ≡ sealCount (sealNamed (named instance) (now (key .entry)) (now (nonce .entry)) (now (associated .entry)) (now (message .entry)) (now (out .entry)) (now (seal .entry)) .answer) ⌝ }
 {
-    let answer = ingage::seal(key, nonce, associated, message, out, seal);
+    let answer = ingage::seal(instance, key, nonce, associated, message, out, seal);
     *calls = seal_count(answer);
     seal_number(answer)
 }
 
-// Opens a ciphertext.
+// Opens a ciphertext at an instance.
 #[no_mangle]
 pub extern "C" fn lubdhvani_open(
+    instance: usize,
     key: &[u8],
     nonce: &[u8],
     associated: &[u8],
@@ -169,11 +171,11 @@ pub extern "C" fn lubdhvani_open(
     out: &mut [u8],
     calls: &mut usize,
 ) -> u32
-    ensures { λ r. ⌜ r ≡ openNumber (openCall first (now (key .entry)) (now (nonce .entry)) (now (associated .entry)) (now (cipher .entry)) (now (seal .entry)) (now (out .entry)) .answer) ⌝ }
-    ensures { λ _. ⌜ now (out .exit) ≡ openCall first (now (key .entry)) (now (nonce .entry)) (now (associated .entry)) (now (cipher .entry)) (now (seal .entry)) (now (out .entry)) .out ⌝ }
-    ensures { λ _. ⌜ now (calls .exit) ≡ openCount (openCall first (now (key .entry)) (now (nonce .entry)) (now (associated .entry)) (now (cipher .entry)) (now (seal .entry)) (now (out .entry)) .answer) ⌝ }
+    ensures { λ r. ⌜ r ≡ openNumber (openNamed (named instance) (now (key .entry)) (now (nonce .entry)) (now (associated .entry)) (now (cipher .entry)) (now (seal .entry)) (now (out .entry)) .answer) ⌝ }
+    ensures { λ _. ⌜ now (out .exit) ≡ openNamed (named instance) (now (key .entry)) (now (nonce .entry)) (now (associated .entry)) (now (cipher .entry)) (now (seal .entry)) (now (out .entry)) .out ⌝ }
+    ensures { λ _. ⌜ now (calls .exit) ≡ openCount (openNamed (named instance) (now (key .entry)) (now (nonce .entry)) (now (associated .entry)) (now (cipher .entry)) (now (seal .entry)) (now (out .entry)) .answer) ⌝ }
 {
-    let answer = ingage::open(key, nonce, associated, cipher, seal, out);
+    let answer = ingage::open(instance, key, nonce, associated, cipher, seal, out);
     *calls = open_count(answer);
     open_number(answer)
 }

@@ -44,6 +44,7 @@ pub fn seal_number(answer: Sealed) -> u32
 {
     match answer {
         Sealed::Done(_) => 0,
+        Sealed::Instance => 1,
         Sealed::Sizes => 2,
         Sealed::TooLong => 3,
         Sealed::NoRoom => 4,
@@ -56,6 +57,7 @@ pub fn seal_count(answer: Sealed) -> usize
 {
     match answer {
         Sealed::Done(calls) => calls,
+        Sealed::Instance => NO_CALLS,
         Sealed::Sizes => NO_CALLS,
         Sealed::TooLong => NO_CALLS,
         Sealed::NoRoom => NO_CALLS,
@@ -68,6 +70,7 @@ pub fn open_number(answer: Opened) -> u32
 {
     match answer {
         Opened::Done(_) => 0,
+        Opened::Instance => 1,
         Opened::Sizes => 2,
         Opened::TooLong => 3,
         Opened::NoRoom => 4,
@@ -81,6 +84,7 @@ pub fn open_count(answer: Opened) -> usize
 {
     match answer {
         Opened::Done(calls) => calls,
+        Opened::Instance => NO_CALLS,
         Opened::Sizes => NO_CALLS,
         Opened::TooLong => NO_CALLS,
         Opened::NoRoom => NO_CALLS,

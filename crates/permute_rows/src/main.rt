@@ -4,9 +4,9 @@ use gage::LARGEST;
 use libc::STDOUT_FILENO;
 
 // The permitted sizes in bytes, and sizes that are not.
-const PERMITTED: [usize; 9] = [29, 30, 32, 34, 36, 40, 48, 68, 72];
+const PERMITTED: [usize; 10] = [29, 30, 32, 34, 36, 40, 48, 64, 68, 72];
 
-const NOT_PERMITTED: [usize; 5] = [0, 28, 31, 64, 73];
+const NOT_PERMITTED: [usize; 5] = [0, 28, 31, 65, 73];
 
 fn say(text: &[u8]) {
     io::write_all(STDOUT_FILENO, text);
@@ -55,7 +55,7 @@ fn rows(n: usize, kind: &[u8], s: [u8; LARGEST]) {
 fn permitted_rows() {
     let sizes = PERMITTED;
     let mut i = 0;
-    while i < 9 {
+    while i < 10 {
         let n = sizes[i];
         rows(n, b"zero", [0u8; LARGEST]);
         rows(n, b"ones", [0xFFu8; LARGEST]);

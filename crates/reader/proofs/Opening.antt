@@ -15,10 +15,11 @@ use Rattle.line.specs.declared.Judged.the-variants.{Accepted, Unlisted, Trade}
 use Rattle.line.specs.Lines.{lineRule}
 use Rattle.ingage.specs.declared.Opened.{Opened}
 use Rattle.ingage.specs.declared.Opened.the-variants as opened
-use Rattle.cipher.specs.Instances.{first, first-fits}
+use Rattle.cipher.specs.Instances.{named, FIRST, first, first-fits}
 use Rattle.cipher.specs.Cipher.{Work, decrypted}
 use Rattle.cipher.specs.Results.{length-decrypted}
-use Rattle.ingage.specs.Answers.{OpenCall, openCall}
+use Rattle.ingage.specs.Answers.{OpenCall, openNamed}
+use Rattle.ingage.specs.Naming.{open-first}
 use Rattle.ingage.specs.Exactly.{Within, opened-within}
 use Rattle.ingage.proofs.Opened as opened-type
 use Rattle.reader.specs.declared.Answer.the-variants as answer-is
@@ -31,7 +32,7 @@ module _ (key nonce A C T : List ℕ) {room : List ℕ} (w : Within first key no
   work = decrypted first key nonce A C
 
   abbrev there : OpenCall
-  there = openCall first key nonce A C T room
+  there = openNamed (named FIRST) key nonce A C T room
 
   -- by whether the seal is the one worked out
   abbrev either : Bool → OpenCall
@@ -40,7 +41,7 @@ module _ (key nonce A C T : List ℕ) {room : List ℕ} (w : Within first key no
       (record { answer = opened.Done (work .calls); out = over (work .text) room })
 
   is : there ≡ either (same (work .seal) T)
-  is = opened-within first key nonce A C T room w
+  is = open-first key nonce A C T room ∙ opened-within first key nonce A C T room w
 
   module _ (r : Opened) (q : r ≡ there .answer) where
     answers : (t : Bool) → same (work .seal) T ≡ t → r ≡ either t .answer
@@ -56,15 +57,15 @@ module _ (key nonce A C T : List ℕ) {room : List ℕ} (w : Within first key no
         go false p = let k : work .calls ≡ n = cc (e, answers false p) in rw (p, k)
 
     -- the sizes are right, so the call is never refused
-    pub told-other : {X : Type 0} → OneOf (1 ∷ 2 ∷ 3 ∷ []) (tagOf opened-type.the-type r) → X
+    pub told-other : {X : Type 0} → OneOf (1 ∷ 2 ∷ 3 ∷ 4 ∷ []) (tagOf opened-type.the-type r) → X
     told-other {X} k = go (same (work .seal) T) refl
       where
-        refused : (x : Opened) → r ≡ x → OneOf (1 ∷ 2 ∷ 3 ∷ []) (tagOf opened-type.the-type x)
-        refused x e = subst (λ (y : Opened). OneOf (1 ∷ 2 ∷ 3 ∷ []) (tagOf opened-type.the-type y)) e k
+        refused : (x : Opened) → r ≡ x → OneOf (1 ∷ 2 ∷ 3 ∷ 4 ∷ []) (tagOf opened-type.the-type x)
+        refused x e = subst (λ (y : Opened). OneOf (1 ∷ 2 ∷ 3 ∷ 4 ∷ []) (tagOf opened-type.the-type y)) e k
 
-        no : {i : ℕ} → (i ≡ 0) ⊎ (i ≡ 4) → OneOf (1 ∷ 2 ∷ 3 ∷ []) i → X
-        no {i} (inl e) h = absurd (⊎-elim (λ g. omega (arith, g)) (⊎-elim (λ g. omega (arith, g)) (λ g. omega (arith, g))) h)
-        no {i} (inr e) h = absurd (⊎-elim (λ g. omega (arith, g)) (⊎-elim (λ g. omega (arith, g)) (λ g. omega (arith, g))) h)
+        no : {i : ℕ} → (i ≡ 0) ⊎ (i ≡ 5) → OneOf (1 ∷ 2 ∷ 3 ∷ 4 ∷ []) i → X
+        no {i} (inl e) h = absurd (⊎-elim (λ g. omega (arith, g)) (⊎-elim (λ g. omega (arith, g)) (⊎-elim (λ g. omega (arith, g)) (λ g. omega (arith, g)))) h)
+        no {i} (inr e) h = absurd (⊎-elim (λ g. omega (arith, g)) (⊎-elim (λ g. omega (arith, g)) (⊎-elim (λ g. omega (arith, g)) (λ g. omega (arith, g)))) h)
 
         go : (t : Bool) → same (work .seal) T ≡ t → X
         go true p = no (inl refl) (refused (opened.Done (work .calls)) (answers true p))

@@ -106,7 +106,7 @@ fn judge_sealed(
     ensures { λ _. ⌜ now (line .exit) ≡ lineOver (judgeSealed (now (key .entry)) (now (nonce .entry)) (now (assoc .entry)) (now (cipher .entry)) (now (seal .entry))) (now (line .entry)) ⌝ }
 {
     let length = cipher.len();
-    match open(key, nonce, assoc, cipher, seal, text) {
+    match open(frame::INSTANCE, key, nonce, assoc, cipher, seal, text) {
         Opened::Seal(calls) => return Answer::Seal(calls),
         Opened::Done(calls) => {
             let found = &text[0..length];

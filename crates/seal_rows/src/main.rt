@@ -1,7 +1,7 @@
 // Prints the rows that the second program makes of its own seals and frames (tests/second, src/rows/call.rs): what sealing, opening or
 // writing gives for each case on standard input. A case is its head, its name and the call's five parts: key, nonce, associated data (of a
-// frame the font digest), text (or line), seal. The head has the lengths of those, the room for what comes out, and 1 where the call is to
-// open, 2 where it is to write: four bytes each, the high byte first.
+// frame the font digest), text (or line), seal. The head has the lengths of those, the room for what comes out, 1 where the call is to
+// open or 2 where it is to write, and the cipher's instance: four bytes each, the high byte first.
 use digest::DIGEST;
 use frame::Written;
 use ingage::Opened;
@@ -14,7 +14,7 @@ ghost use Prim.Native.Nat.{_<_};
 const MOST_CASES: usize = 10000;
 
 // The head of a case has so many numbers and bytes; and the longest name with parts, room and seal that a case has.
-const NUMBERS: usize = 8;
+const NUMBERS: usize = 9;
 
 const HEAD: usize = 4 * NUMBERS;
 
@@ -34,7 +34,7 @@ const OPENS: usize = 1;
 
 const WRITES: usize = 2;
 
-// Where the name and the parts of a case end in its bytes, its room and its call.
+// Where the name and the parts of a case end in its bytes, its room, its call and its instance.
 struct Case {
     name: usize,
     key: usize,
@@ -44,6 +44,7 @@ struct Case {
     seal: usize,
     room: usize,
     call: usize,
+    instance: usize,
 }
 
 // The number of a call, the length of a frame, and the count.
@@ -122,6 +123,7 @@ fn part(all: &[u8], from: usize, to: usize) -> &[u8] {
 
 fn called(
     call: usize,
+    instance: usize,
     key: &[u8],
     nonce: &[u8],
     associated: &[u8],
@@ -130,18 +132,19 @@ fn called(
     seal: &mut [u8],
 ) -> Outcome {
     if call == OPENS {
-        return of_open(ingage::open(key, nonce, associated, text, seal, out));
+        return of_open(ingage::open(instance, key, nonce, associated, text, seal, out));
     }
     if call == WRITES {
         return of_write(frame::write(key, nonce, associated, text, out));
     }
-    of_seal(ingage::seal(key, nonce, associated, text, out, seal))
+    of_seal(ingage::seal(instance, key, nonce, associated, text, out, seal))
 }
 
 // The call with the parts of a case.
 fn parted(c: Case, all: &[u8], out: &mut [u8], seal: &mut [u8]) -> Outcome {
     called(
         c.call,
+        c.instance,
         part(all, c.name, c.key),
         part(all, c.key, c.nonce),
         part(all, c.nonce, c.associated),
@@ -216,6 +219,7 @@ fn case_of(h: [u8; HEAD]) -> Case {
         seal,
         room: number_in(h, 6),
         call: number_in(h, 7),
+        instance: number_in(h, 8),
     }
 }
 

@@ -2,26 +2,54 @@
 //! an instance, and the public calls seal and open with their refusals.
 
 use crate::numbers::{
-    Counted, ASSOCIATED_LIMIT, CIPHER_LIMIT, KEY, NONCE, NOT_ITS_SIZE, NO_ROOM, SEAL, TOO_LONG,
-    WRONG_SEAL,
+    Counted, ASSOCIATED_LIMIT, CIPHER_LIMIT, NOT_ITS_SIZE, NO_ROOM, TOO_LONG, UNKNOWN, WRONG_SEAL,
 };
 use crate::padding::padded;
 use crate::permutation::{Permutation, ROUNDS};
 use crate::readings::{KeyAgain, Readings, PRODUCT};
 
-/// State, rate and seal in bytes. Key and nonce have the lengths they come with.
+/// Key, nonce, seal, state and rate in bytes.
 pub struct Sizes {
+    pub key: usize,
+    pub nonce: usize,
+    pub seal: usize,
     pub state: usize,
     pub rate: usize,
-    pub seal: usize,
 }
 
-/// Instance 1 of Table 2.1: b = 232, r = 8, |T| = 128.
-pub const INSTANCE_1: Sizes = Sizes {
-    state: 29,
-    rate: 1,
-    seal: SEAL,
-};
+/// A row of Table 2.1, which counts in bits: |K|, |N|, |T|, b, r.
+const fn row(k: usize, n: usize, t: usize, b: usize, r: usize) -> Sizes {
+    Sizes {
+        key: k / 8,
+        nonce: n / 8,
+        seal: t / 8,
+        state: b / 8,
+        rate: r / 8,
+    }
+}
+
+/// Table 2.1, in its order.
+static INSTANCES: [Sizes; 6] = [
+    row(128, 96, 128, 232, 8),
+    row(128, 96, 128, 240, 16),
+    row(128, 96, 128, 256, 32),
+    row(128, 128, 128, 320, 64),
+    row(256, 96, 128, 512, 64),
+    row(256, 128, 128, 512, 64),
+];
+
+/// The instance of document 01, by which frames are sealed.
+pub static INSTANCE_1: &Sizes = &INSTANCES[0];
+
+/// The numbers of all instances.
+pub fn instances() -> std::ops::RangeInclusive<usize> {
+    1..=INSTANCES.len()
+}
+
+/// The sizes of an instance, if it is known.
+pub fn sizes(instance: usize) -> Option<&'static Sizes> {
+    INSTANCES.get(instance.checked_sub(1)?)
+}
 
 /// What Algorithms 5 and 6 share: the state on its way, and the permutation
 /// that counts its calls.
@@ -171,8 +199,9 @@ pub fn decrypt(
 }
 
 /// The public call. Writes as many bytes as the message has into `out` and
-/// sixteen into `seal_out`; on a refusal nothing.
+/// the seal's into `seal_out`; on a refusal nothing.
 pub fn seal(
+    instance: usize,
     key: &[u8],
     nonce: &[u8],
     associated: &[u8],
@@ -180,7 +209,10 @@ pub fn seal(
     out: &mut [u8],
     seal_out: &mut [u8],
 ) -> Counted {
-    if key.len() != KEY || nonce.len() != NONCE || seal_out.len() != SEAL {
+    let Some(sizes) = sizes(instance) else {
+        return Counted::refused(UNKNOWN);
+    };
+    if key.len() != sizes.key || nonce.len() != sizes.nonce || seal_out.len() != sizes.seal {
         return Counted::refused(NOT_ITS_SIZE);
     }
     if message.len() > CIPHER_LIMIT || associated.len() > ASSOCIATED_LIMIT {
@@ -189,7 +221,7 @@ pub fn seal(
     if out.len() < message.len() {
         return Counted::refused(NO_ROOM);
     }
-    let (ciphertext, seal, count) = encrypt(&PRODUCT, &INSTANCE_1, key, nonce, associated, message);
+    let (ciphertext, seal, count) = encrypt(&PRODUCT, sizes, key, nonce, associated, message);
     out[..ciphertext.len()].copy_from_slice(&ciphertext);
     seal_out.copy_from_slice(&seal);
     Counted::done(count)
@@ -198,6 +230,7 @@ pub fn seal(
 /// The public call. Writes the message on success; on a wrong seal as many
 /// zeros; on any other refusal nothing.
 pub fn open(
+    instance: usize,
     key: &[u8],
     nonce: &[u8],
     associated: &[u8],
@@ -205,7 +238,10 @@ pub fn open(
     seal: &[u8],
     out: &mut [u8],
 ) -> Counted {
-    if key.len() != KEY || nonce.len() != NONCE || seal.len() != SEAL {
+    let Some(sizes) = sizes(instance) else {
+        return Counted::refused(UNKNOWN);
+    };
+    if key.len() != sizes.key || nonce.len() != sizes.nonce || seal.len() != sizes.seal {
         return Counted::refused(NOT_ITS_SIZE);
     }
     if ciphertext.len() > CIPHER_LIMIT || associated.len() > ASSOCIATED_LIMIT {
@@ -214,8 +250,7 @@ pub fn open(
     if out.len() < ciphertext.len() {
         return Counted::refused(NO_ROOM);
     }
-    let (message, worked_out, count) =
-        decrypt(&PRODUCT, &INSTANCE_1, key, nonce, associated, ciphertext);
+    let (message, worked_out, count) = decrypt(&PRODUCT, sizes, key, nonce, associated, ciphertext);
     let first = &mut out[..ciphertext.len()];
     if worked_out != seal {
         first.fill(0);
@@ -237,47 +272,89 @@ mod tests {
         (0..length).map(|i| (step * i + length) as u8).collect()
     }
 
+    /// Key, nonce, associated data and message of these lengths.
+    fn ramps([k, n, a, p]: [usize; 4]) -> [Vec<u8>; 4] {
+        [ramp(k, 7), ramp(n, 5), ramp(a, 3), ramp(p, 11)]
+    }
+
     #[test]
     fn opening_gives_back_what_was_sealed_and_the_count_is_the_formula() {
-        let (key, nonce) = (ramp(KEY, 7), ramp(NONCE, 5));
-        for a in [0, 1, 2, 35] {
-            for p in [0, 1, 2, 65] {
-                let (associated, message) = (ramp(a, 3), ramp(p, 11));
-                let mut out = vec![0xee; p + 3];
-                let mut its_seal = [0; SEAL];
-                let answer = seal(&key, &nonce, &associated, &message, &mut out, &mut its_seal);
-                assert_eq!(answer, Counted::done(a + p + 4));
-                assert_eq!(out[p..], [0xee; 3]);
-                let mut back = vec![0xee; p + 3];
-                let answer = open(&key, &nonce, &associated, &out[..p], &its_seal, &mut back);
-                assert_eq!(answer, Counted::done(a + p + 4));
-                assert_eq!(back[..p], message[..]);
-                assert_eq!(back[p..], [0xee; 3]);
-                its_seal[15] ^= 0x80;
-                let answer = open(&key, &nonce, &associated, &out[..p], &its_seal, &mut back);
-                assert_eq!(answer.number, WRONG_SEAL);
-                assert_eq!(answer.count, a + p + 4);
-                assert_eq!(back[..p], vec![0; p][..]);
-                assert_eq!(back[p..], [0xee; 3]);
+        for instance in instances() {
+            let its = sizes(instance).unwrap();
+            for a in [0, 1, its.rate, 35] {
+                for p in [0, 1, its.rate, 2 * its.rate - 1, 65] {
+                    let [key, nonce, associated, message] = ramps([its.key, its.nonce, a, p]);
+                    let count = 1 + (a / its.rate + 1) + (p / its.rate + 1) + 1;
+                    let mut out = vec![0xee; p + 3];
+                    let mut its_seal = vec![0; its.seal];
+                    let answer = seal(
+                        instance,
+                        &key,
+                        &nonce,
+                        &associated,
+                        &message,
+                        &mut out,
+                        &mut its_seal,
+                    );
+                    assert_eq!(answer, Counted::done(count));
+                    assert_eq!(out[p..], [0xee; 3]);
+                    let mut back = vec![0xee; p + 3];
+                    let answer = open(
+                        instance,
+                        &key,
+                        &nonce,
+                        &associated,
+                        &out[..p],
+                        &its_seal,
+                        &mut back,
+                    );
+                    assert_eq!(answer, Counted::done(count));
+                    assert_eq!(back[..p], message[..]);
+                    assert_eq!(back[p..], [0xee; 3]);
+                    its_seal[15] ^= 0x80;
+                    let answer = open(
+                        instance,
+                        &key,
+                        &nonce,
+                        &associated,
+                        &out[..p],
+                        &its_seal,
+                        &mut back,
+                    );
+                    assert_eq!(answer.number, WRONG_SEAL);
+                    assert_eq!(answer.count, count);
+                    assert_eq!(back[..p], vec![0; p][..]);
+                    assert_eq!(back[p..], [0xee; 3]);
+                }
             }
         }
     }
 
     #[test]
-    fn the_two_algorithms_meet_at_every_rate_and_reading() {
-        let shapes = [(29, 1), (30, 2), (32, 4), (40, 8), (64, 8)];
+    fn the_first_instance_counts_as_document_01_says() {
+        let [key, nonce, associated, message] = ramps([16, 12, 35, 65]);
+        let (mut out, mut its_seal) = ([0; 65], [0; 16]);
+        let answer = seal(
+            1,
+            &key,
+            &nonce,
+            &associated,
+            &message,
+            &mut out,
+            &mut its_seal,
+        );
+        assert_eq!(answer, Counted::done(35 + 65 + 4));
+    }
+
+    #[test]
+    fn the_two_algorithms_meet_at_every_instance_and_reading() {
         for readings in every_combination() {
-            for (state, rate) in shapes {
-                let sizes = Sizes {
-                    state,
-                    rate,
-                    seal: SEAL,
-                };
+            for its in instances().filter_map(sizes) {
+                let rate = its.rate;
                 for p in [0, 1, rate - 1, rate, rate + 1, 3 * rate] {
-                    let (key, nonce) = (ramp(KEY, 7), ramp(NONCE, 5));
-                    let (a, message) = (ramp(p + 1, 3), ramp(p, 13));
-                    let (c, t, sealing) = encrypt(&readings, &sizes, &key, &nonce, &a, &message);
-                    let (m, u, opening) = decrypt(&readings, &sizes, &key, &nonce, &a, &c);
+                    let [key, nonce, a, message] = ramps([its.key, its.nonce, p + 1, p]);
+                    let (c, t, sealing) = encrypt(&readings, its, &key, &nonce, &a, &message);
+                    let (m, u, opening) = decrypt(&readings, its, &key, &nonce, &a, &c);
                     assert_eq!((m, u), (message, t));
                     let formula = 2 + (a.len() / rate + 1) + (p / rate + 1);
                     assert_eq!((sealing, opening), (formula, formula));
@@ -289,20 +366,41 @@ mod tests {
     #[test]
     fn refusals_write_nothing() {
         let cases = [
-            (15, 12, 0, 4097, 0, 16, NOT_ITS_SIZE),
-            (16, 13, 0, 0, 0, 16, NOT_ITS_SIZE),
-            (16, 12, 0, 0, 0, 17, NOT_ITS_SIZE),
-            (16, 12, 1025, 0, 0, 16, TOO_LONG),
-            (16, 12, 0, 4097, 0, 16, TOO_LONG),
-            (16, 12, 1024, 4096, 4095, 16, NO_ROOM),
+            (0, 15, 12, 1025, 4097, 0, 16, UNKNOWN),
+            (7, 16, 12, 0, 0, 0, 16, UNKNOWN),
+            (1, 15, 12, 0, 4097, 0, 16, NOT_ITS_SIZE),
+            (1, 16, 13, 0, 0, 0, 16, NOT_ITS_SIZE),
+            (4, 16, 12, 0, 0, 0, 16, NOT_ITS_SIZE),
+            (5, 16, 12, 0, 0, 0, 16, NOT_ITS_SIZE),
+            (6, 32, 12, 0, 0, 0, 16, NOT_ITS_SIZE),
+            (1, 16, 12, 0, 0, 0, 17, NOT_ITS_SIZE),
+            (3, 16, 12, 1025, 0, 0, 16, TOO_LONG),
+            (1, 16, 12, 0, 4097, 0, 16, TOO_LONG),
+            (6, 32, 16, 1024, 4096, 4095, 16, NO_ROOM),
         ];
-        for (k, n, a, p, room, s, number) in cases {
+        for (instance, k, n, a, p, room, s, number) in cases {
             let (key, nonce, associated, text) = (ramp(k, 1), ramp(n, 1), ramp(a, 1), ramp(p, 1));
             let mut out = vec![0xee; room];
             let mut its_seal = vec![0xdd; s];
-            let answer = seal(&key, &nonce, &associated, &text, &mut out, &mut its_seal);
+            let answer = seal(
+                instance,
+                &key,
+                &nonce,
+                &associated,
+                &text,
+                &mut out,
+                &mut its_seal,
+            );
             assert_eq!(answer, Counted::refused(number));
-            let answer = open(&key, &nonce, &associated, &text, &its_seal, &mut out);
+            let answer = open(
+                instance,
+                &key,
+                &nonce,
+                &associated,
+                &text,
+                &its_seal,
+                &mut out,
+            );
             assert_eq!(answer, Counted::refused(number));
             assert_eq!(out, vec![0xee; room]);
             assert_eq!(its_seal, vec![0xdd; s]);

@@ -45,7 +45,7 @@ impl Fields {
     /// frames no writer makes can be made for tests.
     pub fn sealing(key: &[u8], nonce: &[u8], digest: &[u8], line: &[u8]) -> (Fields, usize) {
         let (ciphertext, seal, count) =
-            encrypt(&PRODUCT, &INSTANCE_1, key, nonce, &associated(digest), line);
+            encrypt(&PRODUCT, INSTANCE_1, key, nonce, &associated(digest), line);
         let fields = Fields {
             nonce: nonce.to_vec(),
             digest: digest.to_vec(),

@@ -3,9 +3,8 @@
 
 use std::fmt::Write;
 
-use crate::cipher::{encrypt, INSTANCE_1};
+use crate::cipher::{encrypt, sizes as cipher_sizes};
 use crate::digest::{sizes, Sponge};
-use crate::numbers::{KEY, NONCE};
 use crate::padding::padded;
 use crate::readings::PRODUCT;
 use crate::text::hex;
@@ -41,20 +40,18 @@ pub fn hash(instance: usize) -> Option<String> {
     Some(entries)
 }
 
-/// `kat aead I`, or none where the instance is not supplied. CT is the
+/// `kat aead I`, or none where the instance is unknown. CT is the
 /// ciphertext with the seal after it.
 pub fn aead(instance: usize) -> Option<String> {
-    if instance != 1 {
-        return None;
-    }
-    let (key, nonce) = (counting(KEY), counting(NONCE));
+    let sizes = cipher_sizes(instance)?;
+    let (key, nonce) = (counting(sizes.key), counting(sizes.nonce));
     let mut entries = String::new();
     let mut count = 0;
     for p in 0..=AEAD_MOST {
         for a in 0..=AEAD_MOST {
             let (message, associated) = (counting(p), counting(a));
             let (mut ciphertext, seal, _) =
-                encrypt(&PRODUCT, &INSTANCE_1, &key, &nonce, &associated, &message);
+                encrypt(&PRODUCT, sizes, &key, &nonce, &associated, &message);
             ciphertext.extend(seal);
             count += 1;
             writeln!(entries, "Count = {}", count).unwrap();

@@ -39,7 +39,7 @@ fn run(words: &[&str]) -> Result<(), Stop> {
         }
         ["kat", "hash", instance] => entries(kat::hash, instance),
         ["kat", "aead", instance] => entries(kat::aead, instance),
-        ["readings"] => print(answers::table().as_bytes()),
+        ["readings"] => print(answers::page().as_bytes()),
         ["diffusion"] => print(diffusion::table().as_bytes()),
         ["compose", key, font] => {
             let orders = standard_input(u64::MAX)?;

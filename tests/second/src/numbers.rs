@@ -3,7 +3,7 @@
 //! once, under a name.
 
 pub const DONE: u8 = 0;
-/// Unknown hash instance, or state size not permitted.
+/// Unknown instance, or state size not permitted.
 pub const UNKNOWN: u8 = 1;
 /// Key, nonce, digest, seal or seal buffer not of its exact size.
 pub const NOT_ITS_SIZE: u8 = 2;

@@ -12,7 +12,7 @@ use crate::substitution::{substitute, unsubstitute};
 pub const ROUNDS: usize = 32;
 
 /// Permitted state sizes in bytes (document 01).
-pub const PERMITTED: [usize; 9] = [29, 30, 32, 34, 36, 40, 48, 68, 72];
+pub const PERMITTED: [usize; 10] = [29, 30, 32, 34, 36, 40, 48, 64, 68, 72];
 
 /// The permutation under one reading, with its call counter.
 #[derive(Clone)]

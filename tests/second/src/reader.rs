@@ -68,7 +68,7 @@ fn judge(told: Told, asked: Asked, stretch: &[u8]) -> Judged {
     }
     let (line, worked_out, count) = decrypt(
         &PRODUCT,
-        &INSTANCE_1,
+        INSTANCE_1,
         told.key,
         &fields.nonce,
         &associated(&fields.digest),

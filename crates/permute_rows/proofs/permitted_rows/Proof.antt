@@ -5,10 +5,10 @@ use Rattle.permute_rows.proofs.permitted_rows.Statement.{statement}
 use Rattle.permute_rows.proofs.permitted_rows.Tie as tie
 
 abbrev Inv-loop : tie.InvT-loop
-Inv-loop sizes i₀ t4 t5 t6 i = i ≤ 9
+Inv-loop sizes i₀ t4 t5 t6 i = i ≤ 10
 
 abbrev μ-loop : tie.MeasureT-loop
-μ-loop sizes i₀ t4 t5 t6 i = 9 - i
+μ-loop sizes i₀ t4 t5 t6 i = 10 - i
 
 loop-holds : tie.Need-loop-holds Inv-loop μ-loop
 loop-holds c = search needs

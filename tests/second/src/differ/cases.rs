@@ -7,11 +7,12 @@ use crate::memory::{Stand, SHIFTS, VAST, VAST_BYTES};
 use crate::stock::{line, spoil, stuffy, Stock};
 use crate::streams::{near_place, place, stream};
 use second::chance::Chance;
+use second::cipher;
 use second::digest::{instances, sizes};
 use second::near::near_line;
 use second::numbers::{
     ASSOCIATED_LIMIT, BESIDE_LINE, CIPHER_LIMIT, DIGEST, FRAME_ROOM, KEY, LINE_MOST, MESSAGE_LIMIT,
-    NONCE, SEAL,
+    NONCE,
 };
 use second::permutation::PERMITTED;
 use second::reader::Asked;
@@ -28,8 +29,8 @@ pub fn case(chance: &mut Chance, stock: &Stock) -> Case {
         0..=6 => (Call::Permute, 0, vec![state(chance)]),
         7..=13 => (Call::Unpermute, 0, vec![state(chance)]),
         14..=25 => digest(chance),
-        26..=37 => (Call::Seal, 0, seal(chance)),
-        38..=49 => (Call::Open, 0, open(chance, stock)),
+        26..=37 => seal(chance),
+        38..=49 => open(chance, stock),
         50..=61 => (Call::Write, 0, write(chance, stock)),
         62..=71 => {
             let stream = stream(chance, stock);
@@ -90,36 +91,54 @@ fn digest(chance: &mut Chance) -> (Call, usize, Vec<Vec<u8>>) {
         }
     };
     if chance.once_in(8) {
-        instance = match chance.below(4) {
-            0 => 0,
-            1 => instances().end() + 1,
-            2 => chance.one_of(&[usize::MAX, 1 << 63, 257, 65_537, VAST + 1, VAST + 10]),
-            _ => chance.word() as usize,
-        };
+        instance = unknown(chance, *instances().end());
     }
     let (message, out) = (filled(chance, length), room(chance, DIGEST));
     (Call::Digest, instance, vec![message, out])
 }
 
-fn seal(chance: &mut Chance) -> Vec<Vec<u8>> {
-    let associated = text(chance, ASSOCIATED_LIMIT);
-    let message = text(chance, CIPHER_LIMIT);
+/// No instance of so many; some are known only in their last 32 bits.
+fn unknown(chance: &mut Chance, most: usize) -> usize {
+    match chance.below(4) {
+        0 => 0,
+        1 => most + 1,
+        2 => chance.one_of(&[usize::MAX, 1 << 63, 257, 65_537, VAST + 1, VAST + most]),
+        _ => chance.word() as usize,
+    }
+}
+
+/// An instance of the cipher: mostly the one given, rarely another or none.
+fn named(chance: &mut Chance, instance: usize) -> usize {
+    let most = *cipher::instances().end();
+    match chance.below(24) {
+        0 => unknown(chance, most),
+        1 => chance.between(1, most),
+        _ => instance,
+    }
+}
+
+fn seal(chance: &mut Chance) -> (Call, usize, Vec<Vec<u8>>) {
+    let instance = chance.between(1, *cipher::instances().end());
+    let its = cipher::sizes(instance).expect("a known instance");
+    let associated = text(chance, ASSOCIATED_LIMIT, its.rate);
+    let message = text(chance, CIPHER_LIMIT, its.rate);
     let out = room(chance, message.len());
-    let (key, nonce) = (filled(chance, KEY), filled(chance, NONCE));
-    let seal = chance.bytes(SEAL);
-    vec![
+    let (key, nonce) = (filled(chance, its.key), filled(chance, its.nonce));
+    let seal = chance.bytes(its.seal);
+    let buffers = vec![
         sized(chance, key),
         sized(chance, nonce),
         associated,
         message,
         out,
         sized(chance, seal),
-    ]
+    ];
+    (Call::Seal, named(chance, instance), buffers)
 }
 
-fn open(chance: &mut Chance, stock: &Stock) -> Vec<Vec<u8>> {
+fn open(chance: &mut Chance, stock: &Stock) -> (Call, usize, Vec<Vec<u8>>) {
     let text = &stock.texts[chance.below(stock.texts.len())];
-    let mut key = stock.key.clone();
+    let mut key = text.key.clone();
     let mut nonce = text.nonce.clone();
     let mut associated = text.associated.clone();
     let mut ciphertext = text.ciphertext.clone();
@@ -127,7 +146,7 @@ fn open(chance: &mut Chance, stock: &Stock) -> Vec<Vec<u8>> {
     // One bit of one of the five, or another number of bytes.
     match chance.below(24) {
         0 | 1 => chance.flip(&mut seal),
-        2 => seal = chance.bytes(SEAL),
+        2 => seal = chance.bytes(seal.len()),
         3 => chance.flip(&mut key),
         4 => chance.flip(&mut nonce),
         5 if !associated.is_empty() => chance.flip(&mut associated),
@@ -140,7 +159,8 @@ fn open(chance: &mut Chance, stock: &Stock) -> Vec<Vec<u8>> {
     }
     let out = room(chance, ciphertext.len());
     let (key, nonce) = (sized(chance, key), sized(chance, nonce));
-    vec![key, nonce, associated, ciphertext, sized(chance, seal), out]
+    let buffers = vec![key, nonce, associated, ciphertext, sized(chance, seal), out];
+    (Call::Open, named(chance, text.instance), buffers)
 }
 
 fn write(chance: &mut Chance, stock: &Stock) -> Vec<Vec<u8>> {
@@ -234,8 +254,8 @@ fn room(chance: &mut Chance, least: usize) -> Vec<u8> {
     chance.bytes(size)
 }
 
-/// A text for the cipher: short mostly.
-fn text(chance: &mut Chance, limit: usize) -> Vec<u8> {
+/// A text for the cipher: short mostly, and often around a multiple of the rate.
+fn text(chance: &mut Chance, limit: usize, rate: usize) -> Vec<u8> {
     let length = if chance.once_in(OVER) {
         return long_or_short(chance, limit);
     } else if chance.once_in(AT_LIMIT) {
@@ -246,6 +266,7 @@ fn text(chance: &mut Chance, limit: usize) -> Vec<u8> {
             1..=5 => 0,
             6..=9 => 1,
             10 => 35,
+            11..=25 => (rate * chance.between(1, 3) + chance.below(3)) - 1,
             _ => chance.below(16),
         }
     };

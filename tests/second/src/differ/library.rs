@@ -16,6 +16,7 @@ extern "C" {
         calls: *mut usize,
     ) -> u32;
     fn lubdhvani_seal(
+        instance: usize,
         key: *const u8,
         key_length: usize,
         nonce: *const u8,
@@ -31,6 +32,7 @@ extern "C" {
         calls: *mut usize,
     ) -> u32;
     fn lubdhvani_open(
+        instance: usize,
         key: *const u8,
         key_length: usize,
         nonce: *const u8,
@@ -210,10 +212,10 @@ unsafe fn called(case: &Case, puts: &[Put], outs: &[*mut usize]) -> u32 {
             call!(lubdhvani_digest: [] (case.number) [message, out] (calls))
         }
         (Call::Seal, [key, nonce, associated, message, out, seal], &[calls]) => {
-            call!(lubdhvani_seal: [key, nonce, associated, message, out, seal] (calls))
+            call!(lubdhvani_seal: [] (case.number) [key, nonce, associated, message, out, seal] (calls))
         }
         (Call::Open, [key, nonce, associated, cipher, seal, out], &[calls]) => {
-            call!(lubdhvani_open: [key, nonce, associated, cipher, seal, out] (calls))
+            call!(lubdhvani_open: [] (case.number) [key, nonce, associated, cipher, seal, out] (calls))
         }
         (Call::Write, [key, nonce, font, line, frame], &[length, calls]) => {
             call!(lubdhvani_write: [key, nonce, font, line, frame] (length, calls))

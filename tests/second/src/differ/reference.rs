@@ -38,11 +38,11 @@ fn answered(case: &Case, lent: &mut [&mut [u8]]) -> (u32, Vec<usize>) {
             (counted.number.into(), vec![counted.count])
         }
         (Call::Seal, [key, nonce, associated, message, out, seal]) => {
-            let counted = cipher::seal(key, nonce, associated, message, out, seal);
+            let counted = cipher::seal(case.number, key, nonce, associated, message, out, seal);
             (counted.number.into(), vec![counted.count])
         }
         (Call::Open, [key, nonce, associated, ciphertext, seal, out]) => {
-            let counted = cipher::open(key, nonce, associated, ciphertext, seal, out);
+            let counted = cipher::open(case.number, key, nonce, associated, ciphertext, seal, out);
             (counted.number.into(), vec![counted.count])
         }
         (Call::Write, [key, nonce, font, line, out]) => {

@@ -2,7 +2,7 @@
 //! a stock is made once for every `SERVES` calls, from the seed and its own number alone.
 
 use second::chance::Chance;
-use second::cipher::{encrypt, INSTANCE_1};
+use second::cipher::{encrypt, instances, sizes};
 use second::frame::{framed, framed_escaping, framed_flipping, Fields};
 use second::near::{near_line, trade_line};
 use second::numbers::{DIGEST, KEY, LINE_MOST, NONCE};
@@ -20,6 +20,8 @@ pub const STUFFING: [u8; 4] = [MARK, ESCAPE, 0x5e, 0x5d];
 
 /// A text sealed under the stock's key.
 pub struct Text {
+    pub instance: usize,
+    pub key: Vec<u8>,
     pub nonce: Vec<u8>,
     pub associated: Vec<u8>,
     pub ciphertext: Vec<u8>,
@@ -70,19 +72,18 @@ impl Stock {
         stock
     }
 
+    /// Sealed at an instance, with lengths around multiples of its rate among
+    /// them.
     fn text(&self, chance: &mut Chance) -> Text {
-        let nonce = chance.bytes(NONCE);
+        let instance = chance.between(*instances().start(), *instances().end());
+        let its = sizes(instance).expect("a known instance");
+        let (key, nonce) = (chance.bytes(its.key), chance.bytes(its.nonce));
         let (a, p) = (chance.below(20), chance.below(24));
         let (associated, message) = (chance.bytes(a), chance.bytes(p));
-        let (ciphertext, seal, _) = encrypt(
-            &PRODUCT,
-            &INSTANCE_1,
-            &self.key,
-            &nonce,
-            &associated,
-            &message,
-        );
+        let (ciphertext, seal, _) = encrypt(&PRODUCT, its, &key, &nonce, &associated, &message);
         Text {
+            instance,
+            key,
             nonce,
             associated,
             ciphertext,

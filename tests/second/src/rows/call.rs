@@ -23,12 +23,13 @@ pub enum Call {
     Write,
 }
 
-/// The arguments of a call: text is the message, the ciphertext or the line,
+/// The arguments of a call: instance is the cipher's (of a frame 0), text is the message, the ciphertext or the line,
 /// associated what is associated with it (of a frame the font digest), and seal
 /// what the seal's buffer holds before.
 #[derive(Clone)]
 pub struct Case {
     pub call: Call,
+    pub instance: usize,
     pub key: Vec<u8>,
     pub nonce: Vec<u8>,
     pub associated: Vec<u8>,
@@ -69,11 +70,13 @@ impl Case {
         let (key, nonce, associated) = (&self.key, &self.nonce, &self.associated);
         match self.call {
             Call::Seal => {
-                let answer = cipher::seal(key, nonce, associated, &self.text, out, seal);
+                let answer =
+                    cipher::seal(self.instance, key, nonce, associated, &self.text, out, seal);
                 (answer.number, 0, answer.count)
             }
             Call::Open => {
-                let answer = cipher::open(key, nonce, associated, &self.text, seal, out);
+                let answer =
+                    cipher::open(self.instance, key, nonce, associated, &self.text, seal, out);
                 (answer.number, 0, answer.count)
             }
             Call::Write => {
@@ -84,7 +87,7 @@ impl Case {
     }
 
     /// As the case file holds it: the lengths of the name and of the five
-    /// parts, the room, and which call; then the name and the parts.
+    /// parts, the room, which call, and the instance; then the name and the parts.
     fn stored(&self, name: &str) -> Vec<u8> {
         let parts = [
             name.as_bytes(),
@@ -95,7 +98,7 @@ impl Case {
             &self.seal,
         ];
         let mut head: Vec<usize> = parts.iter().map(|part| part.len()).collect();
-        head.extend([self.room, self.call as usize]);
+        head.extend([self.room, self.call as usize, self.instance]);
         let head: Vec<[u8; 4]> = head.into_iter().map(in_bytes).collect();
         [head.concat(), parts.concat()].concat()
     }

@@ -140,6 +140,7 @@ impl Spoilt {
     fn case_of(&self, seed: usize, line: Vec<u8>) -> Case {
         Case {
             call: Call::Write,
+            instance: 0,
             key: key(self.key),
             nonce: nonce(seed, self.nonce),
             associated: digest(seed, self.digest),

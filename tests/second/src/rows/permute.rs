@@ -9,7 +9,7 @@ use crate::permutation::{permute, unpermute, PERMITTED};
 use crate::substitution::products_agree;
 use crate::text::hex;
 
-const NOT_PERMITTED: [usize; 5] = [0, 28, 31, 64, 73];
+const NOT_PERMITTED: [usize; 5] = [0, 28, 31, 65, 73];
 
 fn same(yes: bool) -> &'static str {
     if yes {
