@@ -2,6 +2,8 @@
 // `kat hash I` for GAGE instance I, `kat aead I` for InGAGE instance I. Thin over the proved calls.
 ghost use Prim.Native.Nat.{_≤_};
 ghost use lib.ListN.{length};
+use cipher::Instance;
+use cipher::Named;
 use digest::DIGEST;
 use digest::Digested;
 use ingage::Sealed;
@@ -14,11 +16,7 @@ const LONGEST_MESSAGE: usize = 1024;
 
 const LONGEST_TEXT: usize = 32;
 
-// The sizes of InGAGE's instance 1 in bytes (document 000, Table 2.1).
-const KEY: usize = 16;
-
-const NONCE: usize = 12;
-
+// The seal of every instance of InGAGE in bytes (document 000, Table 2.1: T).
 const SEAL: usize = 16;
 
 // The longest word that is looked at.
@@ -158,6 +156,7 @@ fn sealed_to(cipher: &[u8], seal: &[u8]) -> bool {
 
 // One entry of an aead file, with a buffer as long as its text.
 fn sealed_entry(
+    instance: usize,
     number: usize,
     key: &[u8],
     nonce: &[u8],
@@ -166,7 +165,7 @@ fn sealed_entry(
     out: &mut [u8],
 ) -> Entry {
     let mut seal = [0u8; SEAL];
-    match ingage::seal(key, nonce, associated, message, out, &mut seal) {
+    match ingage::seal(instance, key, nonce, associated, message, out, &mut seal) {
         Sealed::Done(_) => {
             if !sealed_of(number, key, nonce, message, associated) {
                 return Entry::Unwritten;
@@ -178,29 +177,53 @@ fn sealed_entry(
     }
 }
 
-fn aead_entry(number: usize, key: &[u8], nonce: &[u8], message: &[u8], associated: &[u8]) -> Entry {
+fn aead_entry(
+    instance: usize,
+    number: usize,
+    key: &[u8],
+    nonce: &[u8],
+    message: &[u8],
+    associated: &[u8],
+) -> Entry {
     let mut out = [0u8; LONGEST_TEXT];
     let p = message.len();
     // Never: no text of the file is longer.
     if p > LONGEST_TEXT {
         return Entry::Unknown;
     }
-    sealed_entry(number, key, nonce, message, associated, &mut out[0..p])
+    sealed_entry(instance, number, key, nonce, message, associated, &mut out[0..p])
+}
+
+// One entry: key, nonce, text and associated data are first bytes of the same ones.
+fn counted_entry(instance: usize, z: Instance, bytes: &[u8], p: usize, a: usize) -> Entry
+    requires { ⌜ (p ≤ 32) × (a ≤ 32) × (32 ≤ length (now bytes)) ⌝ }
+{
+    let k = z.key;
+    let n = z.nonce;
+    // Never: key and nonce of every instance are no longer than the longest text.
+    if k > LONGEST_TEXT {
+        return Entry::Unknown;
+    }
+    if n > LONGEST_TEXT {
+        return Entry::Unknown;
+    }
+    aead_entry(
+        instance,
+        p * (LONGEST_TEXT + 1) + a + 1,
+        &bytes[0..k],
+        &bytes[0..n],
+        &bytes[0..p],
+        &bytes[0..a],
+    )
 }
 
 // The entries of one text, over every length of associated data.
-fn aead_text(bytes: &[u8], p: usize) -> Entry
+fn aead_text(instance: usize, z: Instance, bytes: &[u8], p: usize) -> Entry
     requires { ⌜ (p ≤ 32) × (32 ≤ length (now bytes)) ⌝ }
 {
     let mut a = 0;
     while a <= LONGEST_TEXT {
-        match aead_entry(
-            p * (LONGEST_TEXT + 1) + a + 1,
-            &bytes[0..KEY],
-            &bytes[0..NONCE],
-            &bytes[0..p],
-            &bytes[0..a],
-        ) {
+        match counted_entry(instance, z, bytes, p, a) {
             Entry::Written => a += 1,
             Entry::Unwritten => return Entry::Unwritten,
             Entry::Unknown => return Entry::Unknown,
@@ -210,13 +233,13 @@ fn aead_text(bytes: &[u8], p: usize) -> Entry
 }
 
 fn aead(instance: usize) -> Entry {
-    if instance != 1 {
+    let Named::Known(z) = cipher::sizes_of(instance) else {
         return Entry::Unknown;
-    }
+    };
     let bytes = ramp();
     let mut p = 0;
     while p <= LONGEST_TEXT {
-        match aead_text(&bytes, p) {
+        match aead_text(instance, z, &bytes, p) {
             Entry::Written => p += 1,
             Entry::Unwritten => return Entry::Unwritten,
             Entry::Unknown => return Entry::Unknown,
@@ -260,7 +283,7 @@ fn answered(kind: &[u8], instance: usize) {
     } else if lists::compare(kind, b"aead") {
         ended(aead(instance));
     } else {
-        complain(b"usage: kat hash I (1 to 10), kat aead I (1)\n");
+        complain(b"usage: kat hash I (1 to 10), kat aead I (1 to 6)\n");
     }
 }
 

@@ -41,12 +41,12 @@ bodyOf s = sealedBody (asked s) (s .args .nonce .now) (s .args .line .now)
 associated-is : (c : tie.After-put-associated) → c .put-associated .last .1 .0 ≡ associated (start c .args .font .now)
 associated-is c = associated-put (start c .pre) _ _ refl (c .put-associated .ensures .1)
 
-cipher-is : (c : tie.After-seal2) → c .seal2 .last .1 .1 .1 .1 .0 ≡ over (lineOf (start (earlier c)) .text) (replicate longest 0)
+cipher-is : (c : tie.After-seal2) → c .seal2 .last .1 .1 .1 .1 .1 .0 ≡ over (lineOf (start (earlier c)) .text) (replicate longest 0)
 cipher-is c =
     let z = start (earlier c) .pre in
     sealed-text z _ (replicate longest 0) (replicate sealLength 0) (associated-is (earlier c)) (z .line-to) refl _ (c .seal2 .ensures .1 .0)
 
-seal-is : (c : tie.After-seal2) → c .seal2 .last .1 .1 .1 .1 .1 .0 ≡ lineOf (start (earlier c)) .seal
+seal-is : (c : tie.After-seal2) → c .seal2 .last .1 .1 .1 .1 .1 .1 .0 ≡ lineOf (start (earlier c)) .seal
 seal-is c =
     let z = start (earlier c) .pre in
     sealed-seal z _ (replicate longest 0) (replicate sealLength 0) (associated-is (earlier c)) (z .line-to) refl _ (c .seal2 .ensures .1 .1)
