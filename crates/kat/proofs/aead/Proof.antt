@@ -5,10 +5,19 @@ use Rattle.kat.proofs.aead.Statement.{statement}
 use Rattle.kat.proofs.aead.Tie as tie
 
 abbrev Inv-loop : tie.InvT-loop
-Inv-loop instance bytes p₀ p = p ≤ 33
+Inv-loop instance z bytes p₀ p = p ≤ 33
 
 abbrev μ-loop : tie.MeasureT-loop
-μ-loop instance bytes p₀ p = 33 - p
+μ-loop instance z bytes p₀ p = 33 - p
+
+sizes-of-requires : tie.Need-sizes-of-requires Inv-loop μ-loop
+sizes-of-requires c κs = search needs
+
+enum-known-z : tie.Need-enum-known-z Inv-loop μ-loop
+enum-known-z c = search needs
+
+enum-told : tie.Need-enum-told Inv-loop μ-loop
+enum-told c = search needs
 
 returns : tie.Need-returns Inv-loop μ-loop
 returns c = search needs
@@ -25,8 +34,8 @@ slice-aggregate-aead-text c = search needs
 aead-text-requires : tie.Need-aead-text-requires Inv-loop μ-loop
 aead-text-requires c κs = search needs
 
-enum-told : tie.Need-enum-told Inv-loop μ-loop
-enum-told c = search needs
+enum-told-2 : tie.Need-enum-told-2 Inv-loop μ-loop
+enum-told-2 c = search needs
 
 add-p : tie.Need-add-p Inv-loop μ-loop
 add-p c = search needs
@@ -37,14 +46,14 @@ loop-less c = search needs
 loop-again : tie.Need-loop-again Inv-loop μ-loop
 loop-again c = search needs
 
-enum-told-2 : tie.Need-enum-told-2 Inv-loop μ-loop
-enum-told-2 c = search needs
+enum-told-3 : tie.Need-enum-told-3 Inv-loop μ-loop
+enum-told-3 c = search needs
 
 returns-2 : tie.Need-returns-2 Inv-loop μ-loop
 returns-2 c = search needs
 
-enum-told-3 : tie.Need-enum-told-3 Inv-loop μ-loop
-enum-told-3 c = search needs
+enum-told-4 : tie.Need-enum-told-4 Inv-loop μ-loop
+enum-told-4 c = search needs
 
 returns-3 : tie.Need-returns-3 Inv-loop μ-loop
 returns-3 c = search needs
@@ -58,17 +67,20 @@ aead-spec =
     (tie.spec
     Inv-loop
     μ-loop
+    sizes-of-requires
+    enum-known-z
+    enum-told
     returns
     ramp-requires
     loop-holds
     slice-aggregate-aead-text
     aead-text-requires
-    enum-told
+    enum-told-2
     add-p
     loop-less
     loop-again
-    enum-told-2
-    returns-2
     enum-told-3
+    returns-2
+    enum-told-4
     returns-3
     returns-4)

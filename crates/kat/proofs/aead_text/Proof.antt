@@ -5,64 +5,16 @@ use Rattle.kat.proofs.aead_text.Statement.{statement}
 use Rattle.kat.proofs.aead_text.Tie as tie
 
 abbrev Inv-loop : tie.InvT-loop
-Inv-loop bytes p a₀ a = a ≤ 33
+Inv-loop instance z bytes p a₀ a = a ≤ 33
 
 abbrev μ-loop : tie.MeasureT-loop
-μ-loop bytes p a₀ a = 33 - a
+μ-loop instance z bytes p a₀ a = 33 - a
 
 loop-holds : tie.Need-loop-holds Inv-loop μ-loop
 loop-holds c = search needs
 
-add-aead-entry : tie.Need-add-aead-entry Inv-loop μ-loop
-add-aead-entry c = search needs
-
-mul-aead-entry : tie.Need-mul-aead-entry Inv-loop μ-loop
-mul-aead-entry c = search needs
-
-add-aead-entry-2 : tie.Need-add-aead-entry-2 Inv-loop μ-loop
-add-aead-entry-2 c = search needs
-
-add-aead-entry-3 : tie.Need-add-aead-entry-3 Inv-loop μ-loop
-add-aead-entry-3 c = search needs
-
-sub-aead-entry : tie.Need-sub-aead-entry Inv-loop μ-loop
-sub-aead-entry c = search needs
-
-part-aead-entry-start : tie.Need-part-aead-entry-start Inv-loop μ-loop
-part-aead-entry-start c = search needs
-
-part-aead-entry-end : tie.Need-part-aead-entry-end Inv-loop μ-loop
-part-aead-entry-end c = search needs
-
-sub-aead-entry-2 : tie.Need-sub-aead-entry-2 Inv-loop μ-loop
-sub-aead-entry-2 c = search needs
-
-part-aead-entry-start-2 : tie.Need-part-aead-entry-start-2 Inv-loop μ-loop
-part-aead-entry-start-2 c = search needs
-
-part-aead-entry-end-2 : tie.Need-part-aead-entry-end-2 Inv-loop μ-loop
-part-aead-entry-end-2 c = search needs
-
-sub-aead-entry-3 : tie.Need-sub-aead-entry-3 Inv-loop μ-loop
-sub-aead-entry-3 c = search needs
-
-part-aead-entry-start-3 : tie.Need-part-aead-entry-start-3 Inv-loop μ-loop
-part-aead-entry-start-3 c = search needs
-
-part-aead-entry-end-3 : tie.Need-part-aead-entry-end-3 Inv-loop μ-loop
-part-aead-entry-end-3 c = search needs
-
-sub-aead-entry-4 : tie.Need-sub-aead-entry-4 Inv-loop μ-loop
-sub-aead-entry-4 c = search needs
-
-part-aead-entry-start-4 : tie.Need-part-aead-entry-start-4 Inv-loop μ-loop
-part-aead-entry-start-4 c = search needs
-
-part-aead-entry-end-4 : tie.Need-part-aead-entry-end-4 Inv-loop μ-loop
-part-aead-entry-end-4 c = search needs
-
-aead-entry-requires : tie.Need-aead-entry-requires Inv-loop μ-loop
-aead-entry-requires c κs = search needs
+counted-entry-requires : tie.Need-counted-entry-requires Inv-loop μ-loop
+counted-entry-requires c κs = search needs
 
 enum-told : tie.Need-enum-told Inv-loop μ-loop
 enum-told c = search needs
@@ -98,23 +50,7 @@ aead-text-spec =
     Inv-loop
     μ-loop
     loop-holds
-    add-aead-entry
-    mul-aead-entry
-    add-aead-entry-2
-    add-aead-entry-3
-    sub-aead-entry
-    part-aead-entry-start
-    part-aead-entry-end
-    sub-aead-entry-2
-    part-aead-entry-start-2
-    part-aead-entry-end-2
-    sub-aead-entry-3
-    part-aead-entry-start-3
-    part-aead-entry-end-3
-    sub-aead-entry-4
-    part-aead-entry-start-4
-    part-aead-entry-end-4
-    aead-entry-requires
+    counted-entry-requires
     enum-told
     add-a
     loop-less
