@@ -166,7 +166,7 @@ static size_t sealed_body(const uint8_t nonce[LUBDHVANI_NONCE], const uint8_t *l
     memcpy(body + FONT_AT, font, LUBDHVANI_DIGEST);
     put_head(body + FIELD_3, 3, n);
     put_head(body + LINE_AT + n, 4, LUBDHVANI_SEAL);
-    must(lubdhvani_seal(key, LUBDHVANI_KEY, nonce, LUBDHVANI_NONCE, body + FIELD_2, ASSOCIATED, line, n, body + LINE_AT, n,
+    must(lubdhvani_seal(1, key, LUBDHVANI_KEY, nonce, LUBDHVANI_NONCE, body + FIELD_2, ASSOCIATED, line, n, body + LINE_AT, n,
                         body + LINE_AT + n + HEAD, LUBDHVANI_SEAL, &calls) == LUBDHVANI_DONE,
          "a line is sealed");
     must(calls == n + CALLS, "the calls of sealing a line");
@@ -393,7 +393,7 @@ static struct judged judge(const uint8_t *stretch, size_t length, const struct t
         return j;
     }
     memcpy(j.nonce, body + NONCE_AT, sizeof j.nonce);
-    j.number = lubdhvani_open(told->key, LUBDHVANI_KEY, body + NONCE_AT, LUBDHVANI_NONCE, body + FIELD_2, ASSOCIATED, body + LINE_AT, line,
+    j.number = lubdhvani_open(1, told->key, LUBDHVANI_KEY, body + NONCE_AT, LUBDHVANI_NONCE, body + FIELD_2, ASSOCIATED, body + LINE_AT, line,
                               body + LINE_AT + line + HEAD, LUBDHVANI_SEAL, j.line, sizeof j.line, &j.calls);
     must(j.number == LUBDHVANI_DONE || j.number == LUBDHVANI_BAD_SEAL, "a ciphertext is opened or its seal is wrong");
     for (size_t i = j.number == LUBDHVANI_DONE ? line : 0; i < sizeof j.line; i++)

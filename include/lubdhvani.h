@@ -36,12 +36,12 @@ extern "C" {
 
 /* Sizes in bytes. */
 enum {
-    LUBDHVANI_LARGEST_STATE = 72,      /* permitted states: 29 30 32 34 36 40 48 68 72 */
+    LUBDHVANI_LARGEST_STATE = 72,      /* permitted states: 29 30 32 34 36 40 48 64 68 72 */
     LUBDHVANI_DIGEST = 32,             /* a digest, and the least room for one */
     LUBDHVANI_LONGEST_INPUT = 65536,   /* a message to digest, and a stream to read */
-    LUBDHVANI_KEY = 16,
+    LUBDHVANI_KEY = 16,                /* key and nonce of cipher instance 1, by which frames are sealed; others' stand at lubdhvani_seal */
     LUBDHVANI_NONCE = 12,
-    LUBDHVANI_SEAL = 16,
+    LUBDHVANI_SEAL = 16,               /* of every cipher instance */
     LUBDHVANI_LONGEST_ASSOCIATED = 1024,
     LUBDHVANI_LONGEST_TEXT = 4096,     /* a message to seal, and a ciphertext to open */
     LUBDHVANI_LONGEST_LINE = 65,       /* a line has 1 to 65 bytes; also the least room for a line */
@@ -50,6 +50,9 @@ enum {
     LUBDHVANI_ALL_WORK = 104,          /* calls of the permutation that are enough for every stretch: those of the longest line */
     LUBDHVANI_LARGEST_BLOCK = 16,      /* the largest rate of a hash instance */
     LUBDHVANI_INSTANCES = 10,          /* hash instances are 1 to 10; fonts are digested with 1 */
+    LUBDHVANI_CIPHERS = 6,             /* cipher instances are 1 to 6; frames are sealed with 1 */
+    LUBDHVANI_LONGEST_KEY = 32,        /* of a cipher instance */
+    LUBDHVANI_LONGEST_NONCE = 16,
     LUBDHVANI_LONGEST_NAME = 32,       /* the name of a bundle has 1 to 32 bytes */
     LUBDHVANI_GLYPHS = 14,             /* 0 to 9, A to D, in this order */
     LUBDHVANI_GLYPH_ROWS = 9,          /* a glyph's rows, of seven dots each; the top bit of a row is zero */
@@ -62,8 +65,8 @@ enum {
 /* Numbers returned. */
 enum {
     LUBDHVANI_DONE = 0,        /* done, or the end of the stream */
-    LUBDHVANI_UNKNOWN = 1,     /* unknown hash instance, state size not permitted, or a record that no feeding gives */
-    LUBDHVANI_SIZES = 2,       /* key, nonce, digest, seal or seal buffer not 16, 12, 32, 16, 16 bytes */
+    LUBDHVANI_UNKNOWN = 1,     /* unknown hash or cipher instance, state size not permitted, or a record that no feeding gives */
+    LUBDHVANI_SIZES = 2,       /* key, nonce, digest, seal or seal buffer not of its size: 16, 12, 32, 16, 16 bytes, or the cipher's */
     LUBDHVANI_TOO_LONG = 3,    /* an input over its limit, or the writer's line not 1 to 65 bytes */
     LUBDHVANI_NO_ROOM = 4,     /* a buffer too small */
     LUBDHVANI_BAD_SEAL = 5,    /* the seal is not the one worked out */
@@ -118,19 +121,23 @@ uint32_t lubdhvani_feed(struct lubdhvani_running *running, const uint8_t *bytes,
  * asked for again. */
 uint32_t lubdhvani_finish(struct lubdhvani_running *running, uint8_t *out, size_t room, size_t *calls);
 
-/* Seals a message. `seal` is the buffer for the seal, of exactly 16 bytes.
- * 0: out[0..message_length] is the ciphertext, seal the seal, *calls = associated_length + message_length + 4.
- * 2, 3 (associated data over 1,024 or message over 4,096), 4 (room under the message's length): out and seal are untouched, *calls
+/* Seals a message with cipher instance 1 to 6. `seal` is the buffer for the seal, of exactly 16 bytes. Key, nonce and rate R in bytes:
+ *   instance   1   2   3   4   5   6
+ *   key       16  16  16  16  32  32
+ *   nonce     12  12  12  16  12  16
+ *   R          1   2   4   8   8   8
+ * 0: out[0..message_length] is the ciphertext, seal the seal, *calls = 4 + associated_length / R + message_length / R, rounded down.
+ * 1, 2, 3 (associated data over 1,024 or message over 4,096), 4 (room under the message's length): out and seal are untouched, *calls
  * is 0. A nonce must never be used twice with one key; none is made here. */
-uint32_t lubdhvani_seal(const uint8_t *key, size_t key_length, const uint8_t *nonce, size_t nonce_length,
+uint32_t lubdhvani_seal(size_t instance, const uint8_t *key, size_t key_length, const uint8_t *nonce, size_t nonce_length,
                         const uint8_t *associated, size_t associated_length, const uint8_t *message, size_t message_length,
                         uint8_t *out, size_t room, uint8_t *seal, size_t seal_length, size_t *calls);
 
-/* Opens a ciphertext. All sixteen bytes of the seal are compared.
- * 0: out[0..cipher_length] is the message, *calls the count. 2, 3, 4 as above: out is untouched, *calls is 0.
+/* Opens a ciphertext with cipher instance 1 to 6. All sixteen bytes of the seal are compared.
+ * 0: out[0..cipher_length] is the message, *calls the count. 1, 2, 3, 4 as above: out is untouched, *calls is 0.
  * 5: out[0..cipher_length] is zero, the rest stays, *calls is the count of the finished work.
  * While the call runs, out[0..cipher_length] holds bytes that are not yet verified: use them only after 0 was returned. */
-uint32_t lubdhvani_open(const uint8_t *key, size_t key_length, const uint8_t *nonce, size_t nonce_length,
+uint32_t lubdhvani_open(size_t instance, const uint8_t *key, size_t key_length, const uint8_t *nonce, size_t nonce_length,
                         const uint8_t *associated, size_t associated_length, const uint8_t *cipher, size_t cipher_length,
                         const uint8_t *seal, size_t seal_length, uint8_t *out, size_t room, size_t *calls);
 

@@ -98,22 +98,49 @@ static void check_seal(void)
     const size_t n = sizeof message;
     size_t calls;
 
-    check(lubdhvani_seal(key, sizeof key, nonce, sizeof nonce, font, sizeof font, message, n, cipher, sizeof cipher, seal,
+    check(lubdhvani_seal(1, key, sizeof key, nonce, sizeof nonce, font, sizeof font, message, n, cipher, sizeof cipher, seal,
                          sizeof seal, &calls) == LUBDHVANI_DONE,
           "a message is sealed");
     check(calls == sizeof font + n + 4, "the calls of sealing");
 
     memset(back, 0xEE, sizeof back);
-    check(lubdhvani_open(key, sizeof key, nonce, sizeof nonce, font, sizeof font, cipher, n, seal, sizeof seal, back, sizeof back,
+    check(lubdhvani_open(1, key, sizeof key, nonce, sizeof nonce, font, sizeof font, cipher, n, seal, sizeof seal, back, sizeof back,
                          &calls) == LUBDHVANI_DONE,
           "it is opened");
     check(memcmp(back, message, n) == 0 && back[n] == 0xEE, "the message comes back, and nothing behind it");
 
     seal[15] ^= 0x01;
-    check(lubdhvani_open(key, sizeof key, nonce, sizeof nonce, font, sizeof font, cipher, n, seal, sizeof seal, back, sizeof back,
+    check(lubdhvani_open(1, key, sizeof key, nonce, sizeof nonce, font, sizeof font, cipher, n, seal, sizeof seal, back, sizeof back,
                          &calls) == LUBDHVANI_BAD_SEAL,
           "a wrong seal is refused");
     check(all_are(0, back, n) && back[n] == 0xEE, "nothing of the message is left, and nothing behind it changed");
+}
+
+/* The cipher instance with the longest key and nonce, and numbers that are none. */
+
+static void check_instances(void)
+{
+    static const uint8_t long_key[LUBDHVANI_LONGEST_KEY] = "another bank's key, thirty-two..";
+    static const uint8_t nonce[LUBDHVANI_LONGEST_NONCE] = "never once more", message[] = "0000012500B";
+    enum { RATE = 8 };
+    uint8_t cipher[sizeof message], seal[LUBDHVANI_SEAL], back[sizeof message];
+    const size_t n = sizeof message;
+    size_t calls;
+
+    check(lubdhvani_seal(LUBDHVANI_CIPHERS, long_key, sizeof long_key, nonce, sizeof nonce, font, sizeof font, message, n, cipher,
+                         sizeof cipher, seal, sizeof seal, &calls) == LUBDHVANI_DONE,
+          "a message is sealed with the last instance");
+    check(calls == 4 + sizeof font / RATE + n / RATE, "the calls of sealing eight bytes at a time");
+    check(lubdhvani_open(LUBDHVANI_CIPHERS, long_key, sizeof long_key, nonce, sizeof nonce, font, sizeof font, cipher, n, seal,
+                         sizeof seal, back, sizeof back, &calls) == LUBDHVANI_DONE,
+          "it is opened with the last instance");
+    check(memcmp(back, message, n) == 0, "its message comes back");
+    check(lubdhvani_open(LUBDHVANI_CIPHERS, key, sizeof key, nonce, sizeof nonce, font, sizeof font, cipher, n, seal, sizeof seal,
+                         back, sizeof back, &calls) == LUBDHVANI_SIZES,
+          "a shorter key is not its key");
+    check(lubdhvani_open(LUBDHVANI_CIPHERS + 1, NULL, 0, NULL, 0, NULL, 0, cipher, n, NULL, 0, NULL, 0, &calls) == LUBDHVANI_UNKNOWN
+              && calls == 0,
+          "there is no instance 7");
 }
 
 /* A line of blanks is not the trade's. */
@@ -357,6 +384,7 @@ int main(void)
     check_digest();
     check_running();
     check_seal();
+    check_instances();
     check_trade();
     check_bundle();
     compose();

@@ -39,12 +39,12 @@ mod lubdhvani {
             calls: *mut usize,
         ) -> u32;
         fn lubdhvani_seal(
-            key: *const u8, key_length: usize, nonce: *const u8, nonce_length: usize,
+            instance: usize, key: *const u8, key_length: usize, nonce: *const u8, nonce_length: usize,
             associated: *const u8, associated_length: usize, message: *const u8, message_length: usize,
             out: *mut u8, room: usize, seal: *mut u8, seal_length: usize, calls: *mut usize,
         ) -> u32;
         fn lubdhvani_open(
-            key: *const u8, key_length: usize, nonce: *const u8, nonce_length: usize,
+            instance: usize, key: *const u8, key_length: usize, nonce: *const u8, nonce_length: usize,
             associated: *const u8, associated_length: usize, cipher: *const u8, cipher_length: usize,
             seal: *const u8, seal_length: usize, out: *mut u8, room: usize, calls: *mut usize,
         ) -> u32;
@@ -102,12 +102,12 @@ mod lubdhvani {
     /// Number and calls.
     #[rustfmt::skip]
     pub fn seal(
-        key: &[u8], nonce: &[u8], associated: &[u8], message: &[u8], out: &mut [u8], seal: &mut [u8],
+        instance: usize, key: &[u8], nonce: &[u8], associated: &[u8], message: &[u8], out: &mut [u8], seal: &mut [u8],
     ) -> (u32, usize) {
         let mut calls = 0;
         let number = unsafe {
             lubdhvani_seal(
-                key.as_ptr(), key.len(), nonce.as_ptr(), nonce.len(),
+                instance, key.as_ptr(), key.len(), nonce.as_ptr(), nonce.len(),
                 associated.as_ptr(), associated.len(), message.as_ptr(), message.len(),
                 out.as_mut_ptr(), out.len(), seal.as_mut_ptr(), seal.len(), &mut calls,
             )
@@ -118,12 +118,12 @@ mod lubdhvani {
     /// Number and calls.
     #[rustfmt::skip]
     pub fn open(
-        key: &[u8], nonce: &[u8], associated: &[u8], cipher: &[u8], seal: &[u8], out: &mut [u8],
+        instance: usize, key: &[u8], nonce: &[u8], associated: &[u8], cipher: &[u8], seal: &[u8], out: &mut [u8],
     ) -> (u32, usize) {
         let mut calls = 0;
         let number = unsafe {
             lubdhvani_open(
-                key.as_ptr(), key.len(), nonce.as_ptr(), nonce.len(),
+                instance, key.as_ptr(), key.len(), nonce.as_ptr(), nonce.len(),
                 associated.as_ptr(), associated.len(), cipher.as_ptr(), cipher.len(),
                 seal.as_ptr(), seal.len(), out.as_mut_ptr(), out.len(), &mut calls,
             )
@@ -324,11 +324,11 @@ impl Checks {
         let nonce: &[u8; NONCE] = b"never again.";
         let message = b"0000012500B";
         let (mut cipher, mut seal) = ([0; 11], [0; SEAL]);
-        let done = lubdhvani::seal(THE_KEY, nonce, font, message, &mut cipher, &mut seal);
+        let done = lubdhvani::seal(1, THE_KEY, nonce, font, message, &mut cipher, &mut seal);
         self.check(done == (DONE, DIGEST + 11 + 4), "a message is sealed");
 
         let mut back = [0xee; 12];
-        let done = lubdhvani::open(THE_KEY, nonce, font, &cipher, &seal, &mut back);
+        let done = lubdhvani::open(1, THE_KEY, nonce, font, &cipher, &seal, &mut back);
         self.check(done == (DONE, DIGEST + 11 + 4), "it is opened");
         self.check(
             back[..11] == *message && back[11] == 0xee,
@@ -336,7 +336,7 @@ impl Checks {
         );
 
         seal[15] ^= 0x01;
-        let refused = lubdhvani::open(THE_KEY, nonce, font, &cipher, &seal, &mut back);
+        let refused = lubdhvani::open(1, THE_KEY, nonce, font, &cipher, &seal, &mut back);
         self.check(
             refused == (BAD_SEAL, DIGEST + 11 + 4),
             "a wrong seal is refused",

@@ -39,12 +39,12 @@ static void feed_text(void) { lubdhvani_feed(&running, text, sizeof text); }
 static void finish(void) { lubdhvani_finish(&running, digest, sizeof digest, &calls); }
 static void seal_text(void)
 {
-    lubdhvani_seal(key, sizeof key, nonce, sizeof nonce, associated, sizeof associated, text, sizeof text, out, sizeof out, seal,
+    lubdhvani_seal(1, key, sizeof key, nonce, sizeof nonce, associated, sizeof associated, text, sizeof text, out, sizeof out, seal,
                    sizeof seal, &calls);
 }
 static void open_text(void)
 {
-    lubdhvani_open(key, sizeof key, nonce, sizeof nonce, associated, sizeof associated, text, sizeof text, seal, sizeof seal, out,
+    lubdhvani_open(1, key, sizeof key, nonce, sizeof nonce, associated, sizeof associated, text, sizeof text, seal, sizeof seal, out,
                    sizeof out, &calls);
 }
 static void write_line(void)

@@ -228,6 +228,6 @@ pub fn calls(z: Instance, assoc: usize, text: usize) -> usize
     requires { ⌜ (1 ≤ z .rate) × (assoc ≤ LONGEST-ASSOCIATED) × (text ≤ LONGEST-TEXT) ⌝ }
     ensures { λ r. ⌜ r ≡ 1 + (assoc / z .rate + 1) + (text / z .rate + 1) + 1 ⌝ }
 {
-    let rate = z.rate;
-    1 + (assoc / rate + 1) + (text / rate + 1) + 1
+    let each = z.rate;
+    1 + (assoc / each + 1) + (text / each + 1) + 1
 }
