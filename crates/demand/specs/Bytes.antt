@@ -59,39 +59,40 @@ module _ {M : Type 1} (𝓤 : URA M) (H : Heap 𝓤) (A : Atoms 𝓤) (W : Given
         use2 W (later (given (Below 256 (now (a .0))) (‵ (ShrSlice (named 0) κ₀ u8 .own (a .0) (vss .0)) ⊛ ‵ (flft κ₀ q₀)))) (slice-bytes (named 0) κ₀ q₀ (a .0) (vss .0)) $ await ! tt $ learn ! (λ b.
         split ! $ at-once ! $ check ! b $ move ! (0 ∷ 2 ∷ []) $ fjoin ! $ move ! (1 ∷ 2 ∷ []) $ join ! $ done !))
 
-  -- key, nonce, associated data, ciphertext and seal that `open` is passed
+  -- key, nonce, associated data, ciphertext and seal that `open` is passed behind the instance
   module _ (κ₀ κ₁ κ₂ κ₃ κ₄ κ₅ : Lft) (q₀ q₁ q₂ q₃ q₄ q₅ : Share) (a : Args opens.signature (κ₀, (κ₁, (κ₂, (κ₃, (κ₄, (κ₅, tt)))))))
       (vss : Vals opens.signature (κ₀, (κ₁, (κ₂, (κ₃, (κ₄, (κ₅, tt))))))) where
     abbrev κs : Lfts 6
     κs = (κ₀, (κ₁, (κ₂, (κ₃, (κ₄, (κ₅, tt))))))
 
     abbrev Passed : Type 0
-    Passed = Bytes (now (a .0)) (now (a .1 .0)) (now (a .1 .1 .0)) (now (a .1 .1 .1 .0)) (now (a .1 .1 .1 .1 .0))
+    Passed = Bytes (now (a .1 .0)) (now (a .1 .1 .0)) (now (a .1 .1 .1 .0)) (now (a .1 .1 .1 .1 .0)) (now (a .1 .1 .1 .1 .1 .0))
 
     pub open-bytes : ent 𝓤 (onEntry 𝓤 H A opens.signature κs (q₀, (q₁, (q₂, (q₃, (q₄, (q₅, tt)))))) a vss)
         (H .⇛ (guard 𝓤 Passed (onEntry 𝓤 H A opens.signature κs (q₀, (q₁, (q₂, (q₃, (q₄, (q₅, tt)))))) a vss)))
     open-bytes =
         qed W ((‵ (flft κ₀ q₀) ⊛ ‵ (flft κ₁ q₁) ⊛ ‵ (flft κ₂ q₂) ⊛ ‵ (flft κ₃ q₃) ⊛ ‵ (flft κ₄ q₄) ⊛ ‵ (flft κ₅ q₅) ⊛ ‵ ftrue)
-        ∷ ‵ (owns (ShrSlice (named 0) κ₀ u8 ∷ ShrSlice (named 1) κ₁ u8 ∷ ShrSlice (named 2) κ₂ u8 ∷ ShrSlice (named 3) κ₃ u8 ∷ ShrSlice (named 4) κ₄ u8 ∷ MutSlice (named 5) κ₅ u8 ∷ []) a vss) ∷ [])
+        ∷ ‵ (owns (usize ∷ ShrSlice (named 0) κ₀ u8 ∷ ShrSlice (named 1) κ₁ u8 ∷ ShrSlice (named 2) κ₂ u8 ∷ ShrSlice (named 3) κ₃ u8 ∷ ShrSlice (named 4) κ₄ u8 ∷ MutSlice (named 5) κ₅ u8 ∷ []) a vss) ∷ [])
         {P = H .⇛ (guard 𝓤 Passed (onEntry 𝓤 H A opens.signature κs (q₀, (q₁, (q₂, (q₃, (q₄, (q₅, tt)))))) a vss))} (
         updating ! $ split ! $ move ! (1 ∷ []) $ split ! $ move ! (1 ∷ []) $ split ! $ move ! (1 ∷ []) $ split ! $ move ! (1 ∷ []) $ split ! $
-        -- [4's token; 5's; 3's; 2's; 1's; 0's; what the parameters own], and then each `&[u8]` with its token
-        move ! (6 ∷ []) $ fsplit ! $ move ! (0 ∷ 7 ∷ []) $
-        use2 W (later (given (Below 256 (now (a .0))) (‵ (ShrSlice (named 0) κ₀ u8 .own (a .0) (vss .0)) ⊛ ‵ (flft κ₀ q₀)))) (slice-bytes (named 0) κ₀ q₀ (a .0) (vss .0)) $ await ! tt $ learn ! (λ b₀. split ! $
+        -- [4's token; 5's; 3's; 2's; 1's; 0's; what the parameters own]: the instance goes last and stays there, and then each `&[u8]` with its token
+        move ! (6 ∷ []) $ fsplit ! $ move ! (1 ∷ 2 ∷ 3 ∷ 4 ∷ 5 ∷ 6 ∷ 7 ∷ []) $ fsplit ! $ move ! (0 ∷ 7 ∷ []) $
+        use2 W (later (given (Below 256 (now (a .1 .0))) (‵ (ShrSlice (named 0) κ₀ u8 .own (a .1 .0) (vss .1 .0)) ⊛ ‵ (flft κ₀ q₀)))) (slice-bytes (named 0) κ₀ q₀ (a .1 .0) (vss .1 .0)) $ await ! tt $ learn ! (λ b₀. split ! $
         -- [0; its token; what the others own; 4's; 5's; 3's; 2's; 1's]
         move ! (2 ∷ []) $ fsplit ! $ move ! (0 ∷ 8 ∷ []) $
-        use2 W (later (given (Below 256 (now (a .1 .0))) (‵ (ShrSlice (named 1) κ₁ u8 .own (a .1 .0) (vss .1 .0)) ⊛ ‵ (flft κ₁ q₁)))) (slice-bytes (named 1) κ₁ q₁ (a .1 .0) (vss .1 .0)) $ await ! tt $ learn ! (λ b₁. split ! $
+        use2 W (later (given (Below 256 (now (a .1 .1 .0))) (‵ (ShrSlice (named 1) κ₁ u8 .own (a .1 .1 .0) (vss .1 .1 .0)) ⊛ ‵ (flft κ₁ q₁)))) (slice-bytes (named 1) κ₁ q₁ (a .1 .1 .0) (vss .1 .1 .0)) $ await ! tt $ learn ! (λ b₁. split ! $
         -- [1; its token; what the others own; 0; its token; 4's; 5's; 3's; 2's]
         move ! (2 ∷ []) $ fsplit ! $ move ! (0 ∷ 9 ∷ []) $
-        use2 W (later (given (Below 256 (now (a .1 .1 .0))) (‵ (ShrSlice (named 2) κ₂ u8 .own (a .1 .1 .0) (vss .1 .1 .0)) ⊛ ‵ (flft κ₂ q₂)))) (slice-bytes (named 2) κ₂ q₂ (a .1 .1 .0) (vss .1 .1 .0)) $ await ! tt $ learn ! (λ b₂. split ! $
+        use2 W (later (given (Below 256 (now (a .1 .1 .1 .0))) (‵ (ShrSlice (named 2) κ₂ u8 .own (a .1 .1 .1 .0) (vss .1 .1 .1 .0)) ⊛ ‵ (flft κ₂ q₂)))) (slice-bytes (named 2) κ₂ q₂ (a .1 .1 .1 .0) (vss .1 .1 .1 .0)) $ await ! tt $ learn ! (λ b₂. split ! $
         -- [2; its token; what the others own; 1; its token; 0; its token; 4's; 5's; 3's]
         move ! (2 ∷ []) $ fsplit ! $ move ! (0 ∷ 10 ∷ []) $
-        use2 W (later (given (Below 256 (now (a .1 .1 .1 .0))) (‵ (ShrSlice (named 3) κ₃ u8 .own (a .1 .1 .1 .0) (vss .1 .1 .1 .0)) ⊛ ‵ (flft κ₃ q₃)))) (slice-bytes (named 3) κ₃ q₃ (a .1 .1 .1 .0) (vss .1 .1 .1 .0)) $ await ! tt $ learn ! (λ b₃. split ! $
+        use2 W (later (given (Below 256 (now (a .1 .1 .1 .1 .0))) (‵ (ShrSlice (named 3) κ₃ u8 .own (a .1 .1 .1 .1 .0) (vss .1 .1 .1 .1 .0)) ⊛ ‵ (flft κ₃ q₃)))) (slice-bytes (named 3) κ₃ q₃ (a .1 .1 .1 .1 .0) (vss .1 .1 .1 .1 .0)) $ await ! tt $ learn ! (λ b₃. split ! $
         -- [3; its token; what the others own; 2; its token; 1; its token; 0; its token; 4's; 5's]
         move ! (2 ∷ []) $ fsplit ! $ move ! (0 ∷ 10 ∷ []) $
-        use2 W (later (given (Below 256 (now (a .1 .1 .1 .1 .0))) (‵ (ShrSlice (named 4) κ₄ u8 .own (a .1 .1 .1 .1 .0) (vss .1 .1 .1 .1 .0)) ⊛ ‵ (flft κ₄ q₄)))) (slice-bytes (named 4) κ₄ q₄ (a .1 .1 .1 .1 .0) (vss .1 .1 .1 .1 .0)) $ await ! tt $ learn ! (λ b₄. split ! $
+        use2 W (later (given (Below 256 (now (a .1 .1 .1 .1 .1 .0))) (‵ (ShrSlice (named 4) κ₄ u8 .own (a .1 .1 .1 .1 .1 .0) (vss .1 .1 .1 .1 .1 .0)) ⊛ ‵ (flft κ₄ q₄)))) (slice-bytes (named 4) κ₄ q₄ (a .1 .1 .1 .1 .1 .0) (vss .1 .1 .1 .1 .1 .0)) $ await ! tt $ learn ! (λ b₄. split ! $
         -- [4; its token; what the last owns; 3; its token; 2; its token; 1; its token; 0; its token; 5's]: all as it was
         at-once ! $ check ! (record { key-bytes = b₀; nonce-bytes = b₁; associated-bytes = b₂; cipher-bytes = b₃; seal-bytes = b₄ }) $
         move ! (0 ∷ 2 ∷ []) $ fjoin ! $ move ! (2 ∷ 0 ∷ []) $ fjoin ! $ move ! (3 ∷ 0 ∷ []) $ fjoin ! $ move ! (4 ∷ 0 ∷ []) $ fjoin ! $ move ! (5 ∷ 0 ∷ []) $ fjoin ! $
-        -- [what the parameters own; 4's; 3's; 2's; 1's; 0's; 5's]
+        -- [what the slices own; 4's; 3's; 2's; 1's; 0's; 5's; the instance], and then [what the parameters own; 4's; 3's; 2's; 1's; 0's; 5's]
+        move ! (7 ∷ 0 ∷ []) $ fjoin ! $
         move ! (1 ∷ 6 ∷ []) $ join ! $ move ! (2 ∷ 0 ∷ []) $ join ! $ move ! (2 ∷ 0 ∷ []) $ join ! $ move ! (2 ∷ 0 ∷ []) $ join ! $ move ! (2 ∷ 0 ∷ []) $ join ! $ done !))))))
