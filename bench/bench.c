@@ -19,22 +19,25 @@ enum { LEAST = 2, REPEATS = 1000, MARK = 0x7E, SMALLEST_STATE = 29, FONT_FIELD =
 static const double REPEAT = 3e5, LONGEST = 4e9;
 
 static uint8_t message[LUBDHVANI_LONGEST_INPUT], out[LUBDHVANI_LONGEST_INPUT], stream[LUBDHVANI_LONGEST_INPUT];
-static uint8_t key[LUBDHVANI_KEY], nonce[LUBDHVANI_NONCE], font[LUBDHVANI_DIGEST], seal[LUBDHVANI_SEAL], line[LUBDHVANI_LONGEST_LINE];
+static uint8_t key[LUBDHVANI_LONGEST_KEY], nonce[LUBDHVANI_LONGEST_NONCE], font[LUBDHVANI_DIGEST], seal[LUBDHVANI_SEAL], line[LUBDHVANI_LONGEST_LINE];
 static size_t calls, stream_length, digested = sizeof message;
 
 typedef void permutes(uint8_t *, size_t);
 typedef void digests(unsigned, const uint8_t *, size_t, uint8_t *);
-typedef void seals(const uint8_t[16], const uint8_t[12], const uint8_t *, size_t, const uint8_t *, size_t, uint8_t *, uint8_t[16]);
+typedef void seals(unsigned, const uint8_t *, const uint8_t *, const uint8_t *, size_t, const uint8_t *, size_t, uint8_t *, uint8_t[16]);
+
+/* Key and nonce of the cipher's instances in bytes. */
+static const size_t key_of[LUBDHVANI_CIPHERS] = {16, 16, 16, 16, 32, 32}, nonce_of[LUBDHVANI_CIPHERS] = {12, 12, 12, 16, 12, 16};
 
 static void ours_permute(uint8_t *s, size_t n) { lubdhvani_permute(s, n); }
 static void ours_digest(unsigned instance, const uint8_t *m, size_t length, uint8_t *to)
 {
     lubdhvani_digest(instance, m, length, to, LUBDHVANI_DIGEST, &calls);
 }
-static void ours_seal(const uint8_t k[16], const uint8_t n[12], const uint8_t *a, size_t alen, const uint8_t *m, size_t mlen, uint8_t *to,
-                      uint8_t t[16])
+static void ours_seal(unsigned i, const uint8_t *k, const uint8_t *n, const uint8_t *a, size_t alen, const uint8_t *m, size_t mlen,
+                      uint8_t *to, uint8_t t[16])
 {
-    lubdhvani_seal(k, LUBDHVANI_KEY, n, LUBDHVANI_NONCE, a, alen, m, mlen, to, mlen, t, LUBDHVANI_SEAL, &calls);
+    lubdhvani_seal(i, k, key_of[i - 1], n, nonce_of[i - 1], a, alen, m, mlen, to, mlen, t, LUBDHVANI_SEAL, &calls);
 }
 
 static permutes *const permute_by[VERSIONS] = {ours_permute, plain_sse2_permute, plain_bits_permute, plain_wrap_permute, plain_mod_permute};
@@ -47,20 +50,30 @@ static void permute(int who, size_t size)
     permute_by[who](state, size);
 }
 static void digest(int who, unsigned instance) { digest_by[who](instance, message, digested, out); }
-static void seal_text(int who, size_t length) { seal_by[who](key, nonce, message, FONT_FIELD, message, length, out, seal); }
+static void seal_text(int who, unsigned instance, size_t length)
+{
+    seal_by[who](instance, key, nonce, message, FONT_FIELD, message, length, out, seal);
+}
 
 static void permute_smallest(int who) { permute(who, SMALLEST_STATE); }
 static void permute_largest(int who) { permute(who, LUBDHVANI_LARGEST_STATE); }
 static void digest_1(int who) { digest(who, 1); }
 static void digest_8(int who) { digest(who, 8); }
-static void seal_line(int who) { seal_text(who, LUBDHVANI_LONGEST_LINE); }
-static void seal_longest(int who) { seal_text(who, LUBDHVANI_LONGEST_TEXT); }
+static void seal_line(int who) { seal_text(who, 1, LUBDHVANI_LONGEST_LINE); }
+static void seal_longest_1(int who) { seal_text(who, 1, LUBDHVANI_LONGEST_TEXT); }
+static void seal_longest_2(int who) { seal_text(who, 2, LUBDHVANI_LONGEST_TEXT); }
+static void seal_longest_3(int who) { seal_text(who, 3, LUBDHVANI_LONGEST_TEXT); }
+static void seal_longest_4(int who) { seal_text(who, 4, LUBDHVANI_LONGEST_TEXT); }
+static void seal_longest_5(int who) { seal_text(who, 5, LUBDHVANI_LONGEST_TEXT); }
+static void seal_longest_6(int who) { seal_text(who, 6, LUBDHVANI_LONGEST_TEXT); }
 
 static const struct {
     const char *name;
     void (*run)(int who);
 } work[] = {{"permute-29", permute_smallest}, {"permute-72", permute_largest}, {"digest-1", digest_1},
-            {"digest-8", digest_8},           {"seal-65", seal_line},          {"seal-4096", seal_longest}};
+            {"digest-8", digest_8},           {"seal-65", seal_line},          {"seal-4096-1", seal_longest_1},
+            {"seal-4096-2", seal_longest_2},  {"seal-4096-3", seal_longest_3}, {"seal-4096-4", seal_longest_4},
+            {"seal-4096-5", seal_longest_5},  {"seal-4096-6", seal_longest_6}};
 enum { WORKS = sizeof work / sizeof work[0] };
 
 static double now(void)
@@ -119,7 +132,7 @@ static void fill_frames(size_t length, enum kind kind)
     for (unsigned k = 0; at < length; k++) {
         nonce[0] = (uint8_t)k;
         nonce[1] = (uint8_t)(k >> 8);
-        lubdhvani_write(key, sizeof key, nonce, sizeof nonce, font, sizeof font, (const uint8_t *)order, sizeof order - 1, frame,
+        lubdhvani_write(key, LUBDHVANI_KEY, nonce, LUBDHVANI_NONCE, font, sizeof font, (const uint8_t *)order, sizeof order - 1, frame,
                         sizeof frame, &n, &calls);
         if (kind == DAMAGED)
             frame[n / 2] ^= 0x01;
@@ -134,7 +147,7 @@ static void read_all(int who)
     struct lubdhvani_reading reading = {0};
     (void)who;
     do
-        reading = lubdhvani_read(stream, stream_length, reading.closing, key, sizeof key, font, sizeof font, everything, line, sizeof line);
+        reading = lubdhvani_read(stream, stream_length, reading.closing, key, LUBDHVANI_KEY, font, sizeof font, everything, line, sizeof line);
     while (reading.first < stream_length);
 }
 

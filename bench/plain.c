@@ -6,6 +6,9 @@
 
 static const uint16_t instance[10][2] = {{232, 8},  {240, 16}, {256, 32},  {288, 64}, {272, 16},
                                          {288, 32}, {320, 64}, {384, 128}, {544, 32}, {576, 64}};
+/* Key, nonce, state and rate of the cipher's instances, in bits. */
+static const uint16_t cipher[6][4] = {{128, 96, 232, 8},  {128, 96, 240, 16}, {128, 96, 256, 32},
+                                      {128, 128, 320, 64}, {256, 96, 512, 64}, {256, 128, 512, 64}};
 
 #ifdef PLAIN_SSE2
 #include "sse2.h"
@@ -93,29 +96,41 @@ void PLAIN(digest)(unsigned number, const uint8_t *m, size_t length, uint8_t *ou
     }
 }
 
-void PLAIN(seal)(const uint8_t key[16], const uint8_t nonce[12], const uint8_t *a, size_t alen, const uint8_t *m, size_t mlen,
-                 uint8_t *out, uint8_t seal[16])
+static void mix(uint8_t *s, const uint8_t *b, size_t length)
 {
+    for (size_t i = 0; i < length; i++)
+        s[i] ^= b[i];
+}
+
+void PLAIN(seal)(unsigned number, const uint8_t *key, const uint8_t *nonce, const uint8_t *a, size_t alen, const uint8_t *m,
+                 size_t mlen, uint8_t *out, uint8_t seal[16])
+{
+    const uint16_t *row = cipher[number - 1];
+    size_t k = row[0] / 8, l = row[1] / 8, n = row[2] / 8, R = row[3] / 8;
     uint8_t s[72] = {0};
-    memcpy(s, nonce, 12);
-    memcpy(s + 12, key, 16);
-    rounds(s, 29, 32);
-    for (size_t i = 0; i < 16; i++)
-        s[12 + i] ^= key[i];
-    for (size_t i = 0; i < alen; i++) {
-        s[0] ^= a[i];
-        rounds(s, 29, 16);
+    memcpy(s, nonce, l);
+    memcpy(s + l, key, k);
+    rounds(s, n, 32);
+    mix(s + l, key, k);
+    for (; alen >= R; a += R, alen -= R) {
+        mix(s, a, R);
+        rounds(s, n, 16);
     }
-    s[0] ^= 0x81;
-    rounds(s, 29, 16);
-    s[28] ^= 0x01;
-    for (size_t i = 0; i < mlen; i++) {
-        out[i] = s[0] ^= m[i];
-        rounds(s, 29, 16);
+    mix(s, a, alen);
+    s[alen] ^= 0x80;
+    s[R - 1] ^= 0x01;
+    rounds(s, n, 16);
+    s[n - 1] ^= 0x01;
+    for (; mlen >= R; m += R, out += R, mlen -= R) {
+        mix(s, m, R);
+        memcpy(out, s, R);
+        rounds(s, n, 16);
     }
-    s[0] ^= 0x80;
-    rounds(s, 29, 16);
-    s[28] ^= 0x02;
-    rounds(s, 29, 32);
-    memcpy(seal, s + 1, 16);
+    mix(s, m, mlen);
+    memcpy(out, s, mlen);
+    s[mlen] ^= 0x80;
+    rounds(s, n, 16);
+    s[n - 1] ^= 0x02;
+    rounds(s, n, 32);
+    memcpy(seal, s + R, 16);
 }
