@@ -191,7 +191,15 @@ fn aead_entry(
     if p > LONGEST_TEXT {
         return Entry::Unknown;
     }
-    sealed_entry(instance, number, key, nonce, message, associated, &mut out[0..p])
+    sealed_entry(
+        instance,
+        number,
+        key,
+        nonce,
+        message,
+        associated,
+        &mut out[0..p],
+    )
 }
 
 // One entry: key, nonce, text and associated data are first bytes of the same ones.
