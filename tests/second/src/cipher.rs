@@ -277,54 +277,35 @@ mod tests {
         [ramp(k, 7), ramp(n, 5), ramp(a, 3), ramp(p, 11)]
     }
 
+    /// Seals a bytes of associated data and p of message, opens them, and opens
+    /// them with a seal of which one bit is changed.
+    fn there_and_back(instance: usize, a: usize, p: usize) {
+        let its = sizes(instance).unwrap();
+        let [key, nonce, assoc, message] = ramps([its.key, its.nonce, a, p]);
+        let count = 1 + (a / its.rate + 1) + (p / its.rate + 1) + 1;
+        let (mut out, mut back) = (vec![0xee; p + 3], vec![0xee; p + 3]);
+        let mut tag = vec![0; its.seal];
+        let sealed = seal(instance, &key, &nonce, &assoc, &message, &mut out, &mut tag);
+        assert_eq!(sealed, Counted::done(count));
+        assert_eq!(out[p..], [0xee; 3]);
+        let opened = open(instance, &key, &nonce, &assoc, &out[..p], &tag, &mut back);
+        assert_eq!(opened, Counted::done(count));
+        assert_eq!(back[..p], message[..]);
+        assert_eq!(back[p..], [0xee; 3]);
+        tag[15] ^= 0x80;
+        let refused = open(instance, &key, &nonce, &assoc, &out[..p], &tag, &mut back);
+        assert_eq!((refused.number, refused.count), (WRONG_SEAL, count));
+        assert_eq!(back[..p], vec![0; p][..]);
+        assert_eq!(back[p..], [0xee; 3]);
+    }
+
     #[test]
     fn opening_gives_back_what_was_sealed_and_the_count_is_the_formula() {
         for instance in instances() {
-            let its = sizes(instance).unwrap();
-            for a in [0, 1, its.rate, 35] {
-                for p in [0, 1, its.rate, 2 * its.rate - 1, 65] {
-                    let [key, nonce, associated, message] = ramps([its.key, its.nonce, a, p]);
-                    let count = 1 + (a / its.rate + 1) + (p / its.rate + 1) + 1;
-                    let mut out = vec![0xee; p + 3];
-                    let mut its_seal = vec![0; its.seal];
-                    let answer = seal(
-                        instance,
-                        &key,
-                        &nonce,
-                        &associated,
-                        &message,
-                        &mut out,
-                        &mut its_seal,
-                    );
-                    assert_eq!(answer, Counted::done(count));
-                    assert_eq!(out[p..], [0xee; 3]);
-                    let mut back = vec![0xee; p + 3];
-                    let answer = open(
-                        instance,
-                        &key,
-                        &nonce,
-                        &associated,
-                        &out[..p],
-                        &its_seal,
-                        &mut back,
-                    );
-                    assert_eq!(answer, Counted::done(count));
-                    assert_eq!(back[..p], message[..]);
-                    assert_eq!(back[p..], [0xee; 3]);
-                    its_seal[15] ^= 0x80;
-                    let answer = open(
-                        instance,
-                        &key,
-                        &nonce,
-                        &associated,
-                        &out[..p],
-                        &its_seal,
-                        &mut back,
-                    );
-                    assert_eq!(answer.number, WRONG_SEAL);
-                    assert_eq!(answer.count, count);
-                    assert_eq!(back[..p], vec![0; p][..]);
-                    assert_eq!(back[p..], [0xee; 3]);
+            let rate = sizes(instance).unwrap().rate;
+            for a in [0, 1, rate, 35] {
+                for p in [0, 1, rate, 2 * rate - 1, 65] {
+                    there_and_back(instance, a, p);
                 }
             }
         }
