@@ -33,7 +33,7 @@ static void given(const char *what, size_t which, uint8_t *bytes, size_t n)
 
 static void permutations(void)
 {
-    static const size_t size[] = {29, 30, 32, 34, 36, 40, 48, 68, 72};
+    static const size_t size[] = {29, 30, 32, 34, 36, 40, 48, 64, 68, 72};
     uint8_t state[LUBDHVANI_LARGEST_STATE] = {0};
     for (size_t i = 0; i < sizeof size / sizeof size[0]; i++) {
         secret(state, size[i]);
@@ -56,23 +56,28 @@ static void digests(void)
     }
 }
 
+/* Key and nonce of the cipher's instances in bytes. */
+static const size_t key_of[LUBDHVANI_CIPHERS] = {16, 16, 16, 16, 32, 32}, nonce_of[LUBDHVANI_CIPHERS] = {12, 12, 12, 16, 12, 16};
+
 static void seals(void)
 {
-    uint8_t key[LUBDHVANI_KEY] = {0}, nonce[LUBDHVANI_NONCE] = {0}, associated[ASSOCIATED] = {0}, message[MESSAGE] = {0};
+    uint8_t key[LUBDHVANI_LONGEST_KEY] = {0}, nonce[LUBDHVANI_LONGEST_NONCE] = {0}, associated[ASSOCIATED] = {0}, message[MESSAGE] = {0};
     uint8_t out[MESSAGE], seal[LUBDHVANI_SEAL];
     size_t calls;
-    secret(key, sizeof key);
-    secret(message, sizeof message);
-    failed |= lubdhvani_seal(key, sizeof key, nonce, sizeof nonce, associated, sizeof associated, message, sizeof message, out, sizeof out, seal,
-                             sizeof seal, &calls)
-              != LUBDHVANI_DONE;
-    given("seal", 1, out, sizeof out);
-    given("seal", 2, seal, sizeof seal);
+    for (size_t i = 1; i <= LUBDHVANI_CIPHERS; i++) {
+        secret(key, sizeof key);
+        secret(message, sizeof message);
+        failed |= lubdhvani_seal(i, key, key_of[i - 1], nonce, nonce_of[i - 1], associated, sizeof associated, message, sizeof message, out,
+                                 sizeof out, seal, sizeof seal, &calls)
+                  != LUBDHVANI_DONE;
+        given("ciphertext, instance", i, out, sizeof out);
+        given("seal, instance", i, seal, sizeof seal);
+    }
 }
 
 static void writes(void)
 {
-    static const uint8_t line[LINE + 1] = "A12345 678C 0000125B";
+    static const uint8_t line[LINE + 1] = "012345 678C 0000125B";
     uint8_t key[LUBDHVANI_KEY] = {0}, nonce[LUBDHVANI_NONCE] = {0}, font[LUBDHVANI_DIGEST] = {0}, frame[LUBDHVANI_FRAME] = {0};
     size_t length, calls;
     secret(key, sizeof key);

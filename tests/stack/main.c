@@ -25,6 +25,7 @@ static uint8_t key[LUBDHVANI_KEY], nonce[LUBDHVANI_NONCE], font[LUBDHVANI_DIGEST
 static uint8_t state[LUBDHVANI_LARGEST_STATE], digest[LUBDHVANI_DIGEST], line[LUBDHVANI_LONGEST_LINE];
 static uint8_t text[LUBDHVANI_LONGEST_TEXT], out[LUBDHVANI_LONGEST_TEXT], associated[LUBDHVANI_LONGEST_ASSOCIATED];
 static uint8_t frame[LUBDHVANI_FRAME], stretch[LUBDHVANI_LONGEST_STRETCH + 2];
+static uint8_t name[LUBDHVANI_LONGEST_NAME], rows[LUBDHVANI_BUNDLE_ROWS], bundle[LUBDHVANI_BUNDLE];
 static size_t calls, length, first, closing;
 static struct lubdhvani_running running;
 static const struct lubdhvani_asked everything = {.allowed = LUBDHVANI_ALL_WORK};
@@ -51,6 +52,10 @@ static void write_line(void)
 {
     lubdhvani_write(key, sizeof key, nonce, sizeof nonce, font, sizeof font, line, sizeof line, frame, sizeof frame, &length, &calls);
 }
+static void bundle_write(void) { lubdhvani_bundle_write(name, sizeof name, rows, sizeof rows, bundle, sizeof bundle, &length); }
+static void bundle_read(void) { lubdhvani_bundle_read(bundle, length, &calls); }
+static void bundle_digest(void) { lubdhvani_bundle_digest(bundle, length, digest, sizeof digest); }
+static void bundle_rows(void) { lubdhvani_bundle_rows(bundle, length, '7', &first, &closing); }
 static void next_stretch(void) { lubdhvani_next_stretch(stretch, sizeof stretch, 0, &first, &closing); }
 static void read_frame(void)
 {
@@ -79,6 +84,17 @@ static void a_line(void)
 {
     fill(line, sizeof line, '7');
 }
+/* Rows in which no two glyphs are alike, and the bundle of them. */
+static void glyphs(void)
+{
+    for (size_t i = 0; i < sizeof rows; i++)
+        ((volatile uint8_t *)rows)[i] = (uint8_t)i;
+}
+static void a_bundle(void)
+{
+    glyphs();
+    bundle_write();
+}
 /* A frame of the longest line. Writing it binds memcpy, so a call that reads it is measured without the binding. */
 static void a_frame(void)
 {
@@ -105,6 +121,10 @@ static const struct {
     {"open", nothing, open_text, LUBDHVANI_STACK_BUT_READ},
     {"write", a_line, write_line, LUBDHVANI_STACK_BUT_READ},
     {"next_stretch", plain, next_stretch, LUBDHVANI_STACK_BUT_READ},
+    {"bundle_write", glyphs, bundle_write, LUBDHVANI_STACK_BUT_READ},
+    {"bundle_read", a_bundle, bundle_read, LUBDHVANI_STACK_BUT_READ},
+    {"bundle_digest", a_bundle, bundle_digest, LUBDHVANI_STACK_BUT_READ},
+    {"bundle_rows", a_bundle, bundle_rows, LUBDHVANI_STACK_BUT_READ},
     {"read, a line", a_frame, read_frame, LUBDHVANI_STACK},
     {"read, longest stretch, plain", plain, read_stretch, LUBDHVANI_STACK},
     {"read, longest stretch, escapes", escapes, read_stretch, LUBDHVANI_STACK},
