@@ -47,7 +47,8 @@ static inline void pass(const uint8_t *from, uint8_t *to, size_t words, uint8_t 
     }
 }
 
-static void rounds(uint8_t *s, size_t n, unsigned k)
+/* Not taken apart for the cipher's one size, which made it slower. */
+__attribute__((noipa)) static void rounds(uint8_t *s, size_t n, unsigned k)
 {
     uint8_t room[2][ROOM], *from = room[0], *to = room[1], *other;
     size_t words = (n + WORD - 1) / WORD;
