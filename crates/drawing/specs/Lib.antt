@@ -4,3 +4,4 @@ pub mod Listed
 pub mod Showing
 pub mod Making
 pub mod Drawn
+pub mod RoundTrip
