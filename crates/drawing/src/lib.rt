@@ -42,8 +42,9 @@ const LINE: usize = 10;
 
 const WEIGHTS: [u8; LINE] = [1, 1, 64, 32, 16, 8, 4, 2, 1, 1];
 
-// What a drawing has beside three bytes for each of its name; and the longest drawing, which is the least room for one.
-const BESIDE_NAME: usize = 1267;
+// What a drawing has beside three bytes for each of its name: the word, a blank and a newline, and a line for each row; and the longest drawing,
+// which is the least room for one.
+const BESIDE_NAME: usize = WORD + 2 + ROWS * LINE;
 
 pub const LONGEST_DRAWING: usize = BESIDE_NAME + 3 * LONGEST_NAME;
 
