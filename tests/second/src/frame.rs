@@ -1,12 +1,13 @@
-//! A frame: four fields make a body, the stuffed body between two marks makes
-//! the frame. Here are the fields taken apart, and the writer.
+//! A frame: four fields make a body, five in edition two, and the stuffed body
+//! between two marks makes the frame. Here are the fields taken apart, and the
+//! writer of each edition.
 
 use crate::chance::Chance;
 use crate::cipher::{encrypt, INSTANCE_1};
 use crate::line;
 use crate::numbers::{
-    DIGEST, DONE, FRAME_ROOM, KEY, LINE_LEAST, LINE_MOST, NONCE, NOT_ITS_SIZE, NO_ROOM, SEAL,
-    TOO_LONG,
+    DIGEST, DONE, FRAME_ROOM, FRAME_ROOM_2, JOB, KEY, LINE_LEAST, LINE_MOST, NONCE, NOT_ITS_SIZE,
+    NO_ROOM, SEAL, TOO_LONG,
 };
 use crate::readings::PRODUCT;
 use crate::stuffing::{stuff, ESCAPE, MARK};
@@ -15,17 +16,72 @@ pub const TAG_NONCE: u8 = 0x01;
 pub const TAG_DIGEST: u8 = 0x02;
 pub const TAG_LINE: u8 = 0x03;
 pub const TAG_SEAL: u8 = 0x04;
+pub const TAG_JOB: u8 = 0x05;
 
-/// The values of a body's four fields.
+/// A job stands between digest and line in edition two, and nowhere in edition
+/// one.
+#[derive(Clone, Copy, Debug, PartialEq, Eq)]
+pub enum Edition {
+    One,
+    Two,
+}
+
+impl Edition {
+    pub fn number(self) -> u8 {
+        match self {
+            Edition::One => 1,
+            Edition::Two => 2,
+        }
+    }
+
+    pub fn other(self) -> Edition {
+        match self {
+            Edition::One => Edition::Two,
+            Edition::Two => Edition::One,
+        }
+    }
+
+    /// What a frame's buffer must have.
+    pub fn frame_room(self) -> usize {
+        match self {
+            Edition::One => FRAME_ROOM,
+            Edition::Two => FRAME_ROOM_2,
+        }
+    }
+}
+
+/// What is each frame's own. With a job the frame is of edition two.
+#[derive(Clone, Copy)]
+pub struct Own<'a> {
+    pub nonce: &'a [u8],
+    pub job: Option<&'a [u8]>,
+}
+
+impl Own<'_> {
+    pub fn edition(&self) -> Edition {
+        match self.job {
+            None => Edition::One,
+            Some(_) => Edition::Two,
+        }
+    }
+
+    /// Whether nonce and job have their sizes; of edition one no job is looked at.
+    pub fn sized(&self) -> bool {
+        self.nonce.len() == NONCE && self.job.map_or(true, |job| job.len() == JOB)
+    }
+}
+
+/// The values of a body's fields: four, and in edition two the job.
 #[derive(Clone, Debug, PartialEq, Eq)]
 pub struct Fields {
     pub nonce: Vec<u8>,
     pub digest: Vec<u8>,
+    pub job: Option<Vec<u8>>,
     pub ciphertext: Vec<u8>,
     pub seal: Vec<u8>,
 }
 
-/// Which of the four values is meant.
+/// Which of the values is meant.
 pub type Value = fn(&mut Fields) -> &mut Vec<u8>;
 
 /// A field: tag, length (high byte first), value.
@@ -35,56 +91,91 @@ pub fn field(tag: u8, value: &[u8]) -> Vec<u8> {
     field
 }
 
-/// The associated data is field 02 whole.
-pub fn associated(digest: &[u8]) -> Vec<u8> {
-    field(TAG_DIGEST, digest)
+/// The associated data is field 02 whole, in edition two with field 05 whole
+/// behind it.
+pub fn associated(digest: &[u8], job: Option<&[u8]>) -> Vec<u8> {
+    let mut associated = field(TAG_DIGEST, digest);
+    if let Some(job) = job {
+        associated.extend(field(TAG_JOB, job));
+    }
+    associated
 }
 
 impl Fields {
-    /// Seals the line; also gives the calls counted. Any sizes go, so that
-    /// frames no writer makes can be made for tests.
+    /// Seals the line in edition one; also gives the calls counted. Any sizes
+    /// go, so that frames no writer makes can be made for tests.
     pub fn sealing(key: &[u8], nonce: &[u8], digest: &[u8], line: &[u8]) -> (Fields, usize) {
-        let (ciphertext, seal, count) =
-            encrypt(&PRODUCT, INSTANCE_1, key, nonce, &associated(digest), line);
+        Fields::sealing_own(key, Own { nonce, job: None }, digest, line)
+    }
+
+    /// The same in the edition that it is of.
+    pub fn sealing_own(key: &[u8], own: Own, digest: &[u8], line: &[u8]) -> (Fields, usize) {
+        let (ciphertext, seal, count) = encrypt(
+            &PRODUCT,
+            INSTANCE_1,
+            key,
+            own.nonce,
+            &associated(digest, own.job),
+            line,
+        );
         let fields = Fields {
-            nonce: nonce.to_vec(),
+            nonce: own.nonce.to_vec(),
             digest: digest.to_vec(),
+            job: own.job.map(<[u8]>::to_vec),
             ciphertext,
             seal,
         };
         (fields, count)
     }
 
-    /// The four fields whole, in their order.
-    pub fn whole(&self) -> [Vec<u8>; 4] {
-        [
+    pub fn edition(&self) -> Edition {
+        self.own().edition()
+    }
+
+    pub fn own(&self) -> Own<'_> {
+        Own {
+            nonce: &self.nonce,
+            job: self.job.as_deref(),
+        }
+    }
+
+    /// The fields whole, in their order.
+    pub fn whole(&self) -> Vec<Vec<u8>> {
+        let mut whole = vec![
             field(TAG_NONCE, &self.nonce),
             field(TAG_DIGEST, &self.digest),
-            field(TAG_LINE, &self.ciphertext),
-            field(TAG_SEAL, &self.seal),
-        ]
+        ];
+        whole.extend(self.job.as_ref().map(|job| field(TAG_JOB, job)));
+        whole.push(field(TAG_LINE, &self.ciphertext));
+        whole.push(field(TAG_SEAL, &self.seal));
+        whole
     }
 
     pub fn body(&self) -> Vec<u8> {
         self.whole().concat()
     }
 
-    /// Where the four tags stand in the body.
-    pub fn tag_places(&self) -> [usize; 4] {
+    /// Where the tags stand in the body.
+    pub fn tag_places(&self) -> Vec<usize> {
         let mut next = 0;
-        self.whole().map(|field| {
+        let place = |field: &Vec<u8>| {
             next += field.len();
             next - field.len()
-        })
+        };
+        self.whole().iter().map(place).collect()
     }
 
-    /// The four fields in their order and once each, with nothing after them;
-    /// else none.
+    /// The fields of one edition in their order and once each, with nothing
+    /// after them; else none.
     pub fn taken_apart(body: &[u8]) -> Option<Fields> {
         let mut rest = body;
         let fields = Fields {
             nonce: take(&mut rest, TAG_NONCE)?,
             digest: take(&mut rest, TAG_DIGEST)?,
+            job: match rest.first() {
+                Some(&TAG_JOB) => Some(take(&mut rest, TAG_JOB)?),
+                _ => None,
+            },
             ciphertext: take(&mut rest, TAG_LINE)?,
             seal: take(&mut rest, TAG_SEAL)?,
         };
@@ -108,6 +199,7 @@ fn take(rest: &mut &[u8], expected: u8) -> Option<Vec<u8>> {
         TAG_DIGEST => length == DIGEST,
         TAG_LINE => (LINE_LEAST..=LINE_MOST).contains(&length),
         TAG_SEAL => length == SEAL,
+        TAG_JOB => length == JOB,
         _ => false,
     };
     if !allowed || rest.len() < 3 + length {
@@ -160,10 +252,15 @@ impl Written {
     }
 }
 
-/// The public call. Writes the frame into the first bytes of `out`; on a
-/// refusal nothing.
+/// The public call of edition one.
 pub fn write(key: &[u8], nonce: &[u8], digest: &[u8], line: &[u8], out: &mut [u8]) -> Written {
-    if key.len() != KEY || nonce.len() != NONCE || digest.len() != DIGEST {
+    write_own(key, Own { nonce, job: None }, digest, line, out)
+}
+
+/// The public call of the edition that the frame is of. Writes the frame into
+/// the first bytes of `out`; on a refusal nothing.
+pub fn write_own(key: &[u8], own: Own, digest: &[u8], line: &[u8], out: &mut [u8]) -> Written {
+    if key.len() != KEY || !own.sized() || digest.len() != DIGEST {
         return Written::refused(NOT_ITS_SIZE);
     }
     if line.len() < LINE_LEAST || line.len() > LINE_MOST {
@@ -173,10 +270,10 @@ pub fn write(key: &[u8], nonce: &[u8], digest: &[u8], line: &[u8], out: &mut [u8
     if by_rule != DONE {
         return Written::refused(by_rule);
     }
-    if out.len() < FRAME_ROOM {
+    if out.len() < own.edition().frame_room() {
         return Written::refused(NO_ROOM);
     }
-    let (fields, count) = Fields::sealing(key, nonce, digest, line);
+    let (fields, count) = Fields::sealing_own(key, own, digest, line);
     let frame = framed(&fields.body());
     out[..frame.len()].copy_from_slice(&frame);
     Written {
@@ -210,6 +307,52 @@ mod tests {
     }
 
     #[test]
+    fn edition_two_has_seven_bytes_more_and_seven_calls_more() {
+        for length in [1, 2, 64, 65] {
+            let (nonce, job) = ([0x7e; NONCE], [0x7d; JOB]);
+            let own = Own {
+                nonce: &nonce,
+                job: Some(&job),
+            };
+            let mut out = [0xee; FRAME_ROOM_2];
+            let line = vec![b'7'; length];
+            let answer = write_own(&[1; KEY], own, &[0x7d; DIGEST], &line, &mut out);
+            assert_eq!((answer.number, answer.count), (DONE, length + 46));
+            let body = unstuff(&out[1..answer.length - 1]).unwrap();
+            assert_eq!(body.len(), 79 + length);
+            // Field 05 whole stands behind field 02 whole.
+            assert_eq!(body[50..57], [5, 0, 4, 0x7d, 0x7d, 0x7d, 0x7d]);
+            let fields = Fields::taken_apart(&body).unwrap();
+            assert_eq!(fields.job, Some(job.to_vec()));
+            assert_eq!(fields.body(), body);
+            assert_eq!(associated(&fields.digest, fields.own().job).len(), 42);
+        }
+    }
+
+    #[test]
+    fn refusals_of_edition_two() {
+        // Length of the job, the line, the room, the number.
+        let cases: [(usize, &[u8], usize, u8); 5] = [
+            (3, b"x", 0, NOT_ITS_SIZE),
+            (5, b"0", 290, NOT_ITS_SIZE),
+            (0, b"0", 290, NOT_ITS_SIZE),
+            (4, b"0", 289, NO_ROOM),
+            (4, b"x", 276, NOT_LISTED),
+        ];
+        for (job, line, room, number) in cases {
+            let (nonce, job) = ([0; NONCE], vec![0; job]);
+            let own = Own {
+                nonce: &nonce,
+                job: Some(&job),
+            };
+            let mut out = vec![0xee; room];
+            let answer = write_own(&[0; KEY], own, &[0; DIGEST], line, &mut out);
+            assert_eq!(answer, Written::refused(number));
+            assert_eq!(out, vec![0xee; room]);
+        }
+    }
+
+    #[test]
     fn refusals_write_nothing() {
         let line_66 = [b'0'; 66];
         // Lengths of key, nonce and digest, the line, the room, the number.
@@ -239,19 +382,24 @@ mod tests {
 
     #[test]
     fn fields_out_of_order_cut_short_or_followed_are_none() {
-        let (fields, _) = Fields::sealing(&[1; KEY], &[2; NONCE], &[3; DIGEST], b"12");
-        let body = fields.body();
-        for length in 0..body.len() {
-            assert_eq!(Fields::taken_apart(&body[..length]), None);
-        }
-        let mut longer = body.clone();
-        longer.push(0);
-        assert_eq!(Fields::taken_apart(&longer), None);
-        // Tag and length bytes of the four fields around a line of two bytes.
-        for place in [0, 1, 2, 15, 16, 17, 50, 51, 52, 55, 56, 57] {
-            let mut other = body.clone();
-            other[place] ^= 0x04;
-            assert_eq!(Fields::taken_apart(&other), None);
+        for job in [None, Some(&[9; JOB][..])] {
+            let nonce = [2; NONCE];
+            let own = Own { nonce: &nonce, job };
+            let (fields, _) = Fields::sealing_own(&[1; KEY], own, &[3; DIGEST], b"12");
+            let body = fields.body();
+            for length in 0..body.len() {
+                assert_eq!(Fields::taken_apart(&body[..length]), None);
+            }
+            let mut longer = body.clone();
+            longer.push(0);
+            assert_eq!(Fields::taken_apart(&longer), None);
+            for tag in fields.tag_places() {
+                for place in tag..tag + 3 {
+                    let mut other = body.clone();
+                    other[place] ^= 0x08;
+                    assert_eq!(Fields::taken_apart(&other), None);
+                }
+            }
         }
     }
 }

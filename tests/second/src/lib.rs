@@ -7,6 +7,7 @@ pub mod bundle;
 pub mod chance;
 pub mod cipher;
 pub mod compose;
+pub mod convert;
 pub mod diffusion;
 pub mod digest;
 pub mod frame;

@@ -5,7 +5,7 @@
 pub const DONE: u8 = 0;
 /// Unknown instance, or state size not permitted.
 pub const UNKNOWN: u8 = 1;
-/// Key, nonce, digest, seal or seal buffer not of its exact size.
+/// Key, nonce, digest, seal, seal buffer or job not of its exact size.
 pub const NOT_ITS_SIZE: u8 = 2;
 /// Too long, or the writer's line not 1 to 65.
 pub const TOO_LONG: u8 = 3;
@@ -15,7 +15,7 @@ pub const NO_ROOM: u8 = 4;
 pub const WRONG_SEAL: u8 = 5;
 /// Bad stuffing.
 pub const BAD_STUFFING: u8 = 6;
-/// Stretch over 274 bytes, or fields not as they must be.
+/// Stretch over 288 bytes, or fields not as they must be.
 pub const BAD_FIELDS: u8 = 7;
 /// Font digest differs from the one asked for.
 pub const OTHER_FONT: u8 = 8;
@@ -33,11 +33,15 @@ pub const NOT_TRADE: u8 = 13;
 pub const AFTER_FINISH: u8 = 14;
 /// The stretch takes more work than is allowed (order W5).
 pub const OVER_WORK: u8 = 15;
+/// Frame not of the edition named (order W6).
+pub const OTHER_EDITION: u8 = 16;
 
 pub const KEY: usize = 16;
 pub const NONCE: usize = 12;
 pub const DIGEST: usize = 32;
 pub const SEAL: usize = 16;
+/// A job, which only edition two has.
+pub const JOB: usize = 4;
 
 pub const MESSAGE_LIMIT: usize = 65_536;
 pub const STREAM_LIMIT: usize = 65_536;
@@ -47,9 +51,14 @@ pub const ASSOCIATED_LIMIT: usize = 1_024;
 pub const LINE_LEAST: usize = 1;
 pub const LINE_MOST: usize = 65;
 pub const FRAME_ROOM: usize = 276;
-pub const STRETCH_MOST: usize = 274;
-/// A line of n bytes takes n + 39 calls of the permutation.
+/// The same for a frame of edition two.
+pub const FRAME_ROOM_2: usize = 290;
+/// For every reader, whatever editions it allows.
+pub const STRETCH_MOST: usize = 288;
+/// A line of n bytes takes n + 39 calls of the permutation, in edition two
+/// n + 46.
 pub const BESIDE_LINE: usize = 39;
+pub const BESIDE_LINE_2: usize = 46;
 pub const BUNDLE_ROOM: usize = 217;
 
 /// The answer of a call that reports a number and its calls of the permutation.

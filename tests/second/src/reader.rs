@@ -1,11 +1,11 @@
 //! The reader: judging one stretch, the read call, and the walker over it.
 
 use crate::cipher::{decrypt, INSTANCE_1};
-use crate::frame::{associated, Fields};
+use crate::frame::{associated, Edition, Fields};
 use crate::line;
 use crate::numbers::{
-    BAD_FIELDS, BAD_STUFFING, BESIDE_LINE, BEYOND_END, DIGEST, DONE, KEY, LINE_MOST, NOT_ITS_SIZE,
-    NO_ROOM, OTHER_FONT, OVER_WORK, STREAM_LIMIT, STRETCH_MOST, TOO_LONG, WRONG_SEAL,
+    BAD_FIELDS, BAD_STUFFING, BESIDE_LINE, BESIDE_LINE_2, BEYOND_END, DIGEST, DONE, KEY, LINE_MOST,
+    NOT_ITS_SIZE, NO_ROOM, OTHER_FONT, OVER_WORK, STREAM_LIMIT, STRETCH_MOST, TOO_LONG, WRONG_SEAL,
 };
 use crate::readings::PRODUCT;
 use crate::stream::next_stretch;
@@ -18,23 +18,44 @@ pub struct Told<'a> {
     pub digest: &'a [u8],
 }
 
-/// What it is told anew at each call: the calls of the permutation that one
-/// stretch is allowed (order W5).
+/// The editions that a reader allows: bit 1 for edition one, bit 2 for edition
+/// two; other bits say nothing.
+#[derive(Clone, Copy, Debug, PartialEq, Eq)]
+pub struct Editions(pub u32);
+
+pub const ONE: Editions = Editions(1);
+pub const TWO: Editions = Editions(2);
+pub const BOTH: Editions = Editions(3);
+
+impl Editions {
+    fn allow(self, edition: Edition) -> bool {
+        self.0 & u32::from(edition.number()) != 0
+    }
+}
+
+/// What it is told anew at each call: the editions that it allows (order W6)
+/// and the calls of the permutation that one stretch is allowed (order W5).
 #[derive(Clone, Copy, Debug, PartialEq, Eq)]
 pub struct Asked {
+    pub editions: Editions,
     pub allowed: usize,
 }
 
-/// Every stretch is allowed all the work it takes.
+/// Edition one alone, and every stretch is allowed all the work it takes.
 pub const ALL: Asked = Asked {
+    editions: ONE,
     allowed: usize::MAX,
 };
 
-/// A stretch judged: its line where the number is 0, else an empty one.
+/// A stretch judged: its line, edition and job where the number is 0; else the
+/// line is empty and both are zero.
+#[derive(Debug, PartialEq, Eq)]
 struct Judged {
     number: u8,
     line: Vec<u8>,
     count: usize,
+    edition: u8,
+    job: u32,
 }
 
 impl Judged {
@@ -43,53 +64,87 @@ impl Judged {
             number,
             line: Vec::new(),
             count,
+            edition: 0,
+            job: 0,
         }
     }
 }
 
-/// Order of a stretch: 7 for its length, 6, 7 for its fields, 8, 15, 5, 9, 13.
-fn judge(told: Told, asked: Asked, stretch: &[u8]) -> Judged {
+/// The job as a number, high byte first; zero where there is none.
+fn job_number(job: Option<&[u8]>) -> u32 {
+    let bytes = job.unwrap_or(&[]).iter();
+    bytes.fold(0, |number, &byte| 256 * number + u32::from(byte))
+}
+
+/// The fields of a stretch, or why it has none: 7 for its length, 6, 7 for its
+/// fields.
+pub fn fields_of(stretch: &[u8]) -> Result<Fields, u8> {
     if stretch.len() > STRETCH_MOST {
-        return Judged::refused(BAD_FIELDS, 0);
+        return Err(BAD_FIELDS);
     }
-    let body = match unstuff(stretch) {
-        None => return Judged::refused(BAD_STUFFING, 0),
-        Some(body) => body,
-    };
-    let fields = match Fields::taken_apart(&body) {
-        None => return Judged::refused(BAD_FIELDS, 0),
-        Some(fields) => fields,
-    };
+    let body = unstuff(stretch).ok_or(BAD_STUFFING)?;
+    Fields::taken_apart(&body).ok_or(BAD_FIELDS)
+}
+
+/// Order of a stretch: 7 for its length, 6, 7 for its fields and for an edition
+/// that is not allowed, 8, 15, 5, 9, 13.
+fn judge(told: Told, asked: Asked, stretch: &[u8]) -> Judged {
+    match fields_of(stretch) {
+        Err(number) => Judged::refused(number, 0),
+        Ok(fields) if !asked.editions.allow(fields.edition()) => Judged::refused(BAD_FIELDS, 0),
+        Ok(fields) => judge_fields(told, asked.allowed, &fields),
+    }
+}
+
+fn judge_fields(told: Told, allowed: usize, fields: &Fields) -> Judged {
+    match opened(told, allowed, fields) {
+        Err((number, count)) => Judged::refused(number, count),
+        Ok((line, count)) => Judged {
+            number: DONE,
+            line,
+            count,
+            edition: fields.edition().number(),
+            job: job_number(fields.own().job),
+        },
+    }
+}
+
+/// The line of the fields and the calls counted; or the number and its count.
+pub fn opened(
+    told: Told,
+    allowed: usize,
+    fields: &Fields,
+) -> Result<(Vec<u8>, usize), (u8, usize)> {
     if fields.digest != told.digest {
-        return Judged::refused(OTHER_FONT, 0);
+        return Err((OTHER_FONT, 0));
     }
-    if fields.ciphertext.len() + BESIDE_LINE > asked.allowed {
-        return Judged::refused(OVER_WORK, 0);
+    let beside = match fields.edition() {
+        Edition::One => BESIDE_LINE,
+        Edition::Two => BESIDE_LINE_2,
+    };
+    if fields.ciphertext.len() + beside > allowed {
+        return Err((OVER_WORK, 0));
     }
     let (line, worked_out, count) = decrypt(
         &PRODUCT,
         INSTANCE_1,
         told.key,
         &fields.nonce,
-        &associated(&fields.digest),
+        &associated(&fields.digest, fields.own().job),
         &fields.ciphertext,
     );
     if fields.seal != worked_out {
-        return Judged::refused(WRONG_SEAL, count);
+        return Err((WRONG_SEAL, count));
     }
     let by_rule = line::number(&line);
     if by_rule != DONE {
-        return Judged::refused(by_rule, count);
+        return Err((by_rule, count));
     }
-    Judged {
-        number: DONE,
-        line,
-        count,
-    }
+    Ok((line, count))
 }
 
 /// What the read call answers. End of stream is its own answer: `end` is set,
-/// the number is 0.
+/// the number is 0. Edition and job are zero unless a line is given.
 #[derive(Clone, Copy, Debug, PartialEq, Eq)]
 pub struct Reading {
     pub first: usize,
@@ -98,6 +153,8 @@ pub struct Reading {
     pub number: u8,
     pub length: usize,
     pub count: usize,
+    pub edition: u8,
+    pub job: u32,
 }
 
 impl Reading {
@@ -109,6 +166,8 @@ impl Reading {
             number,
             length: 0,
             count: 0,
+            edition: 0,
+            job: 0,
         }
     }
 
@@ -142,6 +201,8 @@ pub fn read(told: Told, asked: Asked, stream: &[u8], place: usize, out: &mut [u8
             number: DONE,
             length: 0,
             count: 0,
+            edition: 0,
+            job: 0,
         };
     }
     let closing = part.first + part.length;
@@ -154,6 +215,8 @@ pub fn read(told: Told, asked: Asked, stream: &[u8], place: usize, out: &mut [u8
         number: judged.number,
         length: judged.line.len(),
         count: judged.count,
+        edition: judged.edition,
+        job: judged.job,
     }
 }
 
@@ -180,7 +243,7 @@ impl<'a> Walker<'a> {
 #[cfg(test)]
 mod tests {
     use super::*;
-    use crate::frame::{framed, write};
+    use crate::frame::{framed, write, Own};
     use crate::numbers::{FRAME_ROOM, NONCE, NOT_LISTED, NOT_TRADE};
 
     const KEY_1: [u8; KEY] = [9; KEY];
@@ -220,6 +283,8 @@ mod tests {
                 number: DONE,
                 length: line.len(),
                 count: line.len() + 39,
+                edition: 1,
+                job: 0,
             };
             assert_eq!(reading, expected);
             assert_eq!(&out[..line.len()], line);
@@ -246,9 +311,46 @@ mod tests {
             stream[length + 1] = b'~';
             number(&stream)
         };
-        assert_eq!(stretch(274, b'A'), BAD_FIELDS);
-        assert_eq!(stretch(274, b'}'), BAD_STUFFING);
-        assert_eq!(stretch(275, b'}'), BAD_FIELDS);
+        // Document 01's 274 and 275, and order W6's 288 and 289.
+        for length in [274, 275, 288] {
+            assert_eq!(stretch(length, b'A'), BAD_FIELDS);
+            assert_eq!(stretch(length, b'}'), BAD_STUFFING);
+        }
+        assert_eq!(stretch(289, b'}'), BAD_FIELDS);
+    }
+
+    #[test]
+    fn the_editions_allowed() {
+        let job = [0x7e, 0x00, 0x7d, 0x01];
+        let own = Own {
+            nonce: &[0x7d; NONCE],
+            job: Some(&job),
+        };
+        let two = framed(&Fields::sealing_own(&KEY_1, own, &FONT, b"12").0.body());
+        let given = |stream: &[u8], editions| {
+            let asked = Asked { editions, ..ALL };
+            let reading = read(TOLD, asked, stream, 0, &mut [0; LINE_MOST]);
+            (reading.number, reading.edition, reading.job, reading.count)
+        };
+        let (no_fields, both) = ((BAD_FIELDS, 0, 0, 0), Editions(0xffff_ffff));
+        assert_eq!(given(&frame(b"12"), ONE), (DONE, 1, 0, 41));
+        assert_eq!(given(&frame(b"12"), TWO), no_fields);
+        assert_eq!(given(&two, ONE), no_fields);
+        for editions in [TWO, BOTH, both] {
+            assert_eq!(given(&two, editions), (DONE, 2, 0x7e00_7d01, 48));
+        }
+        for editions in [Editions(0), Editions(4)] {
+            assert_eq!(given(&two, editions), no_fields);
+            assert_eq!(given(&frame(b"12"), editions), no_fields);
+        }
+        // A job that was changed, and one of a stretch that is refused.
+        for place in 54..58 {
+            let mut other = two.clone();
+            let at = two.iter().position(|&byte| byte == 0x05).unwrap() + place - 51;
+            other[at] ^= 0x80;
+            let (number, edition, job, _) = given(&other, BOTH);
+            assert!(number != DONE && edition == 0 && job == 0);
+        }
     }
 
     #[test]
@@ -300,7 +402,13 @@ mod tests {
         for (stream, number, count) in cases {
             for (allowed, expected) in [(0, OVER_WORK), (41, OVER_WORK), (42, number), (43, number)]
             {
-                let reading = read(TOLD, Asked { allowed }, &stream, 0, &mut [0; LINE_MOST]);
+                let reading = read(
+                    TOLD,
+                    Asked { allowed, ..ALL },
+                    &stream,
+                    0,
+                    &mut [0; LINE_MOST],
+                );
                 assert_eq!(reading.number, expected);
                 assert_eq!(reading.count, if expected == OVER_WORK { 0 } else { count });
                 assert_eq!((reading.first, reading.closing), (1, stream.len() - 1));
@@ -311,10 +419,25 @@ mod tests {
             (b"~}A~", BAD_STUFFING),
             (b"~A~", BAD_FIELDS),
         ] {
-            let reading = read(TOLD, Asked { allowed: 0 }, stream, 0, &mut [0; LINE_MOST]);
+            let reading = read(
+                TOLD,
+                Asked { allowed: 0, ..ALL },
+                stream,
+                0,
+                &mut [0; LINE_MOST],
+            );
             assert_eq!((reading.number, reading.count), (number, 0));
         }
-        assert!(read(TOLD, Asked { allowed: 0 }, b"~", 0, &mut [0; LINE_MOST]).end);
+        assert!(
+            read(
+                TOLD,
+                Asked { allowed: 0, ..ALL },
+                b"~",
+                0,
+                &mut [0; LINE_MOST]
+            )
+            .end
+        );
     }
 
     #[test]

@@ -6,7 +6,7 @@ use std::ops::Range;
 
 use super::{beat, damage, in_bytes, limit, sound, stretch, told};
 use crate::numbers::{DIGEST, KEY, LINE_MOST};
-use crate::reader::Asked;
+use crate::reader::{Asked, ALL};
 use crate::stream::next_stretch;
 
 /// A stream, the place to start from, the lengths of line buffer, key and font
@@ -99,6 +99,7 @@ impl Case {
         loop {
             let asked = Asked {
                 allowed: self.allowed,
+                ..ALL
             };
             let (reading, line) =
                 told::reading(self.key, self.digest, asked, &self.stream, start, self.room);
