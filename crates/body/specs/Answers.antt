@@ -6,6 +6,8 @@ use lib.ListN.{length, drop}
 use Rattle.body.specs.declared.Judged.{Judged}
 use Rattle.body.specs.declared.Judged.the-variants as judged-is
 use Rattle.fields.specs.Fields.{Front, value, no-field, front, headLength, highByte}
+use Rattle.body.specs.declared.Edition.{Edition}
+use Rattle.body.specs.declared.Edition.the-variants.{One, Two}
 use Rattle.body.specs.Fields.{takes, Fields, fields, no-body}
 
 -- a place told for the field looked for at a place of n bytes: it is behind the field, or past the end of the bytes for no field
@@ -18,12 +20,17 @@ pub record Found (b : List ℕ) (tag at r : ℕ) : Type 0 where
   pub ends : Ends (length b) at r (front takes tag (drop at b))
   pub near : r ≤ length b + highByte * highByte
 
--- what bytes are as a body, told: the length of the line ciphertext fixes every place
+-- what bytes are as a body, told: the edition and the length of the line ciphertext fix every place
 abbrev pub judged : Fields → Judged
-judged (fields nonce digest cipher seal) = judged-is.Fields (length cipher)
+judged (fields own digest cipher seal) = judged-is.Fields (own .edition) (length cipher)
 judged no-body = judged-is.Shape
 
 -- document 01's number of each answer ('Numbers returned')
 abbrev pub judgeNumber : Judged → ℕ
-judgeNumber (judged-is.Fields n) = 0
+judgeNumber (judged-is.Fields e n) = 0
 judgeNumber judged-is.Shape = 7
+
+-- an edition's number, as a reading carries it (order W6)
+abbrev pub editionNumber : Edition → ℕ
+editionNumber One = 1
+editionNumber Two = 2

@@ -1,26 +1,36 @@
 -- A body of bytes: where its values are bytes, so is every byte of it. Assumes nothing.
 use mathlib.Core.List.{List, _++_}
-use Prim.Native.Nat.{ℕ, _*_, _<_}
+use mathlib.Core.Path.{_≡_}
+use Prim.Native.Nat.{ℕ}
 use native.Mathlib.Omega.{arith}
 use lib.ListN.{length}
 use Rattle.lists.specs.Below.{Below, below-append}
-use Rattle.fields.specs.Fields.{highByte, field}
+use Rattle.fields.specs.Fields.{field}
 use Rattle.fields.specs.Laws.{field-below}
-use Rattle.body.specs.Fields.{nonceTag, digestTag, cipherTag, sealTag, body, associated}
+use Rattle.body.specs.declared.Edition.{Edition}
+use Rattle.body.specs.declared.Edition.the-variants.{One, Two}
+use Rattle.body.specs.Fields.{nonceTag, digestTag, cipherTag, sealTag, jobTag, digestLength, jobSize, Own, jobField, body, associated}
 use Rattle.body.specs.Lengths.{Sized}
 
-pub associated-below : (digest : List ℕ) → length digest < highByte * highByte → Below 256 digest → Below 256 (associated digest)
-unfolding associated
-associated-below digest l b = field-below digestTag digest (omega arith) l b
+pub job-field-below : (e : Edition) (job : List ℕ) → length job ≡ jobSize e → Below 256 job → Below 256 (jobField e job)
+unfolding jobField
+job-field-below One job l b = tt
+job-field-below Two job l b = field-below jobTag job (omega arith) (omega arith) b
 
-pub body-below : {nonce digest cipher seal : List ℕ} → Sized nonce digest cipher seal
-    → Below 256 nonce → Below 256 digest → Below 256 cipher → Below 256 seal → Below 256 (body nonce digest cipher seal)
+pub associated-below : (e : Edition) (digest job : List ℕ) → length digest ≡ digestLength → length job ≡ jobSize e
+    → Below 256 digest → Below 256 job → Below 256 (associated e digest job)
+unfolding associated
+associated-below e digest job l j b c =
+    below-append 256 (field digestTag digest) (jobField e job) (field-below digestTag digest (omega arith) (omega arith) b) (job-field-below e job j c)
+
+pub body-below : {own : Own} {digest cipher seal : List ℕ} → Sized own digest cipher seal → Below 256 (own .nonce) → Below 256 (own .job)
+    → Below 256 digest → Below 256 cipher → Below 256 seal → Below 256 (body own digest cipher seal)
 unfolding body
-body-below {nonce} {digest} {cipher} {seal} z n d c s =
-    below-append 256 (field nonceTag nonce ++ field digestTag digest ++ field cipherTag cipher) (field sealTag seal)
-    (below-append 256 (field nonceTag nonce ++ field digestTag digest) (field cipherTag cipher)
-    (below-append 256 (field nonceTag nonce) (field digestTag digest)
-    (field-below nonceTag nonce (omega arith) (omega (arith, z .nonce-is)) n)
-    (field-below digestTag digest (omega arith) (omega (arith, z .digest-is)) d))
+body-below {own} {digest} {cipher} {seal} z n j d c s =
+    below-append 256 (field nonceTag (own .nonce) ++ associated (own .edition) digest (own .job) ++ field cipherTag cipher) (field sealTag seal)
+    (below-append 256 (field nonceTag (own .nonce) ++ associated (own .edition) digest (own .job)) (field cipherTag cipher)
+    (below-append 256 (field nonceTag (own .nonce)) (associated (own .edition) digest (own .job))
+    (field-below nonceTag (own .nonce) (omega arith) (omega (arith, z .nonce-is)) n)
+    (associated-below (own .edition) digest (own .job) (z .digest-is) (z .job-is) d j))
     (field-below cipherTag cipher (omega arith) (omega (arith, z .cipher-to)) c))
     (field-below sealTag seal (omega arith) (omega (arith, z .seal-is)) s)

@@ -1,4 +1,4 @@
--- How long bodies are (document 01, 'A frame and a stream'), and what the tags' rules take. Assumes nothing.
+-- How long bodies are (document 01, 'A frame and a stream', and order W6), and what the tags' rules take. Assumes nothing.
 use mathlib.Core.Path.{_≡_, refl}
 use mathlib.Core.Bool.{Bool, true, false, cond}
 use mathlib.Core.List.{List}
@@ -10,42 +10,65 @@ use borrow.Author.Tests.{eq-eqb, le-leb, eqb-true, leb-true}
 use Rattle.lists.specs.Never.{never}
 use Rattle.line.specs.Lines.{longest}
 use Rattle.fields.specs.Laws.{length-field}
-use Rattle.body.specs.Fields.{nonceTag, digestTag, cipherTag, sealTag, nonceLength, digestLength, shortest, sealLength, field, body, associated, takes}
+use Rattle.body.specs.declared.Edition.{Edition}
+use Rattle.body.specs.declared.Edition.the-variants.{One, Two}
+use Rattle.body.specs.Fields.{nonceTag, digestTag, cipherTag, sealTag, jobTag, nonceLength, digestLength, shortest, sealLength, jobLength, jobSize, field, Own, jobField, body, associated, takes}
 
--- the associated data has 35 bytes (document 01)
-abbrev pub associatedLength : ℕ
-associatedLength = 35
+-- how long field 05 is (order W6), which edition one has not: what is longer in edition two is longer by so much
+abbrev pub jobFieldLength : Edition → ℕ
+jobFieldLength One = 0
+jobFieldLength Two = 7
 
--- a body is 72 + line length bytes, 73 to 137 (document 01)
-abbrev pub besideCipher : ℕ
-besideCipher = 72
+-- the associated data has 35 bytes (document 01), in edition two 42
+abbrev pub associatedLength : Edition → ℕ
+associatedLength e = 35 + jobFieldLength e
 
-abbrev pub shortestBody : ℕ
-shortestBody = 73
+-- a body is 72 + line length bytes, 73 to 137 (document 01), in edition two 79 + line length bytes
+abbrev pub besideCipher : Edition → ℕ
+besideCipher e = 72 + jobFieldLength e
 
-abbrev pub longestBody : ℕ
-longestBody = 137
+abbrev pub shortestBody : Edition → ℕ
+shortestBody e = 73 + jobFieldLength e
+
+abbrev pub longestBody : Edition → ℕ
+longestBody e = 137 + jobFieldLength e
+
+-- order W6's numbers for edition two
+pub edition-two-lengths : (associatedLength Two ≡ 42) × (besideCipher Two ≡ 79) × (longestBody Two ≡ 144)
+edition-two-lengths = (refl, refl, refl)
+
+pub job-field-most : (e : Edition) → jobFieldLength e ≤ jobFieldLength Two
+job-field-most One = omega arith
+job-field-most Two = omega arith
 
 -- values with the lengths that the document gives
-pub record Sized (nonce digest cipher seal : List ℕ) : Type 0 where
-  pub nonce-is : length nonce ≡ nonceLength
+pub record Sized (own : Own) (digest cipher seal : List ℕ) : Type 0 where
+  pub nonce-is : length (own .nonce) ≡ nonceLength
+  pub job-is : length (own .job) ≡ jobSize (own .edition)
   pub digest-is : length digest ≡ digestLength
   pub cipher-from : shortest ≤ length cipher
   pub cipher-to : length cipher ≤ longest
   pub seal-is : length seal ≡ sealLength
 
-pub length-associated : (digest : List ℕ) → length digest ≡ digestLength → length (associated digest) ≡ associatedLength
+pub length-job-field : (e : Edition) (job : List ℕ) → length job ≡ jobSize e → length (jobField e job) ≡ jobFieldLength e
+unfolding jobField
+length-job-field One job h = refl
+length-job-field Two job h = omega (arith, length-field jobTag job)
+
+pub length-associated : (e : Edition) (digest job : List ℕ) → length digest ≡ digestLength → length job ≡ jobSize e
+    → length (associated e digest job) ≡ associatedLength e
 unfolding associated
-length-associated digest h = omega (arith, length-field digestTag digest)
+length-associated e digest job h j = rw length-append (omega (arith, length-field digestTag digest, length-job-field e job j))
 
-pub length-body : {nonce digest cipher seal : List ℕ} → Sized nonce digest cipher seal
-    → length (body nonce digest cipher seal) ≡ besideCipher + length cipher
+pub length-body : {own : Own} {digest cipher seal : List ℕ} → Sized own digest cipher seal
+    → length (body own digest cipher seal) ≡ besideCipher (own .edition) + length cipher
 unfolding body
-length-body {nonce} {digest} {cipher} {seal} z =
-    simp (length-append, length-field) (omega (arith, z .nonce-is, z .digest-is, z .seal-is))
+length-body {own} {digest} {cipher} {seal} z =
+    simp (length-append, length-field)
+    (omega (arith, z .nonce-is, length-associated (own .edition) digest (own .job) (z .digest-is) (z .job-is), z .seal-is))
 
-pub body-lengths : {nonce digest cipher seal : List ℕ} → Sized nonce digest cipher seal
-    → (shortestBody ≤ length (body nonce digest cipher seal)) × (length (body nonce digest cipher seal) ≤ longestBody)
+pub body-lengths : {own : Own} {digest cipher seal : List ℕ} → Sized own digest cipher seal
+    → (shortestBody (own .edition) ≤ length (body own digest cipher seal)) × (length (body own digest cipher seal) ≤ longestBody (own .edition))
 body-lengths z = (omega (arith, length-body z, z .cipher-from), omega (arith, length-body z, z .cipher-to))
 
 -- the rules take these lengths
@@ -64,6 +87,10 @@ takes-cipher n l h = rw (le-leb shortest n l) (le-leb n longest h)
 pub takes-seal : (n : ℕ) → n ≡ sealLength → takes sealTag n ≡ true
 unfolding takes
 takes-seal n e = eq-eqb n sealLength e
+
+pub takes-job : (n : ℕ) → n ≡ jobLength → takes jobTag n ≡ true
+unfolding takes
+takes-job n e = eq-eqb n jobLength e
 
 -- and no others
 pub nonce-taken : (n : ℕ) → takes nonceTag n ≡ true → n ≡ nonceLength
@@ -85,3 +112,7 @@ cipher-taken n = go (leb shortest n) refl
 pub seal-taken : (n : ℕ) → takes sealTag n ≡ true → n ≡ sealLength
 unfolding takes
 seal-taken n e = eqb-true n sealLength e
+
+pub job-taken : (n : ℕ) → takes jobTag n ≡ true → n ≡ jobLength
+unfolding takes
+job-taken n e = eqb-true n jobLength e

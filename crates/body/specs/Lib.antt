@@ -4,3 +4,4 @@ pub mod Lengths
 pub mod OneToOne
 pub mod Places
 pub mod Bytes
+pub mod Job

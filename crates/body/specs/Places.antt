@@ -1,4 +1,4 @@
--- Where the values stand in a body: all places are fixed by the length of the line ciphertext. Assumes nothing.
+-- Where the values stand in a body: all places are fixed by the edition and the length of the line ciphertext. Assumes nothing.
 use mathlib.Core.Path.{_≡_, refl}
 use mathlib.Core.List.{List, [], _++_, append-assoc, append-nil}
 use Prim.Native.Nat.{ℕ, _+_}
@@ -6,14 +6,16 @@ use native.Mathlib.Omega.{arith}
 use lib.ListN.{length, take, drop, length-append}
 use lib.Seq.{take-at, drop-at, drop-append-add}
 use Rattle.fields.specs.Laws.{length-field}
-use Rattle.body.specs.Fields.{nonceTag, digestTag, cipherTag, sealTag, nonceLength, digestLength, sealLength, headLength, field, body, associated}
-use Rattle.body.specs.Lengths.{Sized, associatedLength, length-associated}
+use Rattle.body.specs.declared.Edition.{Edition}
+use Rattle.body.specs.declared.Edition.the-variants.{Two}
+use Rattle.body.specs.Fields.{nonceTag, digestTag, cipherTag, sealTag, jobTag, nonceLength, digestLength, sealLength, jobLength, headLength, field, Own, ownOf, jobField, body, associated}
+use Rattle.body.specs.Lengths.{Sized, jobFieldLength, associatedLength, length-associated}
 
 -- the nonce
 abbrev pub nonceAt : ℕ
 nonceAt = headLength
 
--- field 02 whole, the associated data
+-- the associated data
 abbrev pub associatedAt : ℕ
 associatedAt = nonceAt + nonceLength
 
@@ -21,67 +23,82 @@ associatedAt = nonceAt + nonceLength
 abbrev pub digestAt : ℕ
 digestAt = associatedAt + headLength
 
+-- in edition two the job
+abbrev pub jobAt : ℕ
+jobAt = digestAt + digestLength + headLength
+
 -- the line ciphertext
-abbrev pub cipherAt : ℕ
-cipherAt = digestAt + digestLength + headLength
+abbrev pub cipherAt : Edition → ℕ
+cipherAt e = digestAt + digestLength + headLength + jobFieldLength e
 
 -- the seal, behind a line ciphertext of n bytes
-abbrev pub sealAt : ℕ → ℕ
-sealAt n = cipherAt + n + headLength
+abbrev pub sealAt : Edition → ℕ → ℕ
+sealAt e n = cipherAt e + n + headLength
 
--- a field behind p, and its value
-field-at : (p : List ℕ) (tag : ℕ) (v s : List ℕ) (at k : ℕ) → length p ≡ at → length (field tag v) ≡ k
-    → take k (drop at (p ++ (field tag v ++ s))) ≡ field tag v
-field-at p tag v s at k h e = rw (drop-at p (field tag v ++ s) at h) (take-at (field tag v) s k e)
+-- a part behind p, and a field's value
+part-at : (p f s : List ℕ) (at k : ℕ) → length p ≡ at → length f ≡ k → take k (drop at (p ++ (f ++ s))) ≡ f
+part-at p f s at k h e = rw (drop-at p (f ++ s) at h) (take-at f s k e)
 
 value-at : (p : List ℕ) (tag : ℕ) (v s : List ℕ) (at k : ℕ) → length p + headLength ≡ at → length v ≡ k
     → take k (drop at (p ++ (field tag v ++ s))) ≡ v
 unfolding field
 value-at p tag v s at k h e = rw (← h, drop-append-add p (field tag v ++ s) headLength) (take-at v s k e)
 
-module _ (nonce digest cipher seal : List ℕ) (z : Sized nonce digest cipher seal) where
-  n-is : length (field nonceTag nonce) ≡ headLength + nonceLength
-  n-is = omega (arith, length-field nonceTag nonce, z .nonce-is)
+module _ (own : Own) (digest cipher seal : List ℕ) (z : Sized own digest cipher seal) where
+  n-is : length (field nonceTag (own .nonce)) ≡ headLength + nonceLength
+  n-is = omega (arith, length-field nonceTag (own .nonce), z .nonce-is)
 
-  nd-is : length (field nonceTag nonce ++ field digestTag digest) ≡ headLength + nonceLength + headLength + digestLength
-  nd-is = omega (arith, length-append (field nonceTag nonce) (field digestTag digest), n-is, length-field digestTag digest, z .digest-is)
+  a-is : length (associated (own .edition) digest (own .job)) ≡ associatedLength (own .edition)
+  a-is = length-associated (own .edition) digest (own .job) (z .digest-is) (z .job-is)
 
-  ndc-is : length (field nonceTag nonce ++ field digestTag digest ++ field cipherTag cipher)
-      ≡ headLength + nonceLength + headLength + digestLength + headLength + length cipher
-  ndc-is =
+  na-is : length (field nonceTag (own .nonce) ++ associated (own .edition) digest (own .job)) ≡ headLength + nonceLength + associatedLength (own .edition)
+  na-is = omega (arith, length-append (field nonceTag (own .nonce)) (associated (own .edition) digest (own .job)), n-is, a-is)
+
+  nac-is : length (field nonceTag (own .nonce) ++ associated (own .edition) digest (own .job) ++ field cipherTag cipher)
+      ≡ headLength + nonceLength + associatedLength (own .edition) + headLength + length cipher
+  nac-is =
       omega (
         arith,
-        length-append (field nonceTag nonce ++ field digestTag digest) (field cipherTag cipher),
-        nd-is,
+        length-append (field nonceTag (own .nonce) ++ associated (own .edition) digest (own .job)) (field cipherTag cipher),
+        na-is,
         length-field cipherTag cipher,
       )
 
-  pub nonce-at : take nonceLength (drop nonceAt (body nonce digest cipher seal)) ≡ nonce
+  pub nonce-at : take nonceLength (drop nonceAt (body own digest cipher seal)) ≡ own .nonce
   unfolding body
   nonce-at =
-      simp append-assoc (value-at [] nonceTag nonce (field digestTag digest ++ (field cipherTag cipher ++ field sealTag seal)) nonceAt nonceLength refl (z .nonce-is))
+      simp append-assoc (value-at [] nonceTag (own .nonce) (associated (own .edition) digest (own .job) ++ (field cipherTag cipher ++ field sealTag seal)) nonceAt nonceLength refl (z .nonce-is))
 
-  pub associated-at : take associatedLength (drop associatedAt (body nonce digest cipher seal)) ≡ associated digest
-  unfolding body associated
+  pub associated-at : take (associatedLength (own .edition)) (drop associatedAt (body own digest cipher seal)) ≡ associated (own .edition) digest (own .job)
+  unfolding body
   associated-at =
       simp append-assoc
-      (field-at (field nonceTag nonce) digestTag digest (field cipherTag cipher ++ field sealTag seal) associatedAt associatedLength n-is
-      (length-associated digest (z .digest-is)))
+      (part-at (field nonceTag (own .nonce)) (associated (own .edition) digest (own .job)) (field cipherTag cipher ++ field sealTag seal) associatedAt (associatedLength (own .edition)) n-is a-is)
 
-  pub digest-at : take digestLength (drop digestAt (body nonce digest cipher seal)) ≡ digest
-  unfolding body
+  pub digest-at : take digestLength (drop digestAt (body own digest cipher seal)) ≡ digest
+  unfolding body associated
   digest-at =
       simp append-assoc
-      (value-at (field nonceTag nonce) digestTag digest (field cipherTag cipher ++ field sealTag seal) digestAt digestLength (omega (arith, n-is)) (z .digest-is))
+      (value-at (field nonceTag (own .nonce)) digestTag digest (jobField (own .edition) (own .job) ++ (field cipherTag cipher ++ field sealTag seal)) digestAt digestLength (omega (arith, n-is)) (z .digest-is))
 
-  pub cipher-at : take (length cipher) (drop cipherAt (body nonce digest cipher seal)) ≡ cipher
+  pub cipher-at : take (length cipher) (drop (cipherAt (own .edition)) (body own digest cipher seal)) ≡ cipher
   unfolding body
   cipher-at =
-      rw (append-assoc (field nonceTag nonce ++ field digestTag digest) (field cipherTag cipher) (field sealTag seal))
-      (value-at (field nonceTag nonce ++ field digestTag digest) cipherTag cipher (field sealTag seal) cipherAt (length cipher) (omega (arith, nd-is)) refl)
+      rw (append-assoc (field nonceTag (own .nonce) ++ associated (own .edition) digest (own .job)) (field cipherTag cipher) (field sealTag seal))
+      (value-at (field nonceTag (own .nonce) ++ associated (own .edition) digest (own .job)) cipherTag cipher (field sealTag seal) (cipherAt (own .edition)) (length cipher) (omega (arith, na-is)) refl)
 
-  pub seal-at : take sealLength (drop (sealAt (length cipher)) (body nonce digest cipher seal)) ≡ seal
+  pub seal-at : take sealLength (drop (sealAt (own .edition) (length cipher)) (body own digest cipher seal)) ≡ seal
   unfolding body
   seal-at =
       rw (← append-nil (field sealTag seal))
-      (value-at (field nonceTag nonce ++ field digestTag digest ++ field cipherTag cipher) sealTag seal [] (sealAt (length cipher)) sealLength (omega (arith, ndc-is)) (z .seal-is))
+      (value-at (field nonceTag (own .nonce) ++ associated (own .edition) digest (own .job) ++ field cipherTag cipher) sealTag seal [] (sealAt (own .edition) (length cipher)) sealLength (omega (arith, nac-is)) (z .seal-is))
+
+-- in edition two
+pub job-at : (nonce job digest cipher seal : List ℕ) → Sized (ownOf Two nonce job) digest cipher seal
+    → take jobLength (drop jobAt (body (ownOf Two nonce job) digest cipher seal)) ≡ job
+unfolding body associated jobField
+job-at nonce job digest cipher seal z =
+    simp append-assoc
+    (rw append-assoc at (value-at (field nonceTag nonce ++ field digestTag digest) jobTag job (field cipherTag cipher ++ field sealTag seal) jobAt jobLength
+    (omega (arith, length-append (field nonceTag nonce) (field digestTag digest), length-field nonceTag nonce, length-field digestTag digest, z .nonce-is, z .digest-is))
+    (z .job-is)))

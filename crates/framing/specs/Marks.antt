@@ -10,6 +10,7 @@ use lib.Seq.{getD-at}
 use Rattle.lists.specs.Free.{free-at}
 use Rattle.stuffing.specs.Stuffing.{mark, stuffed}
 use Rattle.stuffing.specs.Marks.{stuffed-free}
+use Rattle.body.specs.Fields.{Own}
 use Rattle.framing.specs.Told.{Told}
 use Rattle.framing.specs.Frames.{sealedBody, framed, frameOf}
 use Rattle.framing.specs.Lengths.{length-framed}
@@ -30,7 +31,7 @@ framed-marks b (suc j) h e = elim (decLt j (length (stuffed b))) [
   | no l ↦ inr (omega (arith, l, length-framed b))
 ]
 
-pub frame-marks : (t : Told) (nonce line : List ℕ) (k : ℕ) → k < length (frameOf t nonce line) → getD (frameOf t nonce line) k 0 ≡ mark
-    → (k ≡ 0) ⊎ (k ≡ length (frameOf t nonce line) - 1)
+pub frame-marks : (t : Told) (own : Own) (line : List ℕ) (k : ℕ) → k < length (frameOf t own line) → getD (frameOf t own line) k 0 ≡ mark
+    → (k ≡ 0) ⊎ (k ≡ length (frameOf t own line) - 1)
 unfolding frameOf
-frame-marks t nonce line = framed-marks (sealedBody t nonce line)
+frame-marks t own line = framed-marks (sealedBody t own line)

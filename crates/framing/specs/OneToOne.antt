@@ -1,11 +1,11 @@
--- A frame is one to one with its body, and so with nonce, font digest, ciphertext and seal. Assumes nothing.
+-- A frame is one to one with its body, and so with what is its own, font digest, ciphertext and seal. Assumes nothing.
 use mathlib.Core.Path.{_≡_, sym, ap, _∙_}
 use mathlib.Core.List.{List, [], _∷_}
 use Prim.Native.Nat.{ℕ, _-_}
 use native.Mathlib.Omega.{arith}
 use lib.ListN.{length, take, drop}
 use lib.Seq.{take-at}
-use Rattle.body.specs.Fields.{fields}
+use Rattle.body.specs.Fields.{Own, fields}
 use Rattle.body.specs.OneToOne.{body-one-to-one}
 use Rattle.stuffing.specs.Stuffing.{mark, stuffed}
 use Rattle.stuffing.specs.RoundTrip.{stuffed-one-to-one}
@@ -24,11 +24,11 @@ between-framed b = take-at (stuffed b) (mark ∷ []) (length (framed b) - 2) (om
 pub framed-one-to-one : (a b : List ℕ) → framed a ≡ framed b → a ≡ b
 framed-one-to-one a b e = stuffed-one-to-one a b (sym (between-framed a) ∙ ap between e ∙ between-framed b)
 
--- no two choices of nonce, font digest, ciphertext and seal have one frame
-pub frame-fields : {t t′ : Told} {nonce nonce′ line line′ : List ℕ} → Sealable t nonce line → Sealable t′ nonce′ line′
-    → frameOf t nonce line ≡ frameOf t′ nonce′ line′
-    → fields nonce (t .font) (sealedLine t nonce line .text) (sealedLine t nonce line .seal)
-    ≡ fields nonce′ (t′ .font) (sealedLine t′ nonce′ line′ .text) (sealedLine t′ nonce′ line′ .seal)
+-- no two choices of what is the frame's own, font digest, ciphertext and seal have one frame; so no frame is of both editions
+pub frame-fields : {t t′ : Told} {own own′ : Own} {line line′ : List ℕ} → Sealable t own line → Sealable t′ own′ line′
+    → frameOf t own line ≡ frameOf t′ own′ line′
+    → fields own (t .font) (sealedLine t own line .text) (sealedLine t own line .seal)
+    ≡ fields own′ (t′ .font) (sealedLine t′ own′ line′ .text) (sealedLine t′ own′ line′ .seal)
 unfolding frameOf sealedBody
-frame-fields {t} {t′} {nonce} {nonce′} {line} {line′} z z′ e =
-    body-one-to-one (sealed-sized z) (sealed-sized z′) (framed-one-to-one (sealedBody t nonce line) (sealedBody t′ nonce′ line′) e)
+frame-fields {t} {t′} {own} {own′} {line} {line′} z z′ e =
+    body-one-to-one (sealed-sized z) (sealed-sized z′) (framed-one-to-one (sealedBody t own line) (sealedBody t′ own′ line′) e)

@@ -9,10 +9,10 @@ use Rattle.putting.proofs.put_body.Reads as put-reads
 use Rattle.putting.proofs.put_associated.Kinds as associated-kinds
 use Rattle.putting.proofs.put_associated.Reads as associated-reads
 
-pub put-body-single : (κs : Lfts 5) (a : Dens κs put-kinds.ps) (r r′ : Put) (x x′ : AtExit (endedOf 5 put-kinds.ps put-kinds.r) κs)
-    → put-reads.Post κs a r x → put-reads.Post κs a r′ x′ → (r ≡ r′) × (x .1 .1 .1 .1 .0 .now ≡ x′ .1 .1 .1 .1 .0 .now)
+pub put-body-single : (κs : Lfts 6) (a : Dens κs put-kinds.ps) (r r′ : Put) (x x′ : AtExit (endedOf 6 put-kinds.ps put-kinds.r) κs)
+    → put-reads.Post κs a r x → put-reads.Post κs a r′ x′ → (r ≡ r′) × (x .1 .1 .1 .1 .1 .1 .0 .now ≡ x′ .1 .1 .1 .1 .1 .1 .0 .now)
 put-body-single κs a r r′ x x′ p q = (p .0 ∙ sym (q .0), p .1 ∙ sym (q .1))
 
-pub put-associated-single : (κs : Lfts 2) (a : Dens κs associated-kinds.ps) (r r′ : Put) (x x′ : AtExit (endedOf 2 associated-kinds.ps associated-kinds.r) κs)
-    → associated-reads.Post κs a r x → associated-reads.Post κs a r′ x′ → (r ≡ r′) × (x .1 .0 .now ≡ x′ .1 .0 .now)
+pub put-associated-single : (κs : Lfts 3) (a : Dens κs associated-kinds.ps) (r r′ : Put) (x x′ : AtExit (endedOf 3 associated-kinds.ps associated-kinds.r) κs)
+    → associated-reads.Post κs a r x → associated-reads.Post κs a r′ x′ → (r ≡ r′) × (x .1 .1 .1 .0 .now ≡ x′ .1 .1 .1 .0 .now)
 put-associated-single κs a r r′ x x′ p q = (p .0 ∙ sym (q .0), p .1 ∙ sym (q .1))

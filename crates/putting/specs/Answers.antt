@@ -3,18 +3,29 @@
 use mathlib.Core.Bool.{Bool, false, cond}
 use mathlib.Core.List.{List}
 use Prim.Native.Nat.{ℕ}
-use lib.Dec.{ltb}
+use lib.Dec.{eqb, ltb}
 use lib.ListN.{length}
 use Rattle.lists.specs.Buffers.{over}
-use Rattle.body.specs.Fields.{nonceTag, digestTag, cipherTag, sealTag, takes, body, associated}
+use Rattle.body.specs.declared.Edition.{Edition}
+use Rattle.body.specs.declared.Edition.the-variants.{One, Two}
+use Rattle.body.specs.Fields.{nonceTag, digestTag, cipherTag, sealTag, jobTag, jobSize, Own, takes, body, associated}
 use Rattle.putting.specs.declared.Put.{Put}
 use Rattle.putting.specs.declared.Put.the-variants as put-is
 
--- each value has a length that its tag's rule takes
-unfoldable pub fitting : List ℕ → List ℕ → List ℕ → List ℕ → Bool
-fitting nonce digest cipher seal =
-    cond (takes nonceTag (length nonce))
-    (cond (takes digestTag (length digest))
+-- a job that its tag's rule takes; edition one has none
+abbrev pub jobFits : Edition → List ℕ → Bool
+jobFits One job = eqb (length job) (jobSize One)
+jobFits Two job = takes jobTag (length job)
+
+-- digest and job have lengths that their tags' rules take
+unfoldable pub fittingAssociated : Edition → List ℕ → List ℕ → Bool
+fittingAssociated e digest job = cond (takes digestTag (length digest)) (jobFits e job) false
+
+-- each value has
+unfoldable pub fitting : Own → List ℕ → List ℕ → List ℕ → Bool
+fitting own digest cipher seal =
+    cond (takes nonceTag (length (own .nonce)))
+    (cond (fittingAssociated (own .edition) digest (own .job))
     (cond (takes cipherTag (length cipher))
     (takes sealTag (length seal)) false) false) false
 
@@ -25,18 +36,18 @@ written fit w out = cond fit (cond (ltb (length out) (length w)) put-is.NoRoom (
 abbrev pub writtenOut : Bool → List ℕ → List ℕ → List ℕ
 writtenOut fit w out = cond fit (cond (ltb (length out) (length w)) out (over w out)) out
 
-unfoldable pub putAnswer : List ℕ → List ℕ → List ℕ → List ℕ → List ℕ → Put
-putAnswer nonce digest cipher seal out = written (fitting nonce digest cipher seal) (body nonce digest cipher seal) out
+unfoldable pub putAnswer : Own → List ℕ → List ℕ → List ℕ → List ℕ → Put
+putAnswer own digest cipher seal out = written (fitting own digest cipher seal) (body own digest cipher seal) out
 
-unfoldable pub putOut : List ℕ → List ℕ → List ℕ → List ℕ → List ℕ → List ℕ
-putOut nonce digest cipher seal out = writtenOut (fitting nonce digest cipher seal) (body nonce digest cipher seal) out
+unfoldable pub putOut : Own → List ℕ → List ℕ → List ℕ → List ℕ → List ℕ
+putOut own digest cipher seal out = writtenOut (fitting own digest cipher seal) (body own digest cipher seal) out
 
 -- the same of the associated data alone
-unfoldable pub associatedAnswer : List ℕ → List ℕ → Put
-associatedAnswer digest out = written (takes digestTag (length digest)) (associated digest) out
+unfoldable pub associatedAnswer : Edition → List ℕ → List ℕ → List ℕ → Put
+associatedAnswer e digest job out = written (fittingAssociated e digest job) (associated e digest job) out
 
-unfoldable pub associatedOut : List ℕ → List ℕ → List ℕ
-associatedOut digest out = writtenOut (takes digestTag (length digest)) (associated digest) out
+unfoldable pub associatedOut : Edition → List ℕ → List ℕ → List ℕ → List ℕ
+associatedOut e digest job out = writtenOut (fittingAssociated e digest job) (associated e digest job) out
 
 -- document 01's number of each answer ('Numbers returned')
 abbrev pub putNumber : Put → ℕ

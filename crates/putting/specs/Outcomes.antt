@@ -7,10 +7,11 @@ use lib.ListN.{length}
 use borrow.Author.Tests.{lt-ltb, le-ltb}
 use Rattle.lists.specs.Buffers.{over}
 use Rattle.putting.specs.declared.Put.the-variants.{Done, Shape, NoRoom}
-use Rattle.body.specs.Fields.{digestTag, digestLength, takes, body, associated}
-use Rattle.putting.specs.Answers.{fitting, written, writtenOut, putAnswer, putOut, associatedAnswer, associatedOut}
-use Rattle.body.specs.Lengths.{Sized, takes-digest}
-use Rattle.putting.specs.Fitting.{sized-fitting}
+use Rattle.body.specs.declared.Edition.{Edition}
+use Rattle.body.specs.Fields.{digestLength, jobSize, Own, body, associated}
+use Rattle.putting.specs.Answers.{fittingAssociated, fitting, written, writtenOut, putAnswer, putOut, associatedAnswer, associatedOut}
+use Rattle.body.specs.Lengths.{Sized}
+use Rattle.putting.specs.Fitting.{sized-associated, sized-fitting}
 
 module _ (fit : Bool) (w o : List ℕ) where
   refused : fit ≡ false → (written fit w o ≡ Shape) × (writtenOut fit w o ≡ o)
@@ -22,34 +23,36 @@ module _ (fit : Bool) (w o : List ℕ) where
   done : fit ≡ true → length w ≤ length o → (written fit w o ≡ Done (length w)) × (writtenOut fit w o ≡ over w o)
   done h l = (rw (h, le-ltb (length o) (length w) l), rw (h, le-ltb (length o) (length w) l))
 
-module _ (nonce digest cipher seal o : List ℕ) where
-  pub put-refused : fitting nonce digest cipher seal ≡ false
-      → (putAnswer nonce digest cipher seal o ≡ Shape) × (putOut nonce digest cipher seal o ≡ o)
+module _ (own : Own) (digest cipher seal o : List ℕ) where
+  pub put-refused : fitting own digest cipher seal ≡ false → (putAnswer own digest cipher seal o ≡ Shape) × (putOut own digest cipher seal o ≡ o)
   unfolding putAnswer putOut
-  put-refused h = refused (fitting nonce digest cipher seal) (body nonce digest cipher seal) o h
+  put-refused h = refused (fitting own digest cipher seal) (body own digest cipher seal) o h
 
-  pub put-small : Sized nonce digest cipher seal → length o < length (body nonce digest cipher seal)
-      → (putAnswer nonce digest cipher seal o ≡ NoRoom) × (putOut nonce digest cipher seal o ≡ o)
+  pub put-small : Sized own digest cipher seal → length o < length (body own digest cipher seal)
+      → (putAnswer own digest cipher seal o ≡ NoRoom) × (putOut own digest cipher seal o ≡ o)
   unfolding putAnswer putOut
-  put-small z l = small (fitting nonce digest cipher seal) (body nonce digest cipher seal) o (sized-fitting z) l
+  put-small z l = small (fitting own digest cipher seal) (body own digest cipher seal) o (sized-fitting z) l
 
-  pub put-done : Sized nonce digest cipher seal → length (body nonce digest cipher seal) ≤ length o
-      → (putAnswer nonce digest cipher seal o ≡ Done (length (body nonce digest cipher seal)))
-      × (putOut nonce digest cipher seal o ≡ over (body nonce digest cipher seal) o)
+  pub put-done : Sized own digest cipher seal → length (body own digest cipher seal) ≤ length o
+      → (putAnswer own digest cipher seal o ≡ Done (length (body own digest cipher seal)))
+      × (putOut own digest cipher seal o ≡ over (body own digest cipher seal) o)
   unfolding putAnswer putOut
-  put-done z l = done (fitting nonce digest cipher seal) (body nonce digest cipher seal) o (sized-fitting z) l
+  put-done z l = done (fitting own digest cipher seal) (body own digest cipher seal) o (sized-fitting z) l
 
-module _ (digest o : List ℕ) where
-  pub associated-refused : takes digestTag (length digest) ≡ false → (associatedAnswer digest o ≡ Shape) × (associatedOut digest o ≡ o)
+module _ (e : Edition) (digest job o : List ℕ) where
+  pub associated-refused : fittingAssociated e digest job ≡ false
+      → (associatedAnswer e digest job o ≡ Shape) × (associatedOut e digest job o ≡ o)
   unfolding associatedAnswer associatedOut
-  associated-refused h = refused (takes digestTag (length digest)) (associated digest) o h
+  associated-refused h = refused (fittingAssociated e digest job) (associated e digest job) o h
 
-  pub associated-small : length digest ≡ digestLength → length o < length (associated digest)
-      → (associatedAnswer digest o ≡ NoRoom) × (associatedOut digest o ≡ o)
-  unfolding associatedAnswer associatedOut
-  associated-small e l = small (takes digestTag (length digest)) (associated digest) o (takes-digest (length digest) e) l
+  module _ (d : length digest ≡ digestLength) (j : length job ≡ jobSize e) where
+    pub associated-small : length o < length (associated e digest job)
+        → (associatedAnswer e digest job o ≡ NoRoom) × (associatedOut e digest job o ≡ o)
+    unfolding associatedAnswer associatedOut
+    associated-small l = small (fittingAssociated e digest job) (associated e digest job) o (sized-associated e digest job d j) l
 
-  pub associated-done : length digest ≡ digestLength → length (associated digest) ≤ length o
-      → (associatedAnswer digest o ≡ Done (length (associated digest))) × (associatedOut digest o ≡ over (associated digest) o)
-  unfolding associatedAnswer associatedOut
-  associated-done e l = done (takes digestTag (length digest)) (associated digest) o (takes-digest (length digest) e) l
+    pub associated-done : length (associated e digest job) ≤ length o
+        → (associatedAnswer e digest job o ≡ Done (length (associated e digest job)))
+        × (associatedOut e digest job o ≡ over (associated e digest job) o)
+    unfolding associatedAnswer associatedOut
+    associated-done l = done (fittingAssociated e digest job) (associated e digest job) o (sized-associated e digest job d j) l

@@ -21,8 +21,8 @@ const ESCAPED_MARK: u8 = 0x5E;
 // What stands for the escape byte inside an escape (document 01).
 const ESCAPED_ESCAPE: u8 = 0x5D;
 
-// The longest stretch that is judged (document 01, number 7).
-pub const LONGEST_STRETCH: usize = 274;
+// The longest stretch that is judged (document 01, number 7: 274; order W6: 288 for every reader).
+pub const LONGEST_STRETCH: usize = 288;
 
 // What a stretch's bytes come to.
 pub enum Unstuffed {

@@ -2,7 +2,7 @@
 use native.Mathlib.Omega.{arith}
 use borrow.Author.Tests.{ne-eqb, le-leb, lt-leb}
 use Rattle.line.specs.Lines.{longest}
-use Rattle.body.specs.Fields.{nonceTag, digestTag, cipherTag, sealTag, shortest, takes}
+use Rattle.body.specs.Fields.{nonceTag, digestTag, cipherTag, sealTag, jobTag, shortest, takes}
 use Rattle.body.proofs.rule_takes.Statement.{statement}
 use Rattle.body.proofs.rule_takes.Tie as tie
 
@@ -42,14 +42,19 @@ returns-6 c = rw (c .match .keys4)
 
 returns-7 : tie.Need-returns-7
 unfolding takes
-returns-7 c =
+returns-7 c = rw (c .match .keys5)
+
+returns-8 : tie.Need-returns-8
+unfolding takes
+returns-8 c =
     rw (
-      ne-eqb (c .before .args .tag) nonceTag (c .match .rest .0 .0 .0 .1),
-      ne-eqb (c .before .args .tag) digestTag (c .match .rest .0 .0 .1),
-      ne-eqb (c .before .args .tag) cipherTag (c .match .rest .0 .1),
-      ne-eqb (c .before .args .tag) sealTag (c .match .rest .1),
+      ne-eqb (c .before .args .tag) nonceTag (c .match .rest .0 .0 .0 .0 .1),
+      ne-eqb (c .before .args .tag) digestTag (c .match .rest .0 .0 .0 .1),
+      ne-eqb (c .before .args .tag) cipherTag (c .match .rest .0 .0 .1),
+      ne-eqb (c .before .args .tag) sealTag (c .match .rest .0 .1),
+      ne-eqb (c .before .args .tag) jobTag (c .match .rest .1),
     )
 
 pub rule-takes-spec : {M : Type 1} → statement M
 rule-takes-spec =
-    tie.close (tie.spec returns returns-2 returns-3 returns-4 returns-5 returns-6 returns-7)
+    tie.close (tie.spec returns returns-2 returns-3 returns-4 returns-5 returns-6 returns-7 returns-8)
