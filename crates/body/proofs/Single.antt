@@ -1,4 +1,4 @@
--- The promises of `rule_takes`, `job_field_length` and `judge_body`, as the check reads them (`Post`), admit a single answer. Assumes nothing.
+-- The promises of `rule_takes`, `job_size`, `job_field_length` and `judge_body`, as the check reads them (`Post`), admit a single answer. Assumes nothing.
 use mathlib.Core.Path.{_≡_, sym, _∙_}
 use mathlib.Core.Bool.{Bool}
 use Prim.Native.Nat.{ℕ}
@@ -8,6 +8,8 @@ use borrow.Fn.Kinds.{Dens, endedOf}
 use Rattle.body.specs.declared.Judged.{Judged}
 use Rattle.body.proofs.rule_takes.Kinds as rule-kinds
 use Rattle.body.proofs.rule_takes.Reads as rule-reads
+use Rattle.body.proofs.job_size.Kinds as size-kinds
+use Rattle.body.proofs.job_size.Reads as size-reads
 use Rattle.body.proofs.job_field_length.Kinds as length-kinds
 use Rattle.body.proofs.job_field_length.Reads as length-reads
 use Rattle.body.proofs.judge_body.Kinds as judge-kinds
@@ -16,6 +18,10 @@ use Rattle.body.proofs.judge_body.Reads as judge-reads
 pub rule-takes-single : (κs : Lfts 0) (a : Dens κs rule-kinds.ps) (r r′ : Bool) (x x′ : AtExit (endedOf 0 rule-kinds.ps rule-kinds.r) κs)
     → rule-reads.Post κs a r x → rule-reads.Post κs a r′ x′ → r ≡ r′
 rule-takes-single κs a r r′ x x′ p q = p ∙ sym q
+
+pub job-size-single : (κs : Lfts 0) (a : Dens κs size-kinds.ps) (r r′ : ℕ) (x x′ : AtExit (endedOf 0 size-kinds.ps size-kinds.r) κs)
+    → size-reads.Post κs a r x → size-reads.Post κs a r′ x′ → r ≡ r′
+job-size-single κs a r r′ x x′ p q = p ∙ sym q
 
 pub job-field-length-single : (κs : Lfts 0) (a : Dens κs length-kinds.ps) (r r′ : ℕ) (x x′ : AtExit (endedOf 0 length-kinds.ps length-kinds.r) κs)
     → length-reads.Post κs a r x → length-reads.Post κs a r′ x′ → r ≡ r′

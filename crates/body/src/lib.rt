@@ -4,7 +4,7 @@ ghost use mathlib.Core.Path.{_≡_};
 ghost use Prim.Native.Nat.{_+_, _*_, _≤_};
 ghost use mathlib.Core.List.{[]};
 ghost use lib.ListN.{length, drop};
-ghost use Rattle.body.specs.Fields.{highByte, takes, ownOf, afterJob, fieldsOf};
+ghost use Rattle.body.specs.Fields.{highByte, takes, jobSize, ownOf, afterJob, fieldsOf};
 ghost use Rattle.body.specs.Lengths.{jobFieldLength};
 ghost use Rattle.body.specs.Answers.{Found, judged};
 
@@ -88,6 +88,16 @@ pub fn rule_takes(tag: u8, n: usize) -> bool
         SEAL_TAG => n == SEAL_LENGTH,
         JOB_TAG => n == JOB_LENGTH,
         _ => false,
+    }
+}
+
+// How long a job is: edition one has none.
+pub fn job_size(edition: Edition) -> usize
+    ensures { λ r. ⌜ r ≡ jobSize edition ⌝ }
+{
+    match edition {
+        Edition::One => 0,
+        Edition::Two => JOB_LENGTH,
     }
 }
 

@@ -7,6 +7,7 @@ use lib.ListN.{length, take}
 use Rattle.lists.specs.Buffers.{over}
 use Rattle.lists.specs.Over.{take-over}
 use Rattle.line.specs.Lines.{lineRule}
+use Rattle.body.specs.Fields.{Own}
 use Rattle.body.specs.Lengths.{besideCipher}
 use Rattle.line.specs.declared.Judged.the-variants.{Accepted}
 use Rattle.frame.specs.Outcomes.{write-done}
@@ -20,19 +21,20 @@ use Rattle.frame.specs.Answers.{WriteCall, framedCall, writeCall}
 pub met : {x : WriteCall} {r : Written} {o : List ℕ} → x ≡ record { answer = r; frame = o } → (r ≡ x .answer) × (o ≡ x .frame)
 met e = (sym (ap (λ (x : WriteCall). x .answer) e), sym (ap (λ (x : WriteCall). x .frame) e))
 
-module _ {t : Told} {nonce line : List ℕ} (z : Sealable t nonce line) where
+module _ {t : Told} {own : Own} {line : List ℕ} (z : Sealable t own line) where
   -- the body is the first bytes of its scratch
-  pub scratch-holds : (o x : List ℕ) → x ≡ over (sealedBody t nonce line) o → take (besideCipher + length line - 0) x ≡ sealedBody t nonce line
-  scratch-holds o x g = rw g (take-over (sealedBody t nonce line) o (besideCipher + length line - 0) (omega (arith, length-sealed-body z)))
+  pub scratch-holds : (o x : List ℕ) → x ≡ over (sealedBody t own line) o → (n : ℕ) → n ≡ besideCipher (own .edition) + length line
+      → take (n - 0) x ≡ sealedBody t own line
+  scratch-holds o x g n e = rw g (take-over (sealedBody t own line) o (n - 0) (omega (arith, length-sealed-body z)))
 
   -- a frame's room is enough for what stuffing asks and two marks
-  pub frame-fits : (b : List ℕ) → b ≡ sealedBody t nonce line → 2 * length b + 2 ≤ frameRoom
+  pub frame-fits : (b : List ℕ) → b ≡ sealedBody t own line → 2 * length b + 2 ≤ frameRoom (own .edition)
   frame-fits b e = omega (arith, ap length e, sealed-body-lengths z)
 
   -- the frame of that body is the writer's
-  pub framed-met : (r : lineRule line ≡ Accepted) (o : List ℕ) → frameRoom ≤ length o → (b out : List ℕ) (n : ℕ)
-      → b ≡ sealedBody t nonce line → n ≡ length (framed b) → out ≡ over (framed b) o
-      → (Done n (length line + besideLine) ≡ writeCall t nonce line o .answer) × (out ≡ writeCall t nonce line o .frame)
+  pub framed-met : (r : lineRule line ≡ Accepted) (o : List ℕ) → frameRoom (own .edition) ≤ length o → (b out : List ℕ) (n k : ℕ)
+      → b ≡ sealedBody t own line → n ≡ length (framed b) → k ≡ length line + besideLine (own .edition) → out ≡ over (framed b) o
+      → (Done n k ≡ writeCall t own line o .answer) × (out ≡ writeCall t own line o .frame)
   unfolding framedCall frameOf
-  framed-met r o h b out n e l w =
-      let m = met (write-done t nonce line o z r h) in (rw (l, ← write-calls z, e) (m .0), w ∙ rw e (m .1))
+  framed-met r o h b out n k e l i w =
+      let m = met (write-done t own line o z r h) in (rw (l, i, ← write-calls z, e) (m .0), w ∙ rw e (m .1))

@@ -5,62 +5,71 @@ use Prim.Native.Nat.{ℕ, _-_, _≤_}
 use native.Mathlib.Omega.{arith}
 use lib.ListN.{length, take, drop}
 use Rattle.lists.specs.Buffers.{over}
-use Rattle.lists.specs.Over.{over-whole, take-over}
+use Rattle.lists.specs.Over.{take-over}
 use Rattle.ingage.specs.declared.Sealed.the-variants as sealed-is
 use Rattle.cipher.specs.Instances.{named, FIRST, first}
 use Rattle.ingage.specs.Answers.{SealCall, sealCall, sealNamed}
 use Rattle.ingage.specs.Naming.{seal-first}
 use Rattle.ingage.specs.Exactly.{sealed-within}
-use Rattle.body.specs.Fields.{associated}
-use Rattle.body.specs.Lengths.{associatedLength, longestBody, length-associated}
+use Rattle.body.specs.declared.Edition.the-variants.{Two}
+use Rattle.body.specs.Fields.{Own, associated}
+use Rattle.body.specs.Lengths.{associatedLength, longestBody, job-field-most, length-associated}
 use Rattle.putting.specs.Answers.{associatedOut, putOut}
 use Rattle.putting.specs.Outcomes.{associated-done, put-done}
 use Rattle.framing.specs.Told.{Told}
 use Rattle.framing.specs.Frames.{sealedLine, sealedBody}
 use Rattle.framing.specs.Lengths.{Sealable, length-cipher, sealed-sized, sealed-body-lengths}
 
-module _ {t : Told} {nonce line : List ℕ} (z : Sealable t nonce line) where
-  -- a scratch of its own length holds the associated data whole
-  pub associated-put : (o x : List ℕ) → length o ≡ associatedLength → x ≡ associatedOut (t .font) o → x ≡ associated (t .font)
-  associated-put o x e h =
-      let l = length-associated (t .font) (z .font-is) in
-      h ∙ associated-done (t .font) o (z .font-is) (omega arith) .1 ∙ over-whole (associated (t .font)) o (omega arith)
+module _ {t : Told} {own : Own} {line : List ℕ} (z : Sealable t own line) where
+  abbrev assoc : List ℕ
+  assoc = associated (own .edition) (t .font) (own .job)
+
+  length-assoc : length assoc ≡ associatedLength (own .edition)
+  length-assoc = length-associated (own .edition) (t .font) (own .job) (z .font-is) (z .job-is)
+
+  -- the first bytes of a scratch that has room for the longest are the associated data
+  pub associated-put : (o x : List ℕ) → length o ≡ associatedLength Two → x ≡ associatedOut (own .edition) (t .font) (own .job) o
+      → (n : ℕ) → n ≡ associatedLength (own .edition) → take (n - 0) (drop 0 x) ≡ assoc
+  associated-put o x e h n k =
+      let room : length assoc ≤ length o = omega (arith, length-assoc, job-field-most (own .edition)) in
+      let held : x ≡ over assoc o = h ∙ associated-done (own .edition) (t .font) (own .job) o (z .font-is) (z .job-is) room .1 in
+      rw held (take-over assoc o (n - 0) (omega (arith, length-assoc)))
 
   -- seal makes the sealed line
-  module _ (A cipher seal : List ℕ) (e : A ≡ associated (t .font)) (l : length line ≤ length cipher) (k : length seal ≡ first .seal) where
-    sealed-call : sealCall first (t .key) nonce A line cipher seal ≡ record {
-      answer = sealed-is.Done (sealedLine t nonce line .calls);
-      out = over (sealedLine t nonce line .text) cipher;
-      seal = sealedLine t nonce line .seal;
+  module _ (A cipher seal : List ℕ) (e : A ≡ assoc) (l : length line ≤ length cipher) (k : length seal ≡ first .seal) where
+    sealed-call : sealCall first (t .key) (own .nonce) A line cipher seal ≡ record {
+      answer = sealed-is.Done (sealedLine t own line .calls);
+      out = over (sealedLine t own line .text) cipher;
+      seal = sealedLine t own line .seal;
     }
     unfolding sealedLine
     sealed-call =
         rw e
-        (sealed-within first (t .key) nonce (associated (t .font)) line seal cipher (record {
+        (sealed-within first (t .key) (own .nonce) assoc line seal cipher (record {
           key-size = z .key-is;
           nonce-size = z .nonce-is;
           seal-size = k;
-          associated = omega (arith, length-associated (t .font) (z .font-is));
+          associated = omega (arith, length-assoc, job-field-most (own .edition));
           short = omega (arith, z .line-to);
           room = l;
         }))
 
-    pub sealed-text : (x : List ℕ) → x ≡ sealNamed (named FIRST) (t .key) nonce A line cipher seal .out → x ≡ over (sealedLine t nonce line .text) cipher
-    sealed-text x h = h ∙ ap (λ (w : SealCall). w .out) (seal-first (t .key) nonce A line cipher seal ∙ sealed-call)
+    pub sealed-text : (x : List ℕ) → x ≡ sealNamed (named FIRST) (t .key) (own .nonce) A line cipher seal .out → x ≡ over (sealedLine t own line .text) cipher
+    sealed-text x h = h ∙ ap (λ (w : SealCall). w .out) (seal-first (t .key) (own .nonce) A line cipher seal ∙ sealed-call)
 
-    pub sealed-seal : (x : List ℕ) → x ≡ sealNamed (named FIRST) (t .key) nonce A line cipher seal .seal → x ≡ sealedLine t nonce line .seal
-    sealed-seal x h = h ∙ ap (λ (w : SealCall). w .seal) (seal-first (t .key) nonce A line cipher seal ∙ sealed-call)
+    pub sealed-seal : (x : List ℕ) → x ≡ sealNamed (named FIRST) (t .key) (own .nonce) A line cipher seal .seal → x ≡ sealedLine t own line .seal
+    sealed-seal x h = h ∙ ap (λ (w : SealCall). w .seal) (seal-first (t .key) (own .nonce) A line cipher seal ∙ sealed-call)
 
   -- the first bytes of the scratch are the ciphertext
-  cipher-taken : (o x : List ℕ) → x ≡ over (sealedLine t nonce line .text) o → take (length line - 0) (drop 0 x) ≡ sealedLine t nonce line .text
-  cipher-taken o x e = rw e (take-over (sealedLine t nonce line .text) o (length line - 0) (omega (arith, length-cipher z)))
+  cipher-taken : (o x : List ℕ) → x ≡ over (sealedLine t own line .text) o → take (length line - 0) (drop 0 x) ≡ sealedLine t own line .text
+  cipher-taken o x e = rw e (take-over (sealedLine t own line .text) o (length line - 0) (omega (arith, length-cipher z)))
 
   -- and put_body the sealed body
-  pub body-put : (c cipher seal o x : List ℕ) → cipher ≡ over (sealedLine t nonce line .text) c → seal ≡ sealedLine t nonce line .seal
-      → longestBody ≤ length o → x ≡ putOut nonce (t .font) (take (length line - 0) (drop 0 cipher)) seal o → x ≡ over (sealedBody t nonce line) o
+  pub body-put : (c cipher seal o x : List ℕ) → cipher ≡ over (sealedLine t own line .text) c → seal ≡ sealedLine t own line .seal
+      → longestBody Two ≤ length o → x ≡ putOut own (t .font) (take (length line - 0) (drop 0 cipher)) seal o → x ≡ over (sealedBody t own line) o
   unfolding sealedBody
   body-put c cipher seal o x e s l h =
       h
       ∙ rw (cipher-taken c cipher e, s)
-      (put-done nonce (t .font) (sealedLine t nonce line .text) (sealedLine t nonce line .seal) o (sealed-sized z)
-      (omega (arith, sealed-body-lengths z)) .1)
+      (put-done own (t .font) (sealedLine t own line .text) (sealedLine t own line .seal) o (sealed-sized z)
+      (omega (arith, sealed-body-lengths z, job-field-most (own .edition))) .1)

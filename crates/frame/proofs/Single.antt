@@ -1,4 +1,4 @@
--- The promise of `write`, as the check reads it (`Post`), admits a single answer. Assumes nothing.
+-- The promises of `write` and `write_two`, as the check reads them (`Post`), admit a single answer. Assumes nothing.
 use mathlib.Core.Path.{_≡_, sym, _∙_}
 use contract.Lifetimes.{Lfts}
 use denote.Triple.Clauses.{AtExit}
@@ -6,7 +6,13 @@ use borrow.Fn.Kinds.{Dens, endedOf}
 use Rattle.frame.specs.declared.Written.{Written}
 use Rattle.frame.proofs.write.Kinds as write-kinds
 use Rattle.frame.proofs.write.Reads as write-reads
+use Rattle.frame.proofs.write_two.Kinds as two-kinds
+use Rattle.frame.proofs.write_two.Reads as two-reads
 
 pub write-single : (κs : Lfts 5) (a : Dens κs write-kinds.ps) (r r′ : Written) (x x′ : AtExit (endedOf 5 write-kinds.ps write-kinds.r) κs)
     → write-reads.Post κs a r x → write-reads.Post κs a r′ x′ → (r ≡ r′) × (x .1 .1 .1 .1 .0 .now ≡ x′ .1 .1 .1 .1 .0 .now)
 write-single κs a r r′ x x′ p q = (p .0 ∙ sym (q .0), p .1 ∙ sym (q .1))
+
+pub write-two-single : (κs : Lfts 6) (a : Dens κs two-kinds.ps) (r r′ : Written) (x x′ : AtExit (endedOf 6 two-kinds.ps two-kinds.r) κs)
+    → two-reads.Post κs a r x → two-reads.Post κs a r′ x′ → (r ≡ r′) × (x .1 .1 .1 .1 .1 .0 .now ≡ x′ .1 .1 .1 .1 .1 .0 .now)
+write-two-single κs a r r′ x x′ p q = (p .0 ∙ sym (q .0), p .1 ∙ sym (q .1))

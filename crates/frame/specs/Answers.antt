@@ -1,4 +1,4 @@
--- What `write` answers, and what the lent buffer then holds: document 01's order of refusals, with order W2's behind 9
+-- What a writer of either edition answers, and what the lent buffer then holds: document 01's order of refusals, with order W2's behind 9
 -- (2, 3, 9, 13, 4), one line each. Assumes nothing: these are definitions.
 use mathlib.Core.Bool.{Bool, false, not, cond}
 use mathlib.Core.List.{List}
@@ -9,17 +9,21 @@ use Rattle.lists.specs.Buffers.{over}
 use Rattle.line.specs.Lines.{longest, lineRule}
 use Rattle.line.specs.declared.Judged.{Judged}
 use Rattle.line.specs.declared.Judged.the-variants as line-is
-use Rattle.body.specs.Fields.{nonceLength, digestLength, shortest}
+use Rattle.body.specs.declared.Edition.{Edition}
+use Rattle.body.specs.Fields.{nonceLength, digestLength, shortest, jobSize, Own}
 use Rattle.frame.specs.declared.Written.{Written}
 use Rattle.frame.specs.declared.Written.the-variants as written-is
 use Rattle.framing.specs.Told.{Told, keyLength}
 use Rattle.framing.specs.Frames.{sealedLine, frameOf}
 use Rattle.framing.specs.Lengths.{frameRoom}
 
--- number 2: key, nonce and font digest of 16, 12 and 32 bytes
-unfoldable pub sizesRight : Told → List ℕ → Bool
-sizesRight t nonce =
-    cond (eqb (length (t .key)) keyLength) (cond (eqb (length nonce) nonceLength) (eqb (length (t .font)) digestLength) false) false
+-- number 2: key, nonce and font digest of 16, 12 and 32 bytes, in edition two a job of 4
+unfoldable pub sizesRight : Told → Own → Bool
+sizesRight t own =
+    cond (eqb (length (t .key)) keyLength)
+    (cond (eqb (length (own .nonce)) nonceLength)
+    (cond (eqb (length (own .job)) (jobSize (own .edition)))
+    (eqb (length (t .font)) digestLength) false) false) false
 
 -- number 3: a line of 1 to 65 bytes
 unfoldable pub lengthRight : List ℕ → Bool
@@ -41,21 +45,21 @@ byRule line-is.Unlisted go frame = refused written-is.Unlisted frame
 byRule line-is.Trade go frame = refused written-is.Trade frame
 
 -- number 4
-abbrev pub byRoom : List ℕ → WriteCall → WriteCall
-byRoom frame go = cond (ltb (length frame) frameRoom) (refused written-is.NoRoom frame) go
+abbrev pub byRoom : Edition → List ℕ → WriteCall → WriteCall
+byRoom e frame go = cond (ltb (length frame) (frameRoom e)) (refused written-is.NoRoom frame) go
 
 -- the frame over the start of the buffer, its length and the calls of the permutation
-unfoldable pub framedCall : Told → List ℕ → List ℕ → List ℕ → WriteCall
-framedCall t nonce line frame = record {
-  answer = written-is.Done (length (frameOf t nonce line)) (sealedLine t nonce line .calls);
-  frame = over (frameOf t nonce line) frame;
+unfoldable pub framedCall : Told → Own → List ℕ → List ℕ → WriteCall
+framedCall t own line frame = record {
+  answer = written-is.Done (length (frameOf t own line)) (sealedLine t own line .calls);
+  frame = over (frameOf t own line) frame;
 }
 
-unfoldable pub writeCall : Told → List ℕ → List ℕ → List ℕ → WriteCall
-writeCall t nonce line frame =
-    cond (not (sizesRight t nonce)) (refused written-is.Sizes frame)
+unfoldable pub writeCall : Told → Own → List ℕ → List ℕ → WriteCall
+writeCall t own line frame =
+    cond (not (sizesRight t own)) (refused written-is.Sizes frame)
     (cond (not (lengthRight line)) (refused written-is.TooLong frame)
-    (byRule (lineRule line) (byRoom frame (framedCall t nonce line frame)) frame))
+    (byRule (lineRule line) (byRoom (own .edition) frame (framedCall t own line frame)) frame))
 
 -- the number of each answer (document 01, 'Numbers returned'; order W2)
 abbrev pub numberOf : Written → ℕ

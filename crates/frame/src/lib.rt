@@ -1,14 +1,20 @@
-// The writer (document 01, 'A frame and a stream'): a line sealed, put in a body, stuffed and set between two marks.
+// The writer (document 01, 'A frame and a stream', and order W6): a line sealed, put in a body, stuffed and set between two marks.
 // The promise cites specs/Answers.antt; the paper's words stand in framing/specs/Frames.antt.
 ghost use mathlib.Core.Path.{_≡_};
 ghost use Prim.Native.Nat.{_+_, _*_, _≤_};
 ghost use lib.ListN.{length, replicate};
 ghost use Rattle.lists.specs.Buffers.{over};
+ghost use mathlib.Core.List.{[]};
+ghost use Rattle.body.specs.Fields.{ownOf};
 ghost use Rattle.body.specs.Lengths.{longestBody};
+ghost use Rattle.body.specs.declared.Edition.the-variants.{One, Two};
 ghost use Rattle.framing.specs.Told.{told};
 ghost use Rattle.framing.specs.Frames.{sealedBody, framed};
 ghost use Rattle.framing.specs.Lengths.{Sealable};
 ghost use Rattle.frame.specs.Answers.{sizesRight, lengthRight, writeCall};
+use body::Edition;
+use body::job_field_length;
+use body::job_size;
 use line::Judged;
 use stuffing::MARK;
 use stuffing::Stuffed;
@@ -19,17 +25,20 @@ pub const KEY_LENGTH: usize = 16;
 // The instance of InGAGE by which frames are sealed (document 01, 'What is supplied').
 pub const INSTANCE: usize = 1;
 
-// The room that a frame asks for, whatever its own length (document 01, number 4).
+// The room that a frame asks for, whatever its own length (document 01, number 4); in edition two twice what field 05 has is added (order W6).
 pub const FRAME_ROOM: usize = 276;
 
-// What writer and reader count beside one call for each byte of the line (document 01, 'Numbers returned').
+pub const FRAME_ROOM_TWO: usize = FRAME_ROOM + 2 * (body::HEAD_LENGTH + body::JOB_LENGTH);
+
+// What the writer counts beside one call for each byte of the line (document 01, 'Numbers returned'); in edition two as many as field 05 has
+// bytes are added (order W6).
 pub const BESIDE_LINE: usize = 39;
 
 // What writing a frame comes to.
 pub enum Written {
     // The frame's length, and the calls of the permutation.
     Done { length: usize, calls: usize },
-    // Key, nonce or font digest not of its size.
+    // Key, nonce, font digest or, in edition two, job not of its size.
     Sizes,
     // A line not of 1 to 65 bytes.
     TooLong,
@@ -37,18 +46,21 @@ pub enum Written {
     Unlisted,
     // A line of listed bytes that is not the trade's.
     Trade,
-    // A buffer of fewer than FRAME_ROOM bytes.
+    // A buffer with too little room for a frame.
     NoRoom,
 }
 
-// Whether key, nonce and font digest have their sizes.
-fn sizes_right(key: &[u8], nonce: &[u8], font: &[u8]) -> bool
-    ensures { λ r. ⌜ r ≡ sizesRight (told (now (key .entry)) (now (font .entry))) (now (nonce .entry)) ⌝ }
+// Whether key, nonce, font digest and, in edition two, job have their sizes.
+fn sizes_right(edition: Edition, key: &[u8], nonce: &[u8], font: &[u8], job: &[u8]) -> bool
+    ensures { λ r. ⌜ r ≡ sizesRight (told (now (key .entry)) (now (font .entry))) (ownOf edition (now (nonce .entry)) (now (job .entry))) ⌝ }
 {
     if key.len() != KEY_LENGTH {
         return false;
     }
     if nonce.len() != body::NONCE_LENGTH {
+        return false;
+    }
+    if job.len() != job_size(edition) {
         return false;
     }
     font.len() == body::DIGEST_LENGTH
@@ -67,17 +79,33 @@ fn length_right(line: &[u8]) -> bool
 
 // The body of the sealed line, from the start of a scratch that has room for the longest.
 // With these sizes, lengths and room none of the calls refuses, so their answers say nothing that is not known.
-fn sealed_body(key: &[u8], nonce: &[u8], font: &[u8], line: &[u8]) -> [u8; body::LONGEST_BODY]
-    requires { ⌜ Sealable (told (now key) (now font)) (now nonce) (now line) ⌝ }
-    ensures { λ r. ⌜ r ≡ over (sealedBody (told (now (key .entry)) (now (font .entry))) (now (nonce .entry)) (now (line .entry))) (replicate longestBody 0) ⌝ }
+fn sealed_body(
+    edition: Edition,
+    key: &[u8],
+    nonce: &[u8],
+    font: &[u8],
+    job: &[u8],
+    line: &[u8],
+) -> [u8; body::LONGEST_BODY]
+    requires { ⌜ Sealable (told (now key) (now font)) (ownOf edition (now nonce) (now job)) (now line) ⌝ }
+    ensures { λ r. ⌜ r ≡ over (sealedBody (told (now (key .entry)) (now (font .entry))) (ownOf edition (now (nonce .entry)) (now (job .entry))) (now (line .entry))) (replicate (longestBody Two) 0) ⌝ }
 {
-    let mut assoc = [0u8; body::ASSOCIATED_LENGTH];
-    putting::put_associated(font, &mut assoc);
+    let mut assoc = [0u8; body::LONGEST_ASSOCIATED];
+    putting::put_associated(edition, font, job, &mut assoc);
+    let length = body::ASSOCIATED_LENGTH + job_field_length(edition);
     let mut cipher = [0u8; body::LONGEST_LINE];
     let mut seal = [0u8; body::SEAL_LENGTH];
-    ingage::seal(INSTANCE, key, nonce, &assoc, line, &mut cipher, &mut seal);
+    ingage::seal(INSTANCE, key, nonce, &assoc[0..length], line, &mut cipher, &mut seal);
     let mut out = [0u8; body::LONGEST_BODY];
-    putting::put_body(nonce, font, &cipher[0..line.len()], &seal, &mut out);
+    putting::put_body(
+        edition,
+        nonce,
+        font,
+        job,
+        &cipher[0..line.len()],
+        &seal,
+        &mut out,
+    );
     out
 }
 
@@ -96,13 +124,20 @@ fn put_frame(body: &[u8], out: &mut [u8]) -> usize
     n + 2
 }
 
-// Seals the line under the key and the nonce, for the font, and writes its frame to the start of frame; the rest of it stays.
-// A refusal writes nothing.
-pub fn write(key: &[u8], nonce: &[u8], font: &[u8], line: &[u8], frame: &mut [u8]) -> Written
-    ensures { λ r. ⌜ r ≡ writeCall (told (now (key .entry)) (now (font .entry))) (now (nonce .entry)) (now (line .entry)) (now (frame .entry)) .answer ⌝ }
-    ensures { λ _. ⌜ now (frame .exit) ≡ writeCall (told (now (key .entry)) (now (font .entry))) (now (nonce .entry)) (now (line .entry)) (now (frame .entry)) .frame ⌝ }
+// The frame of an edition, whose job is empty in edition one.
+fn write_edition(
+    edition: Edition,
+    key: &[u8],
+    nonce: &[u8],
+    font: &[u8],
+    job: &[u8],
+    line: &[u8],
+    frame: &mut [u8],
+) -> Written
+    ensures { λ r. ⌜ r ≡ writeCall (told (now (key .entry)) (now (font .entry))) (ownOf edition (now (nonce .entry)) (now (job .entry))) (now (line .entry)) (now (frame .entry)) .answer ⌝ }
+    ensures { λ _. ⌜ now (frame .exit) ≡ writeCall (told (now (key .entry)) (now (font .entry))) (ownOf edition (now (nonce .entry)) (now (job .entry))) (now (line .entry)) (now (frame .entry)) .frame ⌝ }
 {
-    if !sizes_right(key, nonce, font) {
+    if !sizes_right(edition, key, nonce, font, job) {
         return Written::Sizes;
     }
     if !length_right(line) {
@@ -113,12 +148,38 @@ pub fn write(key: &[u8], nonce: &[u8], font: &[u8], line: &[u8], frame: &mut [u8
         Judged::Trade => return Written::Trade,
         Judged::Accepted => {}
     }
-    if frame.len() < FRAME_ROOM {
+    let more = job_field_length(edition);
+    if frame.len() < FRAME_ROOM + 2 * more {
         return Written::NoRoom;
     }
-    let scratch = sealed_body(key, nonce, font, line);
+    let scratch = sealed_body(edition, key, nonce, font, job, line);
     Written::Done {
-        length: put_frame(&scratch[0..body::BESIDE_CIPHER + line.len()], frame),
-        calls: line.len() + BESIDE_LINE,
+        length: put_frame(&scratch[0..body::BESIDE_CIPHER + more + line.len()], frame),
+        calls: line.len() + BESIDE_LINE + more,
     }
+}
+
+// Seals the line under the key and the nonce, for the font, and writes its frame of edition one to the start of frame; the rest of it stays.
+// A refusal writes nothing.
+pub fn write(key: &[u8], nonce: &[u8], font: &[u8], line: &[u8], frame: &mut [u8]) -> Written
+    ensures { λ r. ⌜ r ≡ writeCall (told (now (key .entry)) (now (font .entry))) (ownOf One (now (nonce .entry)) []) (now (line .entry)) (now (frame .entry)) .answer ⌝ }
+    ensures { λ _. ⌜ now (frame .exit) ≡ writeCall (told (now (key .entry)) (now (font .entry))) (ownOf One (now (nonce .entry)) []) (now (line .entry)) (now (frame .entry)) .frame ⌝ }
+{
+    let none = [0u8; 0];
+    write_edition(Edition::One, key, nonce, font, &none, line, frame)
+}
+
+// The same in edition two, with the job.
+pub fn write_two(
+    key: &[u8],
+    nonce: &[u8],
+    font: &[u8],
+    job: &[u8],
+    line: &[u8],
+    frame: &mut [u8],
+) -> Written
+    ensures { λ r. ⌜ r ≡ writeCall (told (now (key .entry)) (now (font .entry))) (ownOf Two (now (nonce .entry)) (now (job .entry))) (now (line .entry)) (now (frame .entry)) .answer ⌝ }
+    ensures { λ _. ⌜ now (frame .exit) ≡ writeCall (told (now (key .entry)) (now (font .entry))) (ownOf Two (now (nonce .entry)) (now (job .entry))) (now (line .entry)) (now (frame .entry)) .frame ⌝ }
+{
+    write_edition(Edition::Two, key, nonce, font, job, line, frame)
 }

@@ -2,60 +2,72 @@
 -- Assumes nothing.
 use mathlib.Core.Path.{_≡_, refl}
 use mathlib.Core.List.{List}
-use Prim.Native.Nat.{ℕ}
+use Prim.Native.Nat.{ℕ, _+_, _-_}
 use native.Mathlib.Omega.{arith}
-use lib.ListN.{replicate}
+use lib.ListN.{replicate, take, drop}
 use borrow.Author.Needs.{needs}
 use Rattle.lists.specs.Buffers.{over}
 use Rattle.line.specs.Lines.{longest}
 use Rattle.cipher.specs.Cipher.{Work}
-use Rattle.body.specs.Fields.{sealLength, associated}
-use Rattle.body.specs.Lengths.{longestBody}
+use Rattle.body.specs.declared.Edition.the-variants.{One, Two}
+use Rattle.body.specs.Fields.{sealLength, Own, ownOf, associated}
+use Rattle.body.specs.Lengths.{associatedLength, longestBody, job-field-most}
 use Rattle.framing.specs.Told.{Told, told}
 use Rattle.framing.specs.Frames.{sealedBody, sealedLine}
 use Rattle.frame.proofs.Sealing.{associated-put, sealed-text, sealed-seal, body-put}
 use Rattle.frame.proofs.sealed_body.Statement.{statement}
 use Rattle.frame.proofs.sealed_body.Tie as tie
 
--- the start, and what is told there
+-- the start, and what is told there and the frame's own
 abbrev start : tie.After-put-associated → tie.Start
-start c = c .before .before .before .before .before .before
+start c = c .before .before .before .before .before .before .before
 
 abbrev asked : tie.Start → Told
 asked s = told (s .args .key .now) (s .args .font .now)
 
-abbrev earlier : tie.After-seal2 → tie.After-put-associated
-earlier c = c .before .before .before .before .before
+abbrev own : tie.Start → Own
+own s = ownOf (s .args .edition) (s .args .nonce .now) (s .args .job .now)
+
+abbrev measured : tie.After-seal2 → tie.After-job-field-length
+measured c = c .before .before .before .before .before
+
+abbrev earlier : tie.After-job-field-length → tie.After-put-associated
+earlier c = c .before .before
 
 abbrev first-part : tie.After-put-body → tie.After-seal2
 first-part c = c .before .before .before .before .before .before .before
 
 -- the sealed line of what was asked, and its body
 abbrev lineOf : tie.Start → Work
-lineOf s = sealedLine (asked s) (s .args .nonce .now) (s .args .line .now)
+lineOf s = sealedLine (asked s) (own s) (s .args .line .now)
 
 abbrev bodyOf : tie.Start → List ℕ
-bodyOf s = sealedBody (asked s) (s .args .nonce .now) (s .args .line .now)
+bodyOf s = sealedBody (asked s) (own s) (s .args .line .now)
 
 -- what each call leaves
-associated-is : (c : tie.After-put-associated) → c .put-associated .last .1 .0 ≡ associated (start c .args .font .now)
-associated-is c = associated-put (start c .pre) _ _ refl (c .put-associated .ensures .1)
+associated-is : (c : tie.After-job-field-length) →
+    let s = start (earlier c) in
+    take (associatedLength One + c .job-field-length .result - 0) (drop 0 (earlier c .put-associated .last .1 .1 .1 .0))
+    ≡ associated (s .args .edition) (s .args .font .now) (s .args .job .now)
+associated-is c =
+    associated-put (start (earlier c) .pre) _ _ refl (earlier c .put-associated .ensures .1) (associatedLength One + c .job-field-length .result)
+    (omega (arith, c .job-field-length .ensures))
 
-cipher-is : (c : tie.After-seal2) → c .seal2 .last .1 .1 .1 .1 .1 .0 ≡ over (lineOf (start (earlier c)) .text) (replicate longest 0)
+cipher-is : (c : tie.After-seal2) → c .seal2 .last .1 .1 .1 .1 .1 .0 ≡ over (lineOf (start (earlier (measured c))) .text) (replicate longest 0)
 cipher-is c =
-    let z = start (earlier c) .pre in
-    sealed-text z _ (replicate longest 0) (replicate sealLength 0) (associated-is (earlier c)) (z .line-to) refl _ (c .seal2 .ensures .1 .0)
+    let z = start (earlier (measured c)) .pre in
+    sealed-text z _ (replicate longest 0) (replicate sealLength 0) (associated-is (measured c)) (z .line-to) refl _ (c .seal2 .ensures .1 .0)
 
-seal-is : (c : tie.After-seal2) → c .seal2 .last .1 .1 .1 .1 .1 .1 .0 ≡ lineOf (start (earlier c)) .seal
+seal-is : (c : tie.After-seal2) → c .seal2 .last .1 .1 .1 .1 .1 .1 .0 ≡ lineOf (start (earlier (measured c))) .seal
 seal-is c =
-    let z = start (earlier c) .pre in
-    sealed-seal z _ (replicate longest 0) (replicate sealLength 0) (associated-is (earlier c)) (z .line-to) refl _ (c .seal2 .ensures .1 .1)
+    let z = start (earlier (measured c)) .pre in
+    sealed-seal z _ (replicate longest 0) (replicate sealLength 0) (associated-is (measured c)) (z .line-to) refl _ (c .seal2 .ensures .1 .1)
 
 body-is : (c : tie.After-put-body) →
-    c .put-body .last .1 .1 .1 .1 .0 ≡ over (bodyOf (start (earlier (first-part c)))) (replicate longestBody 0)
+    c .put-body .last .1 .1 .1 .1 .1 .1 .0 ≡ over (bodyOf (start (earlier (measured (first-part c))))) (replicate (longestBody Two) 0)
 body-is c =
     let f = first-part c in
-    body-put (start (earlier f) .pre) (replicate longest 0) _ _ (replicate longestBody 0) _ (cipher-is f) (seal-is f) (omega arith) (c .put-body .ensures .1)
+    body-put (start (earlier (measured f)) .pre) (replicate longest 0) _ _ (replicate (longestBody Two) 0) _ (cipher-is f) (seal-is f) (omega arith) (c .put-body .ensures .1)
 
 slice-aggregate-put-associated : tie.Need-slice-aggregate-put-associated
 slice-aggregate-put-associated c = search needs
@@ -63,14 +75,26 @@ slice-aggregate-put-associated c = search needs
 put-associated-requires : tie.Need-put-associated-requires
 put-associated-requires c κs = search needs
 
+job-field-length-requires : tie.Need-job-field-length-requires
+job-field-length-requires c κs = search needs
+
+add-length : tie.Need-add-length
+add-length c = omega (arith, c .job-field-length .ensures, job-field-most (start (earlier c) .args .edition))
+
+sub-seal : tie.Need-sub-seal
+sub-seal c = search needs
+
+part-seal-start : tie.Need-part-seal-start
+part-seal-start c = search needs
+
+part-seal-end : tie.Need-part-seal-end
+part-seal-end c = let d = c .before in omega (arith, d .job-field-length .ensures, job-field-most (start (earlier d) .args .edition))
+
 slice-aggregate-seal : tie.Need-slice-aggregate-seal
 slice-aggregate-seal c = search needs
 
 slice-aggregate-seal-2 : tie.Need-slice-aggregate-seal-2
 slice-aggregate-seal-2 c = search needs
-
-slice-aggregate-seal-3 : tie.Need-slice-aggregate-seal-3
-slice-aggregate-seal-3 c = search needs
 
 seal-requires : tie.Need-seal-requires
 seal-requires c κs = search needs
@@ -102,9 +126,13 @@ sealed-body-spec =
     (tie.spec
     slice-aggregate-put-associated
     put-associated-requires
+    job-field-length-requires
+    add-length
+    sub-seal
+    part-seal-start
+    part-seal-end
     slice-aggregate-seal
     slice-aggregate-seal-2
-    slice-aggregate-seal-3
     seal-requires
     sub-put-body
     part-put-body-start

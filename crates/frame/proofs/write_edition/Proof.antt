@@ -1,4 +1,4 @@
--- `write` meets its promise: document 01's refusals in their order, then the sealed body and its frame. Assumes nothing.
+-- `write_edition` meets its promise: the refusals in their order, then the sealed body and its frame. Assumes nothing.
 use mathlib.Core.Path.{_≡_, sym, _∙_}
 use mathlib.Core.List.{List}
 use Prim.Native.Nat.{ℕ, _+_, _-_}
@@ -11,23 +11,28 @@ use Rattle.frame.proofs.Answering.{met, scratch-holds, frame-fits, fram
 use Rattle.framing.specs.Lengths.{Sealable}
 use Rattle.framing.specs.Frames.{sealedBody}
 use Rattle.line.specs.declared.Judged.the-variants as line-is
-use Rattle.body.specs.Lengths.{besideCipher}
+use Rattle.body.specs.declared.Edition.the-variants.{One}
+use Rattle.body.specs.Fields.{Own, ownOf}
+use Rattle.body.specs.Lengths.{besideCipher, job-field-most}
 use Rattle.line.specs.Lines.{lineRule}
 use Rattle.framing.specs.Told.{Told, told}
-use Rattle.frame.proofs.write.Statement.{statement}
-use Rattle.frame.proofs.write.Tie as tie
+use Rattle.frame.proofs.write_edition.Statement.{statement}
+use Rattle.frame.proofs.write_edition.Tie as tie
 
--- the start, from where sizes and lengths are right, and what is told there
+-- the start, from where sizes and lengths are right, what is told there and the frame's own
 abbrev start : tie.Else2 → tie.Start
-start c = c .before .before .before .before .before .before .before .before .before
+start c = c .before .before .before .before .before .before .before .before .before .before
 
 abbrev asked : tie.Start → Told
 asked s = told (s .args .key .now) (s .args .font .now)
 
-abbrev bodyOf : tie.Start → List ℕ
-bodyOf s = sealedBody (asked s) (s .args .nonce .now) (s .args .line .now)
+abbrev own : tie.Start → Own
+own s = ownOf (s .args .edition) (s .args .nonce .now) (s .args .job .now)
 
-sealable : (c : tie.Else2) → let s = start c in Sealable (asked s) (s .args .nonce .now) (s .args .line .now)
+abbrev bodyOf : tie.Start → List ℕ
+bodyOf s = sealedBody (asked s) (own s) (s .args .line .now)
+
+sealable : (c : tie.Else2) → let s = start c in Sealable (asked s) (own s) (s .args .line .now)
 sealable c =
     right-sealable _ _ _ (sym (c .before .before .before .sizes-right .ensures) ∙ not-false _ (c .before .before .if1 .left))
     (sym (c .before .length-right .ensures) ∙ not-false _ (c .if2 .left))
@@ -35,16 +40,23 @@ sealable c =
 accepted : (c : tie.After-enum-told3) → lineRule (start (c .before .before .before) .args .line .now) ≡ line-is.Accepted
 accepted c = sym (c .before .before .judge-line .ensures) ∙ c .enum-told3 .given .1
 
--- the place where the line is known to be accepted, from behind the sealing
-abbrev earlier : tie.After-sealed-body → tie.After-enum-told3
-earlier c = c .before .before
+-- the place where the line is known to be accepted, from behind the sealing, and that where field 05 was measured
+abbrev measured : tie.After-sealed-body → tie.After-job-field-length
+measured c = c .before .before
 
-abbrev passed : tie.After-sealed-body → tie.Else2
+abbrev earlier : tie.After-job-field-length → tie.After-enum-told3
+earlier c = c .before
+
+abbrev passed : tie.After-job-field-length → tie.Else2
 passed c = earlier c .before .before .before
 
 body-is : (c : tie.After-sealed-body) →
-    let s = start (passed c) in take (besideCipher + length (s .args .line .now) - 0) (c .sealed-body .result) ≡ bodyOf s
-body-is c = scratch-holds (sealable (passed c)) _ _ (c .sealed-body .ensures)
+    let s = start (passed (measured c)) in
+    take (besideCipher One + measured c .job-field-length .result + length (s .args .line .now) - 0) (c .sealed-body .result) ≡ bodyOf s
+body-is c =
+    let s = start (passed (measured c)) in
+    scratch-holds (sealable (passed (measured c))) _ _ (c .sealed-body .ensures) (besideCipher One + measured c .job-field-length .result + length (s .args .line .now))
+    (omega (arith, measured c .job-field-length .ensures))
 
 sizes-right-requires : tie.Need-sizes-right-requires
 sizes-right-requires c κs = search needs
@@ -79,14 +91,28 @@ returns-4 c = met (write-trade _ _ _ _ (sealable (c .before .before .before)) (s
 enum-told-3 : tie.Need-enum-told-3
 enum-told-3 c = search needs
 
+job-field-length-requires : tie.Need-job-field-length-requires
+job-field-length-requires c κs = search needs
+
+mul-if3 : tie.Need-mul-if3
+mul-if3 c = omega (arith, c .job-field-length .ensures, job-field-most (start (passed c) .args .edition))
+
+add-if3 : tie.Need-add-if3
+add-if3 c = omega (arith, c .job-field-length .ensures, job-field-most (start (passed c) .args .edition))
+
 returns-5 : tie.Need-returns-5
-returns-5 c = met (write-no-room _ _ _ _ (sealable (c .before .before .before .before)) (accepted (c .before)) (omega arith))
+returns-5 c =
+    let m = c .before in
+    met (write-no-room _ _ _ _ (sealable (passed m)) (accepted (earlier m)) (omega (arith, m .job-field-length .ensures)))
 
 sealed-body-requires : tie.Need-sealed-body-requires
-sealed-body-requires c κs = sealable (c .before .before .before .before)
+sealed-body-requires c κs = sealable (passed (c .before))
 
 add-put-frame : tie.Need-add-put-frame
 add-put-frame c = search needs
+
+add-put-frame-2 : tie.Need-add-put-frame-2
+add-put-frame-2 c = search needs
 
 sub-put-frame : tie.Need-sub-put-frame
 sub-put-frame c = search needs
@@ -95,13 +121,23 @@ part-put-frame-start : tie.Need-part-put-frame-start
 part-put-frame-start c = search needs
 
 part-put-frame-end : tie.Need-part-put-frame-end
-part-put-frame-end c = omega (arith, sealable (passed (c .before)) .line-to)
+part-put-frame-end c =
+    let m = measured (c .before) in
+    omega (arith, sealable (passed m) .line-to, m .job-field-length .ensures, job-field-most (start (passed m) .args .edition))
 
 put-frame-requires : tie.Need-put-frame-requires
-put-frame-requires c κs = let d = c .before .before .before in omega (arith, frame-fits (sealable (passed d)) _ (body-is d))
+put-frame-requires c κs =
+    let d = c .before .before .before in
+    let m = measured d in
+    omega (arith, frame-fits (sealable (passed m)) _ (body-is d), m .job-field-length .ensures)
 
-add-t22 : tie.Need-add-t22
-add-t22 c = search needs
+add-t26 : tie.Need-add-t26
+add-t26 c = let m = measured (c .before .before .before .before .before .before) in omega (arith, sealable (passed m) .line-to)
+
+add-t27 : tie.Need-add-t27
+add-t27 c =
+    let m = measured (c .before .before .before .before .before .before) in
+    omega (arith, sealable (passed m) .line-to, m .job-field-length .ensures, job-field-most (start (passed m) .args .edition))
 
 same-length : tie.Need-same-length
 same-length c = search needs
@@ -109,11 +145,13 @@ same-length c = search needs
 returns-6 : tie.Need-returns-6
 returns-6 c =
     let d = c .before .before .before .before .before .before in
+    let m = measured d in
     let p = c .before .before .put-frame in
-    framed-met (sealable (passed d)) (accepted (earlier d)) _ (omega arith) _ _ _ (body-is d) (p .ensures .0) (p .ensures .1)
+    framed-met (sealable (passed m)) (accepted (earlier m)) _ (omega (arith, m .job-field-length .ensures)) _ _ _ _ (body-is d) (p .ensures .0)
+    (omega (arith, m .job-field-length .ensures)) (p .ensures .1)
 
-pub write-spec : {M : Type 1} → statement M
-write-spec =
+pub write-edition-spec : {M : Type 1} → statement M
+write-edition-spec =
     tie.close
     (tie.spec
     sizes-right-requires
@@ -126,13 +164,18 @@ write-spec =
     enum-told-2
     returns-4
     enum-told-3
+    job-field-length-requires
+    mul-if3
+    add-if3
     returns-5
     sealed-body-requires
     add-put-frame
+    add-put-frame-2
     sub-put-frame
     part-put-frame-start
     part-put-frame-end
     put-frame-requires
-    add-t22
+    add-t26
+    add-t27
     same-length
     returns-6)
