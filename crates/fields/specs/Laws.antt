@@ -142,6 +142,34 @@ module _ (takes : ℕ → ℕ → Bool) where
       → (b ≡ field tag v ++ s) × (takes tag (length v) ≡ true)
   front-short tag b v s e h = rw e at (front-says tag b (omega (arith, front-stands tag b v s e .3)))
 
+  -- a value that is found has a length that the rule takes, whatever the bytes
+  abbrev Taken : ℕ → Front → Type 0
+  Taken tag (value v r) = takes tag (length v) ≡ true
+  Taken tag no-field = Unit {0}
+
+  taken : (tag : ℕ) (s : List ℕ) → Taken tag (front takes tag s)
+  unfolding front
+  taken tag [] = tt
+  taken tag (t ∷ []) = tt
+  taken tag (t ∷ high ∷ []) = tt
+  taken tag (t ∷ high ∷ low ∷ s) = by-tag (eqb t tag) refl
+    where
+      by-length : (n : ℕ) → takes tag n ≡ true → (u : Bool) → leb n (length s) ≡ u → Taken tag (cond u (value (take n s) (drop n s)) no-field)
+      by-length n r true p = rw (length-take-le n s (leb-true n (length s) p)) r
+      by-length n r false p = tt
+
+      by-rule : t ≡ tag → (n : ℕ) (u : Bool) → takes t n ≡ u → Taken tag (cond u (valueOf n s) no-field)
+      by-rule e n true p = by-length n (rw e at p) (leb n (length s)) refl
+      by-rule e n false p = tt
+
+      by-tag : (u : Bool) → eqb t tag ≡ u
+          → Taken tag (cond u (cond (takes t (high * highByte + low)) (valueOf (high * highByte + low) s) no-field) no-field)
+      by-tag true p = by-rule (eqb-true t tag p) (high * highByte + low) (takes t (high * highByte + low)) refl
+      by-tag false p = tt
+
+  pub front-taken : (tag : ℕ) (s v r : List ℕ) → front takes tag s ≡ value v r → takes tag (length v) ≡ true
+  front-taken tag s v r e = rw e at (taken tag s)
+
 -- a field that has room is written
 pub put-fits : (o : List ℕ) (at tag : ℕ) (v : List ℕ) → at + length (field tag v) ≤ length o → length v < highByte * highByte
     → (fieldEnd o at tag v ≡ at + length (field tag v)) × (fieldOut o at tag v ≡ sets o at (field tag v))

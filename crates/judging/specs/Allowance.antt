@@ -17,7 +17,9 @@ use Rattle.line.specs.declared.Judged.the-variants.{Accepted, Unlisted, Trade}
 use Rattle.line.specs.Lines.{lineRule}
 use Rattle.cipher.specs.Instances.{first}
 use Rattle.cipher.specs.Cipher.{Work, decrypted, accepted}
-use Rattle.body.specs.Fields.{associated}
+use Rattle.body.specs.Fields.{jobSize, Own, fieldsOf, associated}
+use Rattle.body.specs.Lengths.{job-field-most}
+use Rattle.body.specs.Job.{job-sized}
 use Rattle.body.specs.OneToOne.{body-fields}
 use Rattle.framing.specs.Told.{Told}
 use Rattle.framing.specs.Lengths.{besideLine}
@@ -25,7 +27,8 @@ use Rattle.judging.specs.Sizes.{Sizes}
 use Rattle.judging.specs.Judging.{byRule, judgeSealed, judge}
 use Rattle.judging.specs.Cases.{Holds, Case, judge-holds, judge-case, too-long, bad-stuffing, no-fields, other-font, other-seal, not-listed, not-trade, given}
 use Rattle.judging.specs.Counts.{Counted, opening-calls, read-calls}
-use Rattle.judging.specs.Judged.{Judged, shape, stuffing, font, work, seal, unlisted, trade, line, numberIn, callsIn}
+use Rattle.judging.specs.Editions.{among-fields}
+use Rattle.judging.specs.Judged.{Label, labelOf, Judged, shape, stuffing, font, work, seal, unlisted, trade, line, numberIn, callsIn}
 use Rattle.judging.specs.Ceiling.{within, allWork}
 
 -- where the work is no more than is allowed, the answer is the one without a ceiling
@@ -70,79 +73,82 @@ never-over a j = go (ltb a (callsIn j)) refl
     go false e = ltb-false a (callsIn j) e
 
 -- opening takes the same work whatever it finds: 5, 9, 13 or a line
-pub sealed-work : (key nonce A cipher T : List ℕ) → callsIn (judgeSealed key nonce A cipher T) ≡ decrypted first key nonce A cipher .calls
+pub sealed-work : (k : Label) (key nonce A cipher T : List ℕ) → callsIn (judgeSealed k key nonce A cipher T) ≡ decrypted first key nonce A cipher .calls
 unfolding judgeSealed
-sealed-work key nonce A cipher T = by-seal (accepted (w .seal) T)
+sealed-work k key nonce A cipher T = by-seal (accepted (w .seal) T)
   where
     w : Work
     w = decrypted first key nonce A cipher
 
-    by-rule : (r : line-judged.Judged) → callsIn (byRule r w) ≡ w .calls
+    by-rule : (r : line-judged.Judged) → callsIn (byRule r k w) ≡ w .calls
     by-rule Accepted = refl
     by-rule Unlisted = refl
     by-rule Trade = refl
 
-    by-seal : (b : Bool) → callsIn (cond (not b) (seal (w .calls)) (byRule (lineRule (w .text)) w)) ≡ w .calls
+    by-seal : (b : Bool) → callsIn (cond (not b) (seal (w .calls)) (byRule (lineRule (w .text)) k w)) ≡ w .calls
     by-seal true = by-rule (lineRule (w .text))
     by-seal false = refl
 
-module _ (t : Told) (z : Sizes t) (s : List ℕ) (a : ℕ) where
+module _ (t : Told) (z : Sizes t) (ed : ℕ) (s : List ℕ) (a : ℕ) where
+  held : {own : Own} {digest cipher T : List ℕ} → Holds ed s own digest cipher T → length (own .job) ≡ jobSize (own .edition)
+  held h = job-sized (unstuffed s) (among-fields ed (fieldsOf (unstuffed s)) (h .1) .0)
+
   -- a stretch whose fields are right and whose font is the one asked for, and more work than is allowed: 15, whatever its seal and its line
-  pub over-allowed : (nonce cipher T : List ℕ) → Holds s nonce (t .font) cipher T → a < length cipher + besideLine → within a (judge t s) ≡ work
-  over-allowed nonce cipher T h l =
-      let sealed : judge t s ≡ judgeSealed (t .key) nonce (associated (t .font)) cipher T =
-      judge-holds t s h ∙ rw (same-refl (t .font)) in
-      let calls : callsIn (judge t s) ≡ length cipher + besideLine =
+  pub over-allowed : (own : Own) (cipher T : List ℕ) → Holds ed s own (t .font) cipher T → a < length cipher + besideLine (own .edition) → within a (judge t ed s) ≡ work
+  over-allowed own cipher T h l =
+      let sealed : judge t ed s ≡ judgeSealed (labelOf own) (t .key) (own .nonce) (associated (own .edition) (t .font) (own .job)) cipher T =
+      judge-holds t ed s h ∙ rw (same-refl (t .font)) in
+      let calls : callsIn (judge t ed s) ≡ length cipher + besideLine (own .edition) =
       ap callsIn sealed
-      ∙ sealed-work (t .key) nonce (associated (t .font)) cipher T ∙ opening-calls t z nonce cipher in
-      not-enough a (judge t s) (omega (arith, calls, l))
+      ∙ sealed-work (labelOf own) (t .key) (own .nonce) (associated (own .edition) (t .font) (own .job)) cipher T ∙ opening-calls t z own (held h) cipher in
+      not-enough a (judge t ed s) (omega (arith, calls, l))
 
   -- and 15 for no other
-  pub over-only : within a (judge t s) ≡ work
-      → (nonce cipher T : List ℕ) × Holds s nonce (t .font) cipher T × (a < length cipher + besideLine)
-  over-only e = by-calls (ltb a (callsIn (judge t s))) refl
+  pub over-only : within a (judge t ed s) ≡ work
+      → (own : Own) × (cipher T : List ℕ) × Holds ed s own (t .font) cipher T × (a < length cipher + besideLine (own .edition))
+  over-only e = by-calls (ltb a (callsIn (judge t ed s))) refl
     where
-      by-count : (j : Judged) → Counted t s j → a < callsIn j
-          → (nonce cipher T : List ℕ) × Holds s nonce (t .font) cipher T × (a < length cipher + besideLine)
+      by-count : (j : Judged) → Counted t ed s j → a < callsIn j
+          → (own : Own) × (cipher T : List ℕ) × Holds ed s own (t .font) cipher T × (a < length cipher + besideLine (own .edition))
       by-count shape c l = absurd (omega (arith, l))
       by-count stuffing c l = absurd (omega (arith, l))
       by-count font c l = absurd (omega (arith, l))
       by-count work c l = absurd (omega (arith, l))
-      by-count (seal n) (nonce, cipher, T, h, q) l = (nonce, cipher, T, h, omega (arith, q, l))
-      by-count (unlisted n) (nonce, cipher, T, h, q) l = (nonce, cipher, T, h, omega (arith, q, l))
-      by-count (trade n) (nonce, cipher, T, h, q) l = (nonce, cipher, T, h, omega (arith, q, l))
-      by-count (line x n) (nonce, cipher, T, h, q) l = (nonce, cipher, T, h, omega (arith, q, l))
+      by-count (seal n) (own, cipher, T, h, q) l = (own, cipher, T, h, omega (arith, q, l))
+      by-count (unlisted n) (own, cipher, T, h, q) l = (own, cipher, T, h, omega (arith, q, l))
+      by-count (trade n) (own, cipher, T, h, q) l = (own, cipher, T, h, omega (arith, q, l))
+      by-count (line k x n) (own, cipher, T, h, q) l = (own, cipher, T, h, omega (arith, q, l))
 
       -- without a ceiling no stretch is found to be 15
-      no-work : judge t s ≡ work → ⊥
-      no-work q = by-case (judge t s) (judge-case t s) (ap numberIn q)
+      no-work : judge t ed s ≡ work → ⊥
+      no-work q = by-case (judge t ed s) (judge-case t ed s) (ap numberIn q)
         where
-          by-case : (j : Judged) → Case t s j → numberIn j ≡ numberIn work → ⊥
+          by-case : (j : Judged) → Case t ed s j → numberIn j ≡ numberIn work → ⊥
           by-case _ (too-long h) n = omega (arith, n)
           by-case _ (bad-stuffing h m) n = omega (arith, n)
           by-case _ (no-fields g m) n = omega (arith, n)
-          by-case _ (other-font nonce digest cipher T h m) n = omega (arith, n)
-          by-case _ (other-seal nonce cipher T h m) n = omega (arith, n)
-          by-case _ (not-listed nonce cipher h m) n = omega (arith, n)
-          by-case _ (not-trade nonce cipher h m) n = omega (arith, n)
-          by-case _ (given nonce cipher h m) n = omega (arith, n)
+          by-case _ (other-font own digest cipher T h m) n = omega (arith, n)
+          by-case _ (other-seal own cipher T h m) n = omega (arith, n)
+          by-case _ (not-listed own cipher h m) n = omega (arith, n)
+          by-case _ (not-trade own cipher h m) n = omega (arith, n)
+          by-case _ (given own cipher h m) n = omega (arith, n)
 
-      by-calls : (b : Bool) → ltb a (callsIn (judge t s)) ≡ b
-          → (nonce cipher T : List ℕ) × Holds s nonce (t .font) cipher T × (a < length cipher + besideLine)
-      by-calls true l = by-count (judge t s) (read-calls t z s) (ltb-true a (callsIn (judge t s)) l)
-      by-calls false l = absurd (no-work (sym (enough-allowed a (judge t s) (ltb-false a (callsIn (judge t s)) l)) ∙ e))
+      by-calls : (b : Bool) → ltb a (callsIn (judge t ed s)) ≡ b
+          → (own : Own) × (cipher T : List ℕ) × Holds ed s own (t .font) cipher T × (a < length cipher + besideLine (own .edition))
+      by-calls true l = by-count (judge t ed s) (read-calls t z ed s) (ltb-true a (callsIn (judge t ed s)) l)
+      by-calls false l = absurd (no-work (sym (enough-allowed a (judge t ed s) (ltb-false a (callsIn (judge t ed s)) l)) ∙ e))
 
 -- with all the work allowed there is no ceiling, for any stretch of bytes
-pub all-allowed : (t : Told) → Sizes t → (s : List ℕ) → Below 256 s → (a : ℕ) → allWork ≤ a → within a (judge t s) ≡ judge t s
-all-allowed t z s bytes a h = by-work (ltb a (callsIn (judge t s))) refl
+pub all-allowed : (t : Told) → Sizes t → (ed : ℕ) (s : List ℕ) → Below 256 s → (a : ℕ) → allWork ≤ a → within a (judge t ed s) ≡ judge t ed s
+all-allowed t z ed s bytes a h = by-work (ltb a (callsIn (judge t ed s))) refl
   where
-    too-much : (nonce cipher T : List ℕ) → Holds s nonce (t .font) cipher T → a < length cipher + besideLine → ⊥
-    too-much nonce cipher T g l =
-        let y = body-fields (unstuffed s) (unstuffed-below s bytes) (g .1) .1 in
-        omega (arith, y .cipher-to, l, h)
+    too-much : (own : Own) (cipher T : List ℕ) → Holds ed s own (t .font) cipher T → a < length cipher + besideLine (own .edition) → ⊥
+    too-much own cipher T g l =
+        let y = body-fields (unstuffed s) (unstuffed-below s bytes) (among-fields ed (fieldsOf (unstuffed s)) (g .1) .0) .1 in
+        omega (arith, y .cipher-to, l, h, job-field-most (own .edition))
 
-    by-work : (b : Bool) → ltb a (callsIn (judge t s)) ≡ b → within a (judge t s) ≡ judge t s
+    by-work : (b : Bool) → ltb a (callsIn (judge t ed s)) ≡ b → within a (judge t ed s) ≡ judge t ed s
     by-work true e =
-        let (nonce, cipher, T, g, l) = over-only t z s a (not-enough a (judge t s) (ltb-true a (callsIn (judge t s)) e)) in
-        absurd (too-much nonce cipher T g l)
-    by-work false e = enough-allowed a (judge t s) (ltb-false a (callsIn (judge t s)) e)
+        let (own, cipher, T, g, l) = over-only t z ed s a (not-enough a (judge t ed s) (ltb-true a (callsIn (judge t ed s)) e)) in
+        absurd (too-much own cipher T g l)
+    by-work false e = enough-allowed a (judge t ed s) (ltb-false a (callsIn (judge t ed s)) e)

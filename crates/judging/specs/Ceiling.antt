@@ -4,6 +4,7 @@ use mathlib.Core.Bool.{cond}
 use Prim.Native.Nat.{ℕ, _+_}
 use lib.Dec.{ltb}
 use Rattle.line.specs.Lines.{longest}
+use Rattle.body.specs.declared.Edition.the-variants.{Two}
 use Rattle.framing.specs.Lengths.{besideLine}
 use Rattle.judging.specs.Judged.{Judged, work, callsIn}
 
@@ -12,6 +13,6 @@ use Rattle.judging.specs.Judged.{Judged, work, callsIn}
 unfoldable pub within : ℕ → Judged → Judged
 within allowed j = cond (ltb allowed (callsIn j)) work j
 
--- all the work that a stretch can take: that of the longest line
+-- all the work that a stretch can take: that of the longest line, in edition two
 abbrev pub allWork : ℕ
-allWork = longest + besideLine
+allWork = longest + besideLine Two

@@ -1,4 +1,4 @@
--- The count of a reading (document 01, 'Numbers returned'; order W2): 0 for 7, 6 and 8; for 5, 9, 13 and a line n + 39, n being the length
+-- The count of a reading (document 01, 'Numbers returned'; order W2): 0 for 7, 6 and 8; for 5, 9, 13 and a line n + 39 (in edition two n + 46, order W6), n being the length
 -- of the line's ciphertext. Assumes nothing.
 use mathlib.Core.Path.{_≡_, refl}
 use mathlib.Core.List.{List}
@@ -6,43 +6,54 @@ use Prim.Native.Nat.{ℕ, _+_}
 use native.Mathlib.Omega.{arith}
 use lib.ListN.{length}
 use Rattle.cipher.specs.Results.{open-calls-first}
-use Rattle.body.specs.Fields.{associated}
+use Rattle.stuffing.specs.Stuffing.{unstuffed}
+use Rattle.body.specs.Fields.{jobSize, Own, fieldsOf, associated}
 use Rattle.body.specs.Lengths.{length-associated}
+use Rattle.body.specs.Job.{job-sized}
 use Rattle.framing.specs.Told.{Told}
 use Rattle.framing.specs.Lengths.{besideLine}
 use Rattle.judging.specs.Sizes.{Sizes}
+use Rattle.judging.specs.Editions.{among-fields}
 use Rattle.judging.specs.Judged.{Judged, shape, stuffing, font, work, seal, unlisted, trade, line, callsIn}
 use Rattle.judging.specs.Judging.{judge}
 use Rattle.judging.specs.Cases.{Holds, Case, opening, judge-case, too-long, bad-stuffing, no-fields, other-font, other-seal, not-listed, not-trade, given}
 
 -- the stretch's fields hold a ciphertext, and the count is that of opening one of its length
-abbrev pub OpenedWith : Told → List ℕ → ℕ → Type 0
-OpenedWith t s calls = (nonce cipher T : List ℕ) × Holds s nonce (t .font) cipher T × (calls ≡ length cipher + besideLine)
+abbrev pub OpenedWith : Told → ℕ → List ℕ → ℕ → Type 0
+OpenedWith t ed s calls = (own : Own) × (cipher T : List ℕ) × Holds ed s own (t .font) cipher T × (calls ≡ length cipher + besideLine (own .edition))
 
 -- case by case, in the order of the numbers: 7, 6, 8, 5, 9, 13, a line
-abbrev pub Counted : Told → List ℕ → Judged → Type 0
-Counted t s shape = callsIn shape ≡ 0
-Counted t s stuffing = callsIn stuffing ≡ 0
-Counted t s font = callsIn font ≡ 0
-Counted t s work = callsIn work ≡ 0
-Counted t s (seal n) = OpenedWith t s (callsIn (seal n))
-Counted t s (unlisted n) = OpenedWith t s (callsIn (unlisted n))
-Counted t s (trade n) = OpenedWith t s (callsIn (trade n))
-Counted t s (line l n) = OpenedWith t s (callsIn (line l n))
+abbrev pub Counted : Told → ℕ → List ℕ → Judged → Type 0
+Counted t ed s shape = callsIn shape ≡ 0
+Counted t ed s stuffing = callsIn stuffing ≡ 0
+Counted t ed s font = callsIn font ≡ 0
+Counted t ed s work = callsIn work ≡ 0
+Counted t ed s (seal n) = OpenedWith t ed s (callsIn (seal n))
+Counted t ed s (unlisted n) = OpenedWith t ed s (callsIn (unlisted n))
+Counted t ed s (trade n) = OpenedWith t ed s (callsIn (trade n))
+Counted t ed s (line k l n) = OpenedWith t ed s (callsIn (line k l n))
 
-pub opening-calls : (t : Told) → Sizes t → (nonce cipher : List ℕ) → opening t nonce (t .font) cipher .calls ≡ length cipher + besideLine
-opening-calls t z nonce cipher =
-    omega (arith, open-calls-first (t .key) nonce (associated (t .font)) cipher, length-associated (t .font) (z .font-is))
+pub opening-calls : (t : Told) → Sizes t → (own : Own) → length (own .job) ≡ jobSize (own .edition) → (cipher : List ℕ)
+    → opening t own (t .font) cipher .calls ≡ length cipher + besideLine (own .edition)
+opening-calls t z own j cipher =
+    omega (
+      arith,
+      open-calls-first (t .key) (own .nonce) (associated (own .edition) (t .font) (own .job)) cipher,
+      length-associated (own .edition) (t .font) (own .job) (z .font-is) j,
+    )
 
-pub read-calls : (t : Told) → Sizes t → (s : List ℕ) → Counted t s (judge t s)
-read-calls t z s = by-case (judge t s) (judge-case t s)
+pub read-calls : (t : Told) → Sizes t → (ed : ℕ) (s : List ℕ) → Counted t ed s (judge t ed s)
+read-calls t z ed s = by-case (judge t ed s) (judge-case t ed s)
   where
-    by-case : (j : Judged) → Case t s j → Counted t s j
+    held : {own : Own} {digest cipher T : List ℕ} → Holds ed s own digest cipher T → length (own .job) ≡ jobSize (own .edition)
+    held h = job-sized (unstuffed s) (among-fields ed (fieldsOf (unstuffed s)) (h .1) .0)
+
+    by-case : (j : Judged) → Case t ed s j → Counted t ed s j
     by-case _ (too-long h) = refl
     by-case _ (bad-stuffing h n) = refl
     by-case _ (no-fields g e) = refl
-    by-case _ (other-font nonce digest cipher T h n) = refl
-    by-case _ (other-seal nonce cipher T h n) = (nonce, cipher, T, h, opening-calls t z nonce cipher)
-    by-case _ (not-listed nonce cipher h e) = (nonce, cipher, _, h, opening-calls t z nonce cipher)
-    by-case _ (not-trade nonce cipher h e) = (nonce, cipher, _, h, opening-calls t z nonce cipher)
-    by-case _ (given nonce cipher h e) = (nonce, cipher, _, h, opening-calls t z nonce cipher)
+    by-case _ (other-font own digest cipher T h n) = refl
+    by-case _ (other-seal own cipher T h n) = (own, cipher, T, h, opening-calls t z own (held h) cipher)
+    by-case _ (not-listed own cipher h e) = (own, cipher, _, h, opening-calls t z own (held h) cipher)
+    by-case _ (not-trade own cipher h e) = (own, cipher, _, h, opening-calls t z own (held h) cipher)
+    by-case _ (given own cipher h e) = (own, cipher, _, h, opening-calls t z own (held h) cipher)

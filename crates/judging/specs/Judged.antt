@@ -2,8 +2,26 @@
 -- Assumes nothing: these are definitions.
 use mathlib.Core.List.{List, []}
 use Prim.Native.Nat.{ℕ}
+use Rattle.body.specs.Fields.{Own}
+use Rattle.body.specs.Answers.{editionNumber}
+use Rattle.body.specs.Job.{jobNumber}
 
--- 7, 6, 8, 15; 5, 9 and 13 with the calls of the permutation made; a line with them
+-- what a line is given with (order W6): its edition's number and its job's; both zero where no line is given
+pub record Label : Type 0 where
+  pub edition : ℕ
+  pub job : ℕ
+
+abbrev pub label : ℕ → ℕ → Label
+label edition job = record { edition = edition; job = job }
+
+abbrev pub noLabel : Label
+noLabel = label 0 0
+
+-- those of what is a frame's own
+abbrev pub labelOf : Own → Label
+labelOf own = label (editionNumber (own .edition)) (jobNumber (own .job))
+
+-- 7, 6, 8, 15; 5, 9 and 13 with the calls of the permutation made; a line with its label and them
 pub data Judged : Type 0 where
   shape : Judged
   stuffing : Judged
@@ -12,7 +30,7 @@ pub data Judged : Type 0 where
   seal : ℕ → Judged
   unlisted : ℕ → Judged
   trade : ℕ → Judged
-  line : List ℕ → ℕ → Judged
+  line : Label → List ℕ → ℕ → Judged
 
 abbrev pub numberIn : Judged → ℕ
 numberIn shape = 7
@@ -22,7 +40,7 @@ numberIn work = 15
 numberIn (seal n) = 5
 numberIn (unlisted n) = 9
 numberIn (trade n) = 13
-numberIn (line l n) = 0
+numberIn (line k l n) = 0
 
 -- the line given, empty where none is
 abbrev pub lineIn : Judged → List ℕ
@@ -33,7 +51,18 @@ lineIn work = []
 lineIn (seal n) = []
 lineIn (unlisted n) = []
 lineIn (trade n) = []
-lineIn (line l n) = l
+lineIn (line k l n) = l
+
+-- the label that it is given with
+abbrev pub labelIn : Judged → Label
+labelIn shape = noLabel
+labelIn stuffing = noLabel
+labelIn font = noLabel
+labelIn work = noLabel
+labelIn (seal n) = noLabel
+labelIn (unlisted n) = noLabel
+labelIn (trade n) = noLabel
+labelIn (line k l n) = k
 
 -- the count: 0 on every refusal but 5, 9 and 13
 abbrev pub callsIn : Judged → ℕ
@@ -44,4 +73,4 @@ callsIn work = 0
 callsIn (seal n) = n
 callsIn (unlisted n) = n
 callsIn (trade n) = n
-callsIn (line l n) = n
+callsIn (line k l n) = n

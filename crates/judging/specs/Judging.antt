@@ -1,5 +1,5 @@
--- What a stretch's bytes are found to be (document 01, 'Numbers returned', order of a stretch; order W2): 7 for its length, 6, 7 for its
--- fields, 8, 5, 9, 13, else its line. Assumes nothing: these are definitions.
+-- What a stretch's bytes are found to be (document 01, 'Numbers returned', order of a stretch; orders W2 and W6): 7 for its length, 6, 7 for
+-- its fields or their edition, 8, 5, 9, 13, else its line. Assumes nothing: these are definitions.
 use mathlib.Core.Bool.{not, cond}
 use mathlib.Core.List.{List}
 use Prim.Native.Nat.{ℕ}
@@ -15,30 +15,31 @@ use Rattle.cipher.specs.Instances.{first}
 use Rattle.cipher.specs.Cipher.{Work, decrypted, accepted}
 use Rattle.body.specs.Fields.{Fields, fields, no-body, fieldsOf, associated}
 use Rattle.framing.specs.Told.{Told}
-use Rattle.judging.specs.Judged.{Judged, shape, stuffing, font, seal, unlisted, trade, line}
+use Rattle.judging.specs.Editions.{among}
+use Rattle.judging.specs.Judged.{Label, labelOf, Judged, shape, stuffing, font, seal, unlisted, trade, line}
 
 -- by the rule of a line: 9, 13
-abbrev pub byRule : line-judged.Judged → Work → Judged
-byRule Unlisted w = unlisted (w .calls)
-byRule Trade w = trade (w .calls)
-byRule Accepted w = line (w .text) (w .calls)
+abbrev pub byRule : line-judged.Judged → Label → Work → Judged
+byRule Unlisted k w = unlisted (w .calls)
+byRule Trade k w = trade (w .calls)
+byRule Accepted k w = line k (w .text) (w .calls)
 
 -- what opening finds under the seal T: 5, then 9 and 13
-abbrev pub judgeWork : Work → List ℕ → Judged
-judgeWork w T =
+abbrev pub judgeWork : Label → Work → List ℕ → Judged
+judgeWork k w T =
     cond (not (accepted (w .seal) T)) (seal (w .calls))
-    (byRule (lineRule (w .text)) w)
+    (byRule (lineRule (w .text)) k w)
 
 -- sealed fields are opened under the first instance
-unfoldable pub judgeSealed : List ℕ → List ℕ → List ℕ → List ℕ → List ℕ → Judged
-judgeSealed key nonce A cipher T = judgeWork (decrypted first key nonce A cipher) T
+unfoldable pub judgeSealed : Label → List ℕ → List ℕ → List ℕ → List ℕ → List ℕ → Judged
+judgeSealed k key nonce A cipher T = judgeWork k (decrypted first key nonce A cipher) T
 
 -- what a body's fields hold: 7, then 8
 abbrev pub judgeFields : Told → Fields → Judged
 judgeFields t no-body = shape
-judgeFields t (fields nonce digest cipher T) =
+judgeFields t (fields own digest cipher T) =
     cond (not (same digest (t .font))) font
-    (judgeSealed (t .key) nonce (associated digest) cipher T)
+    (judgeSealed (labelOf own) (t .key) (own .nonce) (associated (own .edition) digest (own .job)) cipher T)
 
 -- what the unstuffed length is found to be: 7 for the stretch's length, then 6 (there is no buffer, so room never lacks)
 abbrev pub byStuffing : Unstuffed → Judged → Judged
@@ -47,6 +48,6 @@ byStuffing unstuffed-is.NoRoom j = shape
 byStuffing unstuffed-is.Bad j = stuffing
 byStuffing (unstuffed-is.Length n) j = j
 
--- a stretch: 7 for its length, 6, then what its body's fields hold
-unfoldable pub judge : Told → List ℕ → Judged
-judge t s = byStuffing (lengthAnswer s) (judgeFields t (fieldsOf (unstuffed s)))
+-- a stretch: 7 for its length, 6, then what its body's fields hold, if their edition is allowed
+unfoldable pub judge : Told → ℕ → List ℕ → Judged
+judge t ed s = byStuffing (lengthAnswer s) (judgeFields t (among ed (fieldsOf (unstuffed s))))
