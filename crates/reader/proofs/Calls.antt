@@ -14,11 +14,10 @@ use Rattle.body.specs.Fields.{digestLength}
 use Rattle.reader.specs.declared.Asked.{Asked}
 use Rattle.reader.specs.declared.Answer.{Answer}
 use Rattle.reader.specs.declared.Reading.{Reading}
+use Rattle.reader.specs.declared.Verdict.{Verdict}
 use Rattle.reader.specs.declared.Answer.the-variants as answer-is
 use Rattle.judging.specs.Sizes.{Sizes}
-use Rattle.judging.specs.Judging.{judge}
-use Rattle.judging.specs.Ceiling as ceiling
-use Rattle.reader.specs.Answers.{longestStream, sizedTold, Found, call, stretch, found, readingAt, readingOf, buffer, answerOf, lineOver, readAnswer, readOut}
+use Rattle.reader.specs.Answers.{longestStream, sizedTold, Found, call, stretch, found, readingAt, readingOf, buffer, plain, verdictOf, judgedWithin, lineOver, readAnswer, readOut}
 
 -- the places that `next_span` gives
 pub within : (s : List ℕ) (from : ℕ) (p : Span) → p ≡ nextSpan s from → Within (length s) p
@@ -37,7 +36,7 @@ module _ (key font : List ℕ) (b : Asked) (s : List ℕ) (from : ℕ) (o : List
 
   -- where the call is refused, and at the stream's end
   abbrev Answered : ℕ → Answer → Type 0
-  Answered at a = (r : Reading) → r ≡ readingAt (span at at) a → Met r o
+  Answered at a = (r : Reading) → r ≡ readingAt (span at at) (plain a) → Met r o
 
   pub bad-key : (length key ≡ keyLength → ⊥) → Answered from answer-is.Sizes
   unfolding found sizedTold
@@ -84,14 +83,14 @@ module _ (key font : List ℕ) (b : Asked) (s : List ℕ) (from : ℕ) (o : List
                 ← e,
                 eq-eqb (p .first) (p .closing) q,
               ))
-              a (x ∙ ap (λ (n : ℕ). readingAt (span n n) answer-is.End) last)
+              a (x ∙ ap (λ (n : ℕ). readingAt (span n n) (plain answer-is.End)) last)
 
           -- the stretch that stands there, judged
-          pub at-stretch : (p .first ≡ p .closing → ⊥) → (a : Answer) (w : List ℕ) → a ≡ answerOf (ceiling.within (b .allowed) (judge t (bytesAt s p)))
-              → w ≡ lineOver (ceiling.within (b .allowed) (judge t (bytesAt s p))) o → Met (readingAt p a) w
+          pub at-stretch : (p .first ≡ p .closing → ⊥) → (a : Verdict) (w : List ℕ) → a ≡ verdictOf (judgedWithin t b (bytesAt s p))
+              → w ≡ lineOver (judgedWithin t b (bytesAt s p)) o → Met (readingAt p a) w
           unfolding found nextStretch
           at-stretch q a w x y =
-              let m = met (stretch p (ceiling.within (b .allowed) (judge t (bytesAt s p)))) (rw (
+              let m = met (stretch p (judgedWithin t b (bytesAt s p))) (rw (
                 sized,
                 le-ltb longestStream (length s) h,
                 le-ltb (length o) longest r,

@@ -4,3 +4,4 @@ pub mod Unstuffing
 pub mod Parts
 pub mod Opening
 pub mod Single
+pub mod Jobs

@@ -22,12 +22,17 @@ use Rattle.ingage.specs.Answers.{OpenCall, openNamed}
 use Rattle.ingage.specs.Naming.{open-first}
 use Rattle.ingage.specs.Exactly.{Within, opened-within}
 use Rattle.ingage.proofs.Opened as opened-type
+use Rattle.reader.specs.declared.Answer.{Answer}
 use Rattle.reader.specs.declared.Answer.the-variants as answer-is
-use Rattle.judging.specs.Judged.{Judged, seal, unlisted, trade, line}
+use Rattle.reader.specs.declared.Verdict.{Verdict}
+use Rattle.judging.specs.Judged.{Label, Judged, seal, unlisted, trade, line}
 use Rattle.judging.specs.Judging.{judgeWork, judgeSealed}
 use Rattle.reader.proofs.Shown.{Shows, shown}
 
-module _ (key nonce A C T : List ℕ) {room : List ℕ} (w : Within first key nonce A C T room) where
+abbrev verdict : Answer → Label → Verdict
+verdict a k = record { answer = a; edition = k .edition; job = k .job }
+
+module _ (k : Label) (key nonce A C T : List ℕ) {room : List ℕ} (w : Within first key nonce A C T room) where
   abbrev work : Work
   work = decrypted first key nonce A C
 
@@ -48,20 +53,20 @@ module _ (key nonce A C T : List ℕ) {room : List ℕ} (w : Within first key no
     answers t p = q ∙ ap (λ (x : OpenCall). x .answer) is ∙ ap (λ (b : Bool). either b .answer) p
 
     -- another seal
-    pub told-seal : (n : ℕ) → r ≡ opened.Seal n → judgeSealed key nonce A C T ≡ seal n
+    pub told-seal : (n : ℕ) → r ≡ opened.Seal n → judgeSealed k key nonce A C T ≡ seal n
     unfolding judgeSealed
     told-seal n e = go (same (work .seal) T) refl
       where
-        go : (t : Bool) → same (work .seal) T ≡ t → judgeWork work T ≡ seal n
+        go : (t : Bool) → same (work .seal) T ≡ t → judgeWork k work T ≡ seal n
         go true p = absurd (let z : _≡_ {A = ℕ} 0 1 = cc (e, answers true p) in omega arith)
         go false p = let k : work .calls ≡ n = cc (e, answers false p) in rw (p, k)
 
     -- the sizes are right, so the call is never refused
     pub told-other : {X : Type 0} → OneOf (1 ∷ 2 ∷ 3 ∷ 4 ∷ []) (tagOf opened-type.the-type r) → X
-    told-other {X} k = go (same (work .seal) T) refl
+    told-other {X} h = go (same (work .seal) T) refl
       where
         refused : (x : Opened) → r ≡ x → OneOf (1 ∷ 2 ∷ 3 ∷ 4 ∷ []) (tagOf opened-type.the-type x)
-        refused x e = subst (λ (y : Opened). OneOf (1 ∷ 2 ∷ 3 ∷ 4 ∷ []) (tagOf opened-type.the-type y)) e k
+        refused x e = subst (λ (y : Opened). OneOf (1 ∷ 2 ∷ 3 ∷ 4 ∷ []) (tagOf opened-type.the-type y)) e h
 
         no : {i : ℕ} → (i ≡ 0) ⊎ (i ≡ 5) → OneOf (1 ∷ 2 ∷ 3 ∷ 4 ∷ []) i → X
         no {i} (inl e) h = absurd (⊎-elim (λ g. omega (arith, g)) (⊎-elim (λ g. omega (arith, g)) (⊎-elim (λ g. omega (arith, g)) (λ g. omega (arith, g)))) h)
@@ -101,31 +106,34 @@ module _ (key nonce A C T : List ℕ) {room : List ℕ} (w : Within first key no
           let z : length C - 0 ≡ length (work .text) = omega (arith, long) in
           rw (opens .out, z) (take-at (work .text) (drop (length (work .text)) room) (length (work .text)) refl)
 
-      pub told-unlisted : (j : line-judged.Judged) → j ≡ lineRule lent → j ≡ Unlisted → judgeSealed key nonce A C T ≡ unlisted n
+      pub told-unlisted : (j : line-judged.Judged) → j ≡ lineRule lent → j ≡ Unlisted → judgeSealed k key nonce A C T ≡ unlisted n
       unfolding judgeSealed
       told-unlisted j x y =
           let u : lineRule (work .text) ≡ Unlisted = ap lineRule (sym found-is) ∙ sym x ∙ y in
           rw (opens .sealed, u) (ap unlisted (opens .calls))
 
-      pub told-trade : (j : line-judged.Judged) → j ≡ lineRule lent → j ≡ Trade → judgeSealed key nonce A C T ≡ trade n
+      pub told-trade : (j : line-judged.Judged) → j ≡ lineRule lent → j ≡ Trade → judgeSealed k key nonce A C T ≡ trade n
       unfolding judgeSealed
       told-trade j x y =
           let u : lineRule (work .text) ≡ Trade = ap lineRule (sym found-is) ∙ sym x ∙ y in
           rw (opens .sealed, u) (ap trade (opens .calls))
 
-      told-line : (j : line-judged.Judged) → j ≡ lineRule lent → j ≡ Accepted → judgeSealed key nonce A C T ≡ line (work .text) n
+      told-line : (j : line-judged.Judged) → j ≡ lineRule lent → j ≡ Accepted → judgeSealed k key nonce A C T ≡ line k (work .text) n
       unfolding judgeSealed
       told-line j x y =
           let u : lineRule (work .text) ≡ Accepted = ap lineRule (sym found-is) ∙ sym x ∙ y in
-          rw (opens .sealed, u) (ap (line (work .text)) (opens .calls))
+          rw (opens .sealed, u) (ap (line k (work .text)) (opens .calls))
 
       -- the line is as long as the ciphertext, and copied whole
       pub gives : (j : line-judged.Judged) → j ≡ lineRule lent → j ≡ Accepted
           → (l l′ : List ℕ) → length room ≤ length l → l′ ≡ copied lent l
-          → Shows (judgeSealed key nonce A C T) l (answer-is.Line (length C) n) l′
+          → Shows (judgeSealed k key nonce A C T) l (verdict (answer-is.Line (length C) n) k) l′
       gives j x y l l′ h c =
-          let m = shown (judgeSealed key nonce A C T) l (line (work .text) n) (told-line j x y) in
+          let m =
+          shown (judgeSealed k key nonce A C T) l (line k (work .text) n) (told-line j x y)
+          (verdict (answer-is.Line (length C) n) k)
+          (ap (λ (i : ℕ). verdict (answer-is.Line i n) k) (sym long)) in
           let fits : length (work .text) ≤ length l = omega (arith, long, w .room) in (
-            ap (λ (k : ℕ). answer-is.Line k n) (sym long) ∙ m .0,
+            m .0,
             c ∙ ap (λ (s : List ℕ). copied s l) found-is ∙ ap (λ (s : List ℕ). over s l) (take-all (length l) (work .text) fits) ∙ m .1,
           )

@@ -14,25 +14,26 @@ use Rattle.stuffing.specs.Answers.{unstuffAnswer, unstuffOut}
 use Rattle.stuffing.specs.Outcomes.{Outcome, too-long, bad, no-room, done, unstuff-outcome}
 use Rattle.body.specs.Fields.{fieldsOf}
 use Rattle.framing.specs.Told.{Told}
+use Rattle.judging.specs.Editions.{among}
 use Rattle.judging.specs.Judged.{shape, stuffing}
 use Rattle.judging.specs.Judging.{judgeFields, judge}
 use Rattle.judging.specs.Cases.{judge-too-long, judge-bad, judge-fields}
 
-module _ (t : Told) (s o : List ℕ) where
+module _ (t : Told) (ed : ℕ) (s o : List ℕ) where
   outcome : (r : Unstuffed) → unstuffAnswer s o ≡ r → Outcome s o r (unstuffOut s o)
   outcome r e = subst (λ (x : Unstuffed). Outcome s o x (unstuffOut s o)) e (unstuff-outcome s o)
 
-  pub told-long : unstuffAnswer s o ≡ unstuffed-is.TooLong → judge t s ≡ shape
+  pub told-long : unstuffAnswer s o ≡ unstuffed-is.TooLong → judge t ed s ≡ shape
   told-long e = go (outcome unstuffed-is.TooLong e)
     where
-      go : {w : List ℕ} → Outcome s o unstuffed-is.TooLong w → judge t s ≡ shape
-      go (too-long h) = judge-too-long t s h
+      go : {w : List ℕ} → Outcome s o unstuffed-is.TooLong w → judge t ed s ≡ shape
+      go (too-long h) = judge-too-long t ed s h
 
-  pub told-bad : unstuffAnswer s o ≡ unstuffed-is.Bad → judge t s ≡ stuffing
+  pub told-bad : unstuffAnswer s o ≡ unstuffed-is.Bad → judge t ed s ≡ stuffing
   told-bad e = go (outcome unstuffed-is.Bad e)
     where
-      go : {w : List ℕ} → Outcome s o unstuffed-is.Bad w → judge t s ≡ stuffing
-      go (bad h n) = judge-bad t s h n
+      go : {w : List ℕ} → Outcome s o unstuffed-is.Bad w → judge t ed s ≡ stuffing
+      go (bad h n) = judge-bad t ed s h n
 
   -- no body is longer than its stretch
   pub told-small : longestStretch ≤ length o → unstuffAnswer s o ≡ unstuffed-is.NoRoom → ⊥
@@ -45,7 +46,7 @@ module _ (t : Told) (s o : List ℕ) where
   record Body (n : ℕ) (w : List ℕ) : Type 0 where
     fits : n ≤ length w
     bytes : take n w ≡ unstuffed s
-    judged : judge t s ≡ judgeFields t (fieldsOf (unstuffed s))
+    judged : judge t ed s ≡ judgeFields t (among ed (fieldsOf (unstuffed s)))
 
   told-length : (n : ℕ) → unstuffAnswer s o ≡ unstuffed-is.Length n → Body n (unstuffOut s o)
   told-length n e = go (outcome (unstuffed-is.Length n) e)
@@ -54,15 +55,15 @@ module _ (t : Told) (s o : List ℕ) where
       go (done h w l) = record {
         fits = omega (arith, length-append (unstuffed s) (drop (length (unstuffed s)) o));
         bytes = take-at (unstuffed s) (drop (length (unstuffed s)) o) (length (unstuffed s)) refl;
-        judged = judge-fields t s (record { short = h; well = w });
+        judged = judge-fields t ed s (record { short = h; well = w });
       }
 
   module _ (n : ℕ) (w : List ℕ) (e : unstuffAnswer s o ≡ unstuffed-is.Length n) (v : w ≡ unstuffOut s o) where
     pub told-fits : n ≤ length w
     told-fits = rw v (told-length n e .fits)
 
-    pub told-body : judge t s ≡ judgeFields t (fieldsOf (take (n - 0) (drop 0 w)))
+    pub told-body : judge t ed s ≡ judgeFields t (among ed (fieldsOf (take (n - 0) (drop 0 w))))
     told-body =
         let b = told-length n e in
         let z : n - 0 ≡ n = omega arith in
-        b .judged ∙ rw (z, v) (ap (λ (l : List ℕ). judgeFields t (fieldsOf l)) (sym (b .bytes)))
+        b .judged ∙ rw (z, v) (ap (λ (l : List ℕ). judgeFields t (among ed (fieldsOf l))) (sym (b .bytes)))

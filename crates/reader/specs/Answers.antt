@@ -14,8 +14,9 @@ use Rattle.body.specs.Fields.{digestLength}
 use Rattle.reader.specs.declared.Asked.{Asked}
 use Rattle.reader.specs.declared.Answer.{Answer}
 use Rattle.reader.specs.declared.Reading.{Reading}
+use Rattle.reader.specs.declared.Verdict.{Verdict}
 use Rattle.reader.specs.declared.Answer.the-variants as answer-is
-use Rattle.judging.specs.Judged.{Judged, shape, stuffing, font, work, seal, unlisted, trade, line}
+use Rattle.judging.specs.Judged.{Judged, shape, stuffing, font, work, seal, unlisted, trade, line, labelIn}
 use Rattle.judging.specs.Readings.{ends}
 use Rattle.judging.specs.Judging.{judge}
 use Rattle.judging.specs.Ceiling.{within}
@@ -33,7 +34,11 @@ pub data Found : Type 0 where
   call : ℕ → Answer → Found
   stretch : Span → Judged → Found
 
--- of a stream from a place, with room for so many bytes of a line; a stretch is judged within the work allowed
+-- a stretch judged among the editions and within the work allowed
+unfoldable pub judgedWithin : Told → Asked → List ℕ → Judged
+judgedWithin t a s = within (a .allowed) (judge t (a .editions) s)
+
+-- of a stream from a place, with room for so many bytes of a line
 unfoldable pub found : Told → Asked → List ℕ → ℕ → ℕ → Found
 found t a s from room =
     cond (not (sizedTold t)) (call from answer-is.Sizes)
@@ -41,7 +46,7 @@ found t a s from room =
     (cond (ltb room longest) (call from answer-is.NoRoom)
     (cond (ltb (length s) from) (call from answer-is.Beyond)
     (cond (ends (nextSpan s from)) (call (length s) answer-is.End)
-    (stretch (nextSpan s from) (within (a .allowed) (judge t (nextStretch s from))))))))
+    (stretch (nextSpan s from) (judgedWithin t a (nextStretch s from)))))))
 
 -- the answer for a stretch
 abbrev pub answerOf : Judged → Answer
@@ -52,7 +57,7 @@ answerOf work = answer-is.Work
 answerOf (seal n) = answer-is.Seal n
 answerOf (unlisted n) = answer-is.Unlisted n
 answerOf (trade n) = answer-is.Trade n
-answerOf (line l n) = answer-is.Line (length l) n
+answerOf (line k l n) = answer-is.Line (length l) n
 
 -- a line is written over the buffer's start; nothing else is written
 abbrev pub lineOver : Judged → List ℕ → List ℕ
@@ -63,16 +68,24 @@ lineOver work o = o
 lineOver (seal n) o = o
 lineOver (unlisted n) o = o
 lineOver (trade n) o = o
-lineOver (line l n) o = over l o
+lineOver (line k l n) o = over l o
 
--- an answer with its places
-abbrev pub readingAt : Span → Answer → Reading
-readingAt p a = record { first = p .first; closing = p .closing; answer = a }
+-- an answer with no edition and no job
+abbrev pub plain : Answer → Verdict
+plain a = record { answer = a; edition = 0; job = 0 }
+
+-- the answer for a stretch, with the edition and the job that a line is given with (order W6)
+abbrev pub verdictOf : Judged → Verdict
+verdictOf j = record { answer = answerOf j; edition = labelIn j .edition; job = labelIn j .job }
+
+-- with its places
+abbrev pub readingAt : Span → Verdict → Reading
+readingAt p v = record { first = p .first; closing = p .closing; answer = v .answer; edition = v .edition; job = v .job }
 
 -- what a call reports: refused, or at the end, one place for both
 abbrev pub readingOf : Found → Reading
-readingOf (call at a) = readingAt (span at at) a
-readingOf (stretch p j) = readingAt p (answerOf j)
+readingOf (call at a) = readingAt (span at at) (plain a)
+readingOf (stretch p j) = readingAt p (verdictOf j)
 
 -- what the line buffer holds then
 abbrev pub buffer : Found → List ℕ → List ℕ

@@ -1,28 +1,39 @@
-// The reader (document 01, 'A frame and a stream'): judging a stretch and the read call.
+// The reader (document 01, 'A frame and a stream', and order W6): judging a stretch and the read call.
 // The promises cite specs/Answers.antt; the order in which a stretch is judged stands in judging/specs/Judging.antt.
 ghost use mathlib.Core.Path.{_≡_};
-ghost use Prim.Native.Nat.{_≤_};
+ghost use Prim.Native.Nat.{_+_, _≤_};
 ghost use lib.ListN.{length};
 ghost use Rattle.lists.specs.Buffers.{copied};
 ghost use Rattle.stream.specs.Stretches.{span};
 ghost use Rattle.line.specs.Lines.{longest};
 ghost use Rattle.cipher.specs.Instances.{first as firstInstance};
 ghost use Rattle.ingage.specs.Exactly.{Within};
-ghost use Rattle.body.specs.Fields.{fieldsOf};
-ghost use Rattle.judging.specs.Judging.{judgeSealed, judgeFields, judge};
+ghost use Rattle.body.specs.Fields.{jobLength, fieldsOf};
+ghost use Rattle.body.specs.Answers.{editionNumber};
+ghost use Rattle.body.specs.Job.{jobNumber};
+ghost use Rattle.body.specs.Places.{jobAt};
+ghost use Rattle.judging.specs.Editions.{allows as allowed, among};
+ghost use Rattle.judging.specs.Judged.{label};
+ghost use Rattle.judging.specs.Judging.{judgeSealed, judgeFields};
 ghost use Rattle.judging.specs.Ceiling.{within};
-ghost use Rattle.reader.specs.Answers.{answerOf, lineOver, readingAt, readAnswer, readOut};
-ghost use Rattle.framing.specs.Told.{told};
 ghost use Rattle.judging.specs.Sizes.{Sizes};
+ghost use Rattle.framing.specs.Told.{keyLength, told};
+ghost use Rattle.reader.specs.Parts.{jobIn, Parts, judgeParts};
+ghost use Rattle.reader.specs.Answers.{plain, verdictOf, judgedWithin, lineOver, readingAt, readAnswer, readOut};
 use body::ASSOCIATED_AT;
+use body::ASSOCIATED_LENGTH;
 use body::CIPHER_AT;
 use body::DIGEST_AT;
 use body::DIGEST_LENGTH;
+use body::Edition;
 use body::HEAD_LENGTH;
+use body::HIGH_BYTE;
+use body::JOB_AT;
 use body::LONGEST_LINE;
 use body::NONCE_AT;
 use body::NONCE_LENGTH;
 use body::SEAL_LENGTH;
+use body::job_field_length;
 use body::judge_body;
 use frame::BESIDE_LINE;
 use frame::KEY_LENGTH;
@@ -42,17 +53,35 @@ pub const LONGEST_STREAM: usize = 65536;
 // All the work that a stretch can take, in calls of the permutation: that of the longest line.
 pub const ALL_WORK: usize = LONGEST_LINE + BESIDE_LINE;
 
-// What a reader is told anew at each call: how many calls of the permutation one stretch is allowed.
+// What a reader is told anew at each call: which editions it allows, and how many calls of the permutation one stretch is allowed.
 pub struct Asked {
+    // Two bits, 1 for edition one and 2 for edition two; other bits say nothing.
+    pub editions: usize,
     pub allowed: usize,
 }
 
-// What one read call answers: the place of the stretch's first byte, that of its closing mark, where the next call starts, and what is
-// found there.
+// The editions that a reader can allow.
+pub const EDITION_ONE: usize = 1;
+
+pub const EDITION_TWO: usize = 2;
+
+pub const BOTH_EDITIONS: usize = 3;
+
+// What one read call answers: the place of the stretch's first byte, that of its closing mark, where the next call starts, what is found there,
+// and the edition and the job of a line that is given; both are 0 unless one is.
 pub struct Reading {
     pub first: usize,
     pub closing: usize,
     pub answer: Answer,
+    pub edition: usize,
+    pub job: usize,
+}
+
+// What a stretch is found to be, with the edition and the job of a line that is given.
+pub struct Verdict {
+    pub answer: Answer,
+    pub edition: usize,
+    pub job: usize,
 }
 
 pub enum Answer {
@@ -82,6 +111,41 @@ pub enum Answer {
     Line { length: usize, calls: usize },
 }
 
+// Whether the edition is among those allowed.
+fn allows(editions: usize, edition: Edition) -> bool
+    ensures { λ r. ⌜ r ≡ allowed editions edition ⌝ }
+{
+    match edition {
+        Edition::One => editions % 2 == 1,
+        Edition::Two => editions / 2 % 2 == 1,
+    }
+}
+
+// The edition's number.
+fn number_of(edition: Edition) -> usize
+    ensures { λ r. ⌜ r ≡ editionNumber edition ⌝ }
+{
+    match edition {
+        Edition::One => EDITION_ONE,
+        Edition::Two => EDITION_TWO,
+    }
+}
+
+// The job of a body as a number, high byte first; 0 in edition one.
+fn job_of(body: &[u8], edition: Edition) -> usize
+    requires { ⌜ jobAt + jobLength ≤ length (now body) ⌝ }
+    ensures { λ r. ⌜ r ≡ jobNumber (jobIn edition (now (body .entry))) ⌝ }
+{
+    match edition {
+        Edition::One => 0,
+        Edition::Two => {
+            let high = body[JOB_AT] as usize * HIGH_BYTE + body[JOB_AT + 1] as usize;
+            let low = body[JOB_AT + 2] as usize * HIGH_BYTE + body[JOB_AT + 3] as usize;
+            high * HIGH_BYTE * HIGH_BYTE + low
+        }
+    }
+}
+
 // Hands out a line: over the start of the caller's buffer.
 fn hand_out(found: &[u8], line: &mut [u8])
     ensures { λ _. ⌜ now (line .exit) ≡ copied (now (found .entry)) (now (line .entry)) ⌝ }
@@ -89,9 +153,22 @@ fn hand_out(found: &[u8], line: &mut [u8])
     copy(found, line);
 }
 
-// Opens sealed fields and judges the line found. They are opened into a buffer beside the caller's, which is written only where a
-// line is given.
+// A refusal, which has no edition and no job.
+fn refused(answer: Answer) -> Verdict
+    ensures { λ r. ⌜ r ≡ plain answer ⌝ }
+{
+    Verdict {
+        answer,
+        edition: 0,
+        job: 0,
+    }
+}
+
+// Opens sealed fields and judges the line found, which is given with this edition and job. They are opened into a buffer beside the caller's,
+// which is written only where a line is given.
 fn judge_sealed(
+    edition: usize,
+    job: usize,
     key: &[u8],
     nonce: &[u8],
     assoc: &[u8],
@@ -99,72 +176,124 @@ fn judge_sealed(
     seal: &[u8],
     text: &mut [u8],
     line: &mut [u8],
-) -> Answer
+) -> Verdict
     requires { ⌜ Within firstInstance (now key) (now nonce) (now assoc) (now cipher) (now seal) (now text) ⌝ }
     requires { ⌜ (length (now text) ≡ longest) × (longest ≤ length (now line)) ⌝ }
-    ensures { λ r. ⌜ r ≡ answerOf (judgeSealed (now (key .entry)) (now (nonce .entry)) (now (assoc .entry)) (now (cipher .entry)) (now (seal .entry))) ⌝ }
-    ensures { λ _. ⌜ now (line .exit) ≡ lineOver (judgeSealed (now (key .entry)) (now (nonce .entry)) (now (assoc .entry)) (now (cipher .entry)) (now (seal .entry))) (now (line .entry)) ⌝ }
+    ensures { λ r. ⌜ r ≡ verdictOf (judgeSealed (label edition job) (now (key .entry)) (now (nonce .entry)) (now (assoc .entry)) (now (cipher .entry)) (now (seal .entry))) ⌝ }
+    ensures { λ _. ⌜ now (line .exit) ≡ lineOver (judgeSealed (label edition job) (now (key .entry)) (now (nonce .entry)) (now (assoc .entry)) (now (cipher .entry)) (now (seal .entry))) (now (line .entry)) ⌝ }
 {
     let length = cipher.len();
     match open(frame::INSTANCE, key, nonce, assoc, cipher, seal, text) {
-        Opened::Seal(calls) => return Answer::Seal(calls),
+        Opened::Seal(calls) => return refused(Answer::Seal(calls)),
         Opened::Done(calls) => {
             let found = &text[0..length];
             match judge_line(found) {
-                line::Judged::Unlisted => return Answer::Unlisted(calls),
-                line::Judged::Trade => return Answer::Trade(calls),
+                line::Judged::Unlisted => return refused(Answer::Unlisted(calls)),
+                line::Judged::Trade => return refused(Answer::Trade(calls)),
                 line::Judged::Accepted => {
                     hand_out(found, line);
-                    return Answer::Line { length, calls };
+                    let answer = Answer::Line { length, calls };
+                    return Verdict {
+                        answer,
+                        edition,
+                        job,
+                    };
                 }
             }
         }
         // Never: sizes, lengths and room are right here.
-        _ => return Answer::Shape,
+        _ => return refused(Answer::Shape),
     }
 }
 
-// Judges a body by its fields, the font it was sealed to, the work that opening it takes, its seal and its line. The work is compared with what
-// is allowed before any call of the permutation.
-fn judge_fields(body: &[u8], key: &[u8], font: &[u8], asked: Asked, line: &mut [u8]) -> Answer
+// Opens the fields of a body of this edition, whose line ciphertext has n bytes, and judges the line found.
+fn open_fields(body: &[u8], edition: Edition, n: usize, key: &[u8], line: &mut [u8]) -> Verdict
+    requires { ⌜ Parts (now body) edition n ⌝ }
+    requires { ⌜ (length (now key) ≡ keyLength) × (longest ≤ length (now line)) ⌝ }
+    ensures { λ r. ⌜ r ≡ verdictOf (judgeParts edition n (now (key .entry)) (now (body .entry))) ⌝ }
+    ensures { λ _. ⌜ now (line .exit) ≡ lineOver (judgeParts edition n (now (key .entry)) (now (body .entry))) (now (line .entry)) ⌝ }
+{
+    let more = job_field_length(edition);
+    let nonce = &body[NONCE_AT..NONCE_AT + NONCE_LENGTH];
+    let assoc = &body[ASSOCIATED_AT..ASSOCIATED_AT + ASSOCIATED_LENGTH + more];
+    let cipher_at = CIPHER_AT + more;
+    let cipher = &body[cipher_at..cipher_at + n];
+    let seal_at = cipher_at + n + HEAD_LENGTH;
+    let seal = &body[seal_at..seal_at + SEAL_LENGTH];
+    let number = number_of(edition);
+    let job = job_of(body, edition);
+    let mut text = [0u8; LONGEST_LINE];
+    judge_sealed(
+        number,
+        job,
+        key,
+        nonce,
+        assoc,
+        cipher,
+        seal,
+        &mut text,
+        line,
+    )
+}
+
+// Judges a body of this edition by whether it is allowed, the font it was sealed to, the work that opening it takes, its seal and its line. The
+// work is compared with what is allowed before any call of the permutation.
+fn judge_edition(
+    body: &[u8],
+    edition: Edition,
+    n: usize,
+    key: &[u8],
+    font: &[u8],
+    asked: Asked,
+    line: &mut [u8],
+) -> Verdict
+    requires { ⌜ Parts (now body) edition n ⌝ }
     requires { ⌜ Sizes (told (now key) (now font)) ⌝ }
     requires { ⌜ longest ≤ length (now line) ⌝ }
-    ensures { λ r. ⌜ r ≡ answerOf (within (asked .allowed) (judgeFields (told (now (key .entry)) (now (font .entry))) (fieldsOf (now (body .entry))))) ⌝ }
-    ensures { λ _. ⌜ now (line .exit) ≡ lineOver (within (asked .allowed) (judgeFields (told (now (key .entry)) (now (font .entry))) (fieldsOf (now (body .entry))))) (now (line .entry)) ⌝ }
+    ensures { λ r. ⌜ r ≡ verdictOf (within (asked .allowed) (judgeFields (told (now (key .entry)) (now (font .entry))) (among (asked .editions) (fieldsOf (now (body .entry)))))) ⌝ }
+    ensures { λ _. ⌜ now (line .exit) ≡ lineOver (within (asked .allowed) (judgeFields (told (now (key .entry)) (now (font .entry))) (among (asked .editions) (fieldsOf (now (body .entry)))))) (now (line .entry)) ⌝ }
 {
-    let n = match judge_body(body) {
-        body::Judged::Shape => return Answer::Shape,
-        body::Judged::Fields(n) => n,
-    };
+    if !allows(asked.editions, edition) {
+        return refused(Answer::Shape);
+    }
     let digest = &body[DIGEST_AT..DIGEST_AT + DIGEST_LENGTH];
     if !compare(digest, font) {
-        return Answer::Font;
+        return refused(Answer::Font);
     }
-    if asked.allowed < n + BESIDE_LINE {
-        return Answer::Work;
+    if asked.allowed < n + BESIDE_LINE + job_field_length(edition) {
+        return refused(Answer::Work);
     }
-    let nonce = &body[NONCE_AT..NONCE_AT + NONCE_LENGTH];
-    let assoc = &body[ASSOCIATED_AT..DIGEST_AT + DIGEST_LENGTH];
-    let cipher = &body[CIPHER_AT..CIPHER_AT + n];
-    let seal_at = CIPHER_AT + n + HEAD_LENGTH;
-    let seal = &body[seal_at..seal_at + SEAL_LENGTH];
-    let mut text = [0u8; LONGEST_LINE];
-    judge_sealed(key, nonce, assoc, cipher, seal, &mut text, line)
+    open_fields(body, edition, n, key, line)
+}
+
+// Judges a body by its fields.
+fn judge_fields(body: &[u8], key: &[u8], font: &[u8], asked: Asked, line: &mut [u8]) -> Verdict
+    requires { ⌜ Sizes (told (now key) (now font)) ⌝ }
+    requires { ⌜ longest ≤ length (now line) ⌝ }
+    ensures { λ r. ⌜ r ≡ verdictOf (within (asked .allowed) (judgeFields (told (now (key .entry)) (now (font .entry))) (among (asked .editions) (fieldsOf (now (body .entry)))))) ⌝ }
+    ensures { λ _. ⌜ now (line .exit) ≡ lineOver (within (asked .allowed) (judgeFields (told (now (key .entry)) (now (font .entry))) (among (asked .editions) (fieldsOf (now (body .entry)))))) (now (line .entry)) ⌝ }
+{
+    match judge_body(body) {
+        body::Judged::Shape => return refused(Answer::Shape),
+        body::Judged::Fields(edition, n) => {
+            return judge_edition(body, edition, n, key, font, asked, line);
+        }
+    }
 }
 
 // Judges the bytes of a stretch.
-fn judge_stretch(stretch: &[u8], key: &[u8], font: &[u8], asked: Asked, line: &mut [u8]) -> Answer
+fn judge_stretch(stretch: &[u8], key: &[u8], font: &[u8], asked: Asked, line: &mut [u8]) -> Verdict
     requires { ⌜ Sizes (told (now key) (now font)) ⌝ }
     requires { ⌜ longest ≤ length (now line) ⌝ }
-    ensures { λ r. ⌜ r ≡ answerOf (within (asked .allowed) (judge (told (now (key .entry)) (now (font .entry))) (now (stretch .entry)))) ⌝ }
-    ensures { λ _. ⌜ now (line .exit) ≡ lineOver (within (asked .allowed) (judge (told (now (key .entry)) (now (font .entry))) (now (stretch .entry)))) (now (line .entry)) ⌝ }
+    ensures { λ r. ⌜ r ≡ verdictOf (judgedWithin (told (now (key .entry)) (now (font .entry))) asked (now (stretch .entry))) ⌝ }
+    ensures { λ _. ⌜ now (line .exit) ≡ lineOver (judgedWithin (told (now (key .entry)) (now (font .entry))) asked (now (stretch .entry))) (now (line .entry)) ⌝ }
 {
     let mut body = [0u8; LONGEST_STRETCH];
     let n = match unstuff(stretch, &mut body) {
-        Unstuffed::TooLong => return Answer::Shape,
-        Unstuffed::Bad => return Answer::Stuffing,
+        Unstuffed::TooLong => return refused(Answer::Shape),
+        Unstuffed::Bad => return refused(Answer::Stuffing),
         // Never: the body has room for the longest stretch.
-        Unstuffed::NoRoom => return Answer::Shape,
+        Unstuffed::NoRoom => return refused(Answer::Shape),
         Unstuffed::Length(n) => n,
     };
     judge_fields(&body[0..n], key, font, asked, line)
@@ -172,12 +301,14 @@ fn judge_stretch(stretch: &[u8], key: &[u8], font: &[u8], asked: Asked, line: &m
 
 // An answer with one place for both.
 fn at(place: usize, answer: Answer) -> Reading
-    ensures { λ r. ⌜ r ≡ readingAt (span place place) answer ⌝ }
+    ensures { λ r. ⌜ r ≡ readingAt (span place place) (plain answer) ⌝ }
 {
     Reading {
         first: place,
         closing: place,
         answer,
+        edition: 0,
+        job: 0,
     }
 }
 
@@ -214,10 +345,13 @@ pub fn read(
     if first == closing {
         return at(closing, Answer::End);
     }
-    let answer = judge_stretch(&stream[first..closing], key, font, asked, line);
+    let verdict = judge_stretch(&stream[first..closing], key, font, asked, line);
+    let answer = verdict.answer;
     Reading {
         first,
         closing,
         answer,
+        edition: verdict.edition,
+        job: verdict.job,
     }
 }
