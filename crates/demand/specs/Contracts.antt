@@ -1,4 +1,4 @@
--- `Reads` and `Writes` are the contracts of `read` and `write`, as the check reads them (`Post`): whatever a proved call gives, what this
+-- `Reads` and `Writes` are the contracts of `read`, and of `write` and `write_two`, as the check reads them (`Post`): whatever a proved call gives, what this
 -- crate states of `Reads` and `Writes` holds of it. Assumes nothing.
 use contract.Lifetimes.{Lfts}
 use denote.Triple.Clauses.{AtExit}
@@ -6,6 +6,11 @@ use borrow.Fn.Kinds.{Dens, endedOf}
 use Rattle.frame.specs.declared.Written.{Written}
 use Rattle.frame.proofs.write.Kinds as write-kinds
 use Rattle.frame.proofs.write.Reads as write-reads
+use Rattle.frame.proofs.write_two.Kinds as two-kinds
+use Rattle.frame.proofs.write_two.Reads as two-reads
+use mathlib.Core.List.{[]}
+use Rattle.body.specs.declared.Edition.the-variants.{One, Two}
+use Rattle.body.specs.Fields.{ownOf}
 use Rattle.reader.specs.declared.Reading.{Reading}
 use Rattle.reader.proofs.read.Kinds as read-kinds
 use Rattle.reader.proofs.read.Reads as read-reads
@@ -20,5 +25,12 @@ read-promises κs a r x p = p
 -- the arguments are key, nonce, font digest, line and frame buffer
 pub write-promises : (κs : Lfts 5) (a : Dens κs write-kinds.ps) (w : Written) (x : AtExit (endedOf 5 write-kinds.ps write-kinds.r) κs)
     → write-reads.Post κs a w x
-    → Writes (a .0 .now) (a .1 .0 .now) (a .1 .1 .0 .now) (a .1 .1 .1 .0 .now) (a .1 .1 .1 .1 .0 .now) w (x .1 .1 .1 .1 .0 .now)
+    → Writes (a .0 .now) (ownOf One (a .1 .0 .now) []) (a .1 .1 .0 .now) (a .1 .1 .1 .0 .now) (a .1 .1 .1 .1 .0 .now) w (x .1 .1 .1 .1 .0 .now)
 write-promises κs a w x p = p
+
+-- the arguments are key, nonce, font digest, job, line and frame buffer
+pub write-two-promises : (κs : Lfts 6) (a : Dens κs two-kinds.ps) (w : Written) (x : AtExit (endedOf 6 two-kinds.ps two-kinds.r) κs)
+    → two-reads.Post κs a w x
+    → Writes (a .0 .now) (ownOf Two (a .1 .0 .now) (a .1 .1 .1 .0 .now)) (a .1 .1 .0 .now) (a .1 .1 .1 .1 .0 .now) (a .1 .1 .1 .1 .1 .0 .now) w
+    (x .1 .1 .1 .1 .1 .0 .now)
+write-two-promises κs a w x p = p

@@ -26,6 +26,8 @@ countedFrom i v = record {
   first = v .first - i;
   closing = v .closing - i;
   calls = v .calls;
+  edition = v .edition;
+  job = v .job;
   line = v .line;
 }
 

@@ -6,6 +6,7 @@ use mathlib.Core.List.{List, [], _∷_}
 use Prim.Native.Nat.{ℕ, _-_, _≤_}
 use lib.ListN.{length, take}
 use Rattle.line.specs.Lines.{longest}
+use Rattle.body.specs.Fields.{Own}
 use Rattle.frame.specs.declared.Written.{Written}
 use Rattle.framing.specs.Told.{told}
 use Rattle.frame.specs.Answers.{writeCall}
@@ -20,10 +21,9 @@ use Rattle.reader.specs.Answers.{readAnswer, readOut, numberOf, lengthOf, calls
 abbrev pub Reads : List ℕ → List ℕ → Asked → List ℕ → ℕ → List ℕ → Reading → List ℕ → Type 0
 Reads key font asked s from l r l′ = (r ≡ readAnswer (told key font) asked s from l) × (l′ ≡ readOut (told key font) asked s from l)
 
--- a write call of the line L under this key, nonce and font, with the buffer f before it, may answer w and leave f′ in it
-abbrev pub Writes : List ℕ → List ℕ → List ℕ → List ℕ → List ℕ → Written → List ℕ → Type 0
-Writes key nonce font L f w f′ =
-    (w ≡ writeCall (told key font) nonce L f .answer) × (f′ ≡ writeCall (told key font) nonce L f .frame)
+-- a write call of the line L under this key and font, and with what is the frame's own, with the buffer f before it, may answer w and leave f′ in it
+abbrev pub Writes : List ℕ → Own → List ℕ → List ℕ → List ℕ → Written → List ℕ → Type 0
+Writes key own font L f w f′ = (w ≡ writeCall (told key font) own L f .answer) × (f′ ≡ writeCall (told key font) own L f .frame)
 
 -- the end of the stream is its own answer
 abbrev pub isEnd : Answer → Bool
@@ -48,6 +48,8 @@ pub record Seen : Type 0 where
   pub first : ℕ
   pub closing : ℕ
   pub calls : ℕ
+  pub edition : ℕ
+  pub job : ℕ
   pub line : List ℕ
 
 -- with places counted from place i
@@ -58,6 +60,8 @@ seenFrom i r l′ = record {
   first = r .first - i;
   closing = r .closing - i;
   calls = callsOf (r .answer);
+  edition = r .edition;
+  job = r .job;
   line = take (lengthOf (r .answer)) l′;
 }
 

@@ -16,12 +16,10 @@ use Rattle.reader.specs.declared.Asked.{Asked}
 use Rattle.reader.specs.declared.Reading.{Reading}
 use Rattle.reader.specs.declared.Answer.the-variants as answer-is
 use Rattle.judging.specs.Sizes.{Sizes}
-use Rattle.judging.specs.Judging.{judge}
-use Rattle.judging.specs.Ceiling.{within}
 use Rattle.judging.specs.Readings.{ends}
 use Rattle.judging.specs.Resync.{Mark}
 use Rattle.judging.specs.Reaching.{UpTo, closes, behind, up-to}
-use Rattle.reader.specs.Answers.{longestStream, Found, call, stretch, found, readingOf, buffer}
+use Rattle.reader.specs.Answers.{longestStream, Found, call, stretch, judgedWithin, found, readingOf, buffer}
 use Rattle.demand.specs.Promises.{Reads, isEnd, Seen, seenFrom, Run, next}
 use Rattle.demand.specs.Resync.{seen-at, sized}
 use Rattle.demand.specs.GivenWritten.{told-sized, found-next}
@@ -60,7 +58,7 @@ module _ (key font : List ℕ) (asked : Asked) (s : List ℕ) (z : Sizes (told k
       let y = told-sized t (z .key-is) (z .font-is) in
       let q : found t asked s from (length l) ≡ found t asked s i (length l) =
       sized t asked s from (length l) h g f y
-      ∙ ap (λ (o : Span). cond (ends o) (call (length s) answer-is.End) (stretch o (within (asked .allowed) (judge t (bytesAt s o))))) e
+      ∙ ap (λ (o : Span). cond (ends o) (call (length s) answer-is.End) (stretch o (judgedWithin t asked (bytesAt s o)))) e
       ∙ sym (sized t asked s i (length l) h g k y) in
       (p .0 ∙ ap readingOf q, p .1 ∙ ap (λ (o : Found). buffer o l) q)
 
@@ -71,7 +69,7 @@ module _ (key font : List ℕ) (asked : Asked) (s : List ℕ) (z : Sizes (told k
   stretch-seen from f x l r l′ g p =
       let t = told key font in
       let o = nextSpan s from in
-      let j = within (asked .allowed) (judge t (nextStretch s from)) in
+      let j = judgedWithin t asked (nextStretch s from) in
       let q : found t asked s from (length l) ≡ stretch o j = found-next t asked z s from (length l) h g f o refl (λ u. omega (arith, u, x .stretch .some)) in
       let a : r ≡ readingOf (stretch o j) = p .0 ∙ ap readingOf q in
       (ap (λ (x : Reading). x .closing) a, ap (λ (x : Reading). isEnd (x .answer)) a ∙ ap (λ (v : Seen). v .ended) (seen-at 0 o j l))

@@ -17,21 +17,21 @@ use Rattle.stream.specs.Shift.{Alike, moved, next-moved, next-shift}
 use Rattle.framing.specs.Told.{Told, told}
 use Rattle.reader.specs.declared.Asked.{Asked}
 use Rattle.reader.specs.declared.Answer.the-variants as answer-is
-use Rattle.judging.specs.Judged.{Judged, shape, stuffing, font, work, seal, unlisted, trade, line, numberIn, lineIn, callsIn}
-use Rattle.judging.specs.Judging.{judge}
-use Rattle.judging.specs.Ceiling.{within}
+use Rattle.judging.specs.Judged.{Judged, shape, stuffing, font, work, seal, unlisted, trade, line, numberIn, lineIn, labelIn, callsIn}
 use Rattle.judging.specs.Readings.{ends, eqb-moved}
 use Rattle.judging.specs.Resync.{Mark}
-use Rattle.reader.specs.Answers.{longestStream, sizedTold, Found, call, stretch, found, readingAt, readingOf, buffer, answerOf, lineOver}
+use Rattle.reader.specs.Answers.{longestStream, sizedTold, Found, call, stretch, found, readingAt, readingOf, buffer, judgedWithin, verdictOf, lineOver}
 use Rattle.demand.specs.Promises.{Seen, seenFrom, Run, none, next}
 
 -- what is seen of a stretch does not depend on what the buffer held
-pub seen-at : (i : ℕ) (p : Span) (j : Judged) (l : List ℕ) → seenFrom i (readingAt p (answerOf j)) (lineOver j l) ≡ record {
+pub seen-at : (i : ℕ) (p : Span) (j : Judged) (l : List ℕ) → seenFrom i (readingAt p (verdictOf j)) (lineOver j l) ≡ record {
   number = numberIn j;
   ended = false;
   first = p .first - i;
   closing = p .closing - i;
   calls = callsIn j;
+  edition = labelIn j .edition;
+  job = labelIn j .job;
   line = lineIn j;
 }
 seen-at i p shape l = refl
@@ -41,7 +41,7 @@ seen-at i p work l = refl
 seen-at i p (seal n) l = refl
 seen-at i p (unlisted n) l = refl
 seen-at i p (trade n) l = refl
-seen-at i p (line w n) l = ap (λ (x : List ℕ). record { number = 0; ended = false; first = p .first - i; closing = p .closing - i; calls = n; line = x }) (take-over w l (length w) refl)
+seen-at i p (line k w n) l = ap (λ (x : List ℕ). record { number = 0; ended = false; first = p .first - i; closing = p .closing - i; calls = n; edition = k .edition; job = k .job; line = x }) (take-over w l (length w) refl)
 
 -- places in order
 on : (a f c : ℕ) → a ≤ f → f ≤ c → a ≤ c
@@ -65,7 +65,7 @@ module _ (t : Told) (asked : Asked) (s : List ℕ) (from room : ℕ) (h : length
   unsized e = rw e
 
   pub sized : sizedTold t ≡ true → found t asked s from room
-      ≡ cond (ends (nextSpan s from)) (call (length s) answer-is.End) (stretch (nextSpan s from) (within (asked .allowed) (judge t (nextStretch s from))))
+      ≡ cond (ends (nextSpan s from)) (call (length s) answer-is.End) (stretch (nextSpan s from) (judgedWithin t asked (nextStretch s from)))
   unfolding found
   sized e = rw (e, le-ltb longestStream (length s) h, le-ltb room longest g, le-ltb (length s) from f)
 
@@ -78,14 +78,14 @@ module _ (t : Told) (asked : Asked) (x : List ℕ) (i a : ℕ) (y : List ℕ) (j
       × Abreast x i (readingOf f .closing) y j (readingOf e .closing)
 
   at-refusal : Goal (call a answer-is.Sizes) (call b answer-is.Sizes)
-  at-refusal = (ap (λ (k : ℕ). record { number = 2; ended = false; first = k; closing = k; calls = 0; line = [] }) (w .same), w)
+  at-refusal = (ap (λ (k : ℕ). record { number = 2; ended = false; first = k; closing = k; calls = 0; edition = 0; job = 0; line = [] }) (w .same), w)
 
   at-end : Goal (call (length x) answer-is.End) (call (length y) answer-is.End)
   at-end =
       let r : length (drop a x) ≡ length (drop b y) = ap length (w .alike .rest) in
       let k : length x - i ≡ length y - j =
       omega (arith, length-drop a x, length-drop b y, w .same, w .after-i, w .after-j, w .alike .in-x, w .alike .in-y) in (
-        ap (λ (n : ℕ). record { number = 0; ended = true; first = n; closing = n; calls = 0; line = [] }) k,
+        ap (λ (n : ℕ). record { number = 0; ended = true; first = n; closing = n; calls = 0; edition = 0; job = 0; line = [] }) k,
         record {
           alike = record { in-x = omega arith; in-y = omega arith; rest = drop-length x ∙ sym (drop-length y) };
           after-i = omega (arith, w .after-i, w .alike .in-x);
@@ -94,7 +94,7 @@ module _ (t : Told) (asked : Asked) (x : List ℕ) (i a : ℕ) (y : List ℕ) (j
         },
       )
 
-  at-stretch : Goal (stretch (nextSpan x a) (within (asked .allowed) (judge t (nextStretch x a)))) (stretch (nextSpan y b) (within (asked .allowed) (judge t (nextStretch y b))))
+  at-stretch : Goal (stretch (nextSpan x a) (judgedWithin t asked (nextStretch x a))) (stretch (nextSpan y b) (judgedWithin t asked (nextStretch y b)))
   at-stretch =
       let n = next-shift (w .alike) in
       let ax : a ≤ nextSpan x a .first = next-after x a (w .alike .in-x) in
@@ -103,8 +103,8 @@ module _ (t : Told) (asked : Asked) (x : List ℕ) (i a : ℕ) (y : List ℕ) (j
       let cx = on a (nextSpan x a .first) (nextSpan x a .closing) ax (next-within x a .order) in
       let cy = on b (nextSpan y b .first) (nextSpan y b .closing) by (next-within y b .order) in
       let c-is = farther i a (nextSpan x a .closing) j b (nextSpan y b .closing) (w .after-i) cx (w .after-j) cy (w .same) (n .closing) in
-      let jx = within (asked .allowed) (judge t (nextStretch x a)) in
-      let jy = within (asked .allowed) (judge t (nextStretch y b)) in (
+      let jx = judgedWithin t asked (nextStretch x a) in
+      let jy = judgedWithin t asked (nextStretch y b) in (
         seen-at i (nextSpan x a) jx l ∙ rw (f-is, c-is, n .bytes) refl ∙ sym (seen-at j (nextSpan y b) jy m),
         record {
           alike = n .on;
@@ -123,8 +123,8 @@ module _ (t : Told) (asked : Asked) (x : List ℕ) (i a : ℕ) (y : List ℕ) (j
       next-moved y b (w .alike .in-y) ∙ ap (λ (s : List ℕ). moved b (nextSpan s 0)) (sym (w .alike .rest)) in
       ap ends ex ∙ eqb-moved (p .first) (p .closing) a ∙ sym (eqb-moved (p .first) (p .closing) b) ∙ ap ends (sym ey)
 
-  by-end : (q : Bool) → Goal (cond q (call (length x) answer-is.End) (stretch (nextSpan x a) (within (asked .allowed) (judge t (nextStretch x a)))))
-      (cond q (call (length y) answer-is.End) (stretch (nextSpan y b) (within (asked .allowed) (judge t (nextStretch y b)))))
+  by-end : (q : Bool) → Goal (cond q (call (length x) answer-is.End) (stretch (nextSpan x a) (judgedWithin t asked (nextStretch x a))))
+      (cond q (call (length y) answer-is.End) (stretch (nextSpan y b) (judgedWithin t asked (nextStretch y b))))
   by-end true = at-end
   by-end false = at-stretch
 

@@ -51,7 +51,7 @@ pub enum Written {
 }
 
 // Whether key, nonce, font digest and, in edition two, job have their sizes.
-fn sizes_right(edition: Edition, key: &[u8], nonce: &[u8], font: &[u8], job: &[u8]) -> bool
+pub fn sizes_right(edition: Edition, key: &[u8], nonce: &[u8], font: &[u8], job: &[u8]) -> bool
     ensures { λ r. ⌜ r ≡ sizesRight (told (now (key .entry)) (now (font .entry))) (ownOf edition (now (nonce .entry)) (now (job .entry))) ⌝ }
 {
     if key.len() != KEY_LENGTH {
@@ -124,8 +124,9 @@ fn put_frame(body: &[u8], out: &mut [u8]) -> usize
     n + 2
 }
 
-// The frame of an edition, whose job is empty in edition one.
-fn write_edition(
+// Seals the line under the key and the nonce, for the font and in edition two with the job, which is empty in edition one, and writes its
+// frame of that edition to the start of frame; the rest of it stays. A refusal writes nothing.
+pub fn write_edition(
     edition: Edition,
     key: &[u8],
     nonce: &[u8],
@@ -159,8 +160,7 @@ fn write_edition(
     }
 }
 
-// Seals the line under the key and the nonce, for the font, and writes its frame of edition one to the start of frame; the rest of it stays.
-// A refusal writes nothing.
+// The same in edition one.
 pub fn write(key: &[u8], nonce: &[u8], font: &[u8], line: &[u8], frame: &mut [u8]) -> Written
     ensures { λ r. ⌜ r ≡ writeCall (told (now (key .entry)) (now (font .entry))) (ownOf One (now (nonce .entry)) []) (now (line .entry)) (now (frame .entry)) .answer ⌝ }
     ensures { λ _. ⌜ now (frame .exit) ≡ writeCall (told (now (key .entry)) (now (font .entry))) (ownOf One (now (nonce .entry)) []) (now (line .entry)) (now (frame .entry)) .frame ⌝ }

@@ -51,3 +51,13 @@ byStuffing (unstuffed-is.Length n) j = j
 -- a stretch: 7 for its length, 6, then what its body's fields hold, if their edition is allowed
 unfoldable pub judge : Told → ℕ → List ℕ → Judged
 judge t ed s = byStuffing (lengthAnswer s) (judgeFields t (among ed (fieldsOf (unstuffed s))))
+
+-- the fields that a stretch holds: none where it is too long or badly stuffed
+abbrev pub heldBy : Unstuffed → Fields → Fields
+heldBy unstuffed-is.TooLong f = no-body
+heldBy unstuffed-is.NoRoom f = no-body
+heldBy unstuffed-is.Bad f = no-body
+heldBy (unstuffed-is.Length n) f = f
+
+unfoldable pub held : List ℕ → Fields
+held s = heldBy (lengthAnswer s) (fieldsOf (unstuffed s))

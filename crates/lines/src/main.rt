@@ -8,6 +8,7 @@ use libc::STDIN_FILENO;
 use libc::STDOUT_FILENO;
 use reader::ALL_WORK;
 use reader::Asked;
+use reader::EDITION_ONE;
 use reader::Reading;
 
 // How the listing stands: where the next reading starts, how many rows were lines and how many refusals, whether it is at its end, and
@@ -100,9 +101,12 @@ fn stopped(t: Tally, failed: bool) -> Tally {
     }
 }
 
-// One reading and its row, with all the work allowed. The two places of a stretch differ; those of the end, and of a call that is refused, do not.
+// One reading and its row, of edition one and with all the work allowed. The two places of a stretch differ; those of the end, and of a call that is refused, do not.
 fn one(stream: &[u8], key: &[u8], font: &[u8], line: &mut [u8], t: Tally) -> Tally {
-    let everything = Asked { allowed: ALL_WORK };
+    let everything = Asked {
+        editions: EDITION_ONE,
+        allowed: ALL_WORK,
+    };
     let reading = reader::read(stream, t.next, key, font, everything, line);
     if reading.first == reading.closing {
         return stopped(t, false);

@@ -26,6 +26,8 @@ use Rattle.lubdhvani.proofs.lubdhvani_seal.Kinds as seal-kinds
 use Rattle.lubdhvani.proofs.lubdhvani_seal.Reads as seal-reads
 use Rattle.lubdhvani.proofs.lubdhvani_write.Kinds as write-kinds
 use Rattle.lubdhvani.proofs.lubdhvani_write.Reads as write-reads
+use Rattle.lubdhvani.proofs.lubdhvani_write_two.Kinds as two-kinds
+use Rattle.lubdhvani.proofs.lubdhvani_write_two.Reads as two-reads
 use Rattle.lubdhvani.specs.declared.Reading.{Reading}
 use Rattle.lubdhvani.proofs.lubdhvani_read.Kinds as read-kinds
 use Rattle.lubdhvani.proofs.lubdhvani_read.Reads as read-reads
@@ -92,6 +94,13 @@ pub lubdhvani-write-single : (κs : Lfts 7) (a : Dens κs write-kinds.ps) (r r�
     → write-reads.Post κs a r x → write-reads.Post κs a r′ x′
     → (r ≡ r′) × (x .1 .1 .1 .1 .0 .now ≡ x′ .1 .1 .1 .1 .0 .now) × (x .1 .1 .1 .1 .1 .0 .now ≡ x′ .1 .1 .1 .1 .1 .0 .now) × (x .1 .1 .1 .1 .1 .1 .0 .now ≡ x′ .1 .1 .1 .1 .1 .1 .0 .now)
 lubdhvani-write-single κs a r r′ x x′ p q =
+    (p .0 ∙ sym (q .0), p .1 .0 ∙ sym (q .1 .0), p .1 .1 .0 ∙ sym (q .1 .1 .0), p .1 .1 .1 ∙ sym (q .1 .1 .1))
+
+pub lubdhvani-write-two-single : (κs : Lfts 8) (a : Dens κs two-kinds.ps) (r r′ : ℕ)
+    (x x′ : AtExit (endedOf 8 two-kinds.ps two-kinds.r) κs)
+    → two-reads.Post κs a r x → two-reads.Post κs a r′ x′
+    → (r ≡ r′) × (x .1 .1 .1 .1 .1 .0 .now ≡ x′ .1 .1 .1 .1 .1 .0 .now) × (x .1 .1 .1 .1 .1 .1 .0 .now ≡ x′ .1 .1 .1 .1 .1 .1 .0 .now) × (x .1 .1 .1 .1 .1 .1 .1 .0 .now ≡ x′ .1 .1 .1 .1 .1 .1 .1 .0 .now)
+lubdhvani-write-two-single κs a r r′ x x′ p q =
     (p .0 ∙ sym (q .0), p .1 .0 ∙ sym (q .1 .0), p .1 .1 .0 ∙ sym (q .1 .1 .0), p .1 .1 .1 ∙ sym (q .1 .1 .1))
 
 -- the reading, and the line

@@ -12,6 +12,9 @@ ghost use Rattle.cipher.specs.Instances.{named};
 ghost use Rattle.ingage.specs.Answers.{sealNamed, openNamed, sealNumber, sealCount, openNumber, openCount};
 ghost use Rattle.frame.specs.Answers.{writeCall};
 ghost use Rattle.frame.specs.Answers as writing;
+ghost use mathlib.Core.List.{[]};
+ghost use Rattle.body.specs.declared.Edition.the-variants.{One, Two};
+ghost use Rattle.body.specs.Fields.{ownOf};
 ghost use Rattle.framing.specs.Told.{told};
 ghost use Rattle.reader.specs.Answers.{readAnswer, readOut};
 ghost use Rattle.stream.specs.Stretches.{nextSpan};
@@ -180,7 +183,7 @@ pub extern "C" fn lubdhvani_open(
     open_number(answer)
 }
 
-// Writes the frame of a line.
+// Writes the frame of a line in edition one.
 #[no_mangle]
 pub extern "C" fn lubdhvani_write(
     key: &[u8],
@@ -191,12 +194,35 @@ pub extern "C" fn lubdhvani_write(
     length: &mut usize,
     calls: &mut usize,
 ) -> u32
-    ensures { λ r. ⌜ r ≡ writing.numberOf (writeCall (told (now (key .entry)) (now (font .entry))) (now (nonce .entry)) (now (line .entry)) (now (frame .entry)) .answer) ⌝ }
-    ensures { λ _. ⌜ now (frame .exit) ≡ writeCall (told (now (key .entry)) (now (font .entry))) (now (nonce .entry)) (now (line .entry)) (now (frame .entry)) .frame ⌝ }
-    ensures { λ _. ⌜ now (length .exit) ≡ writing.lengthOf (writeCall (told (now (key .entry)) (now (font .entry))) (now (nonce .entry)) (now (line .entry)) (now (frame .entry)) .answer) ⌝ }
-    ensures { λ _. ⌜ now (calls .exit) ≡ writing.countOf (writeCall (told (now (key .entry)) (now (font .entry))) (now (nonce .entry)) (now (line .entry)) (now (frame .entry)) .answer) ⌝ }
+    ensures { λ r. ⌜ r ≡ writing.numberOf (writeCall (told (now (key .entry)) (now (font .entry))) (ownOf One (now (nonce .entry)) []) (now (line .entry)) (now (frame .entry)) .answer) ⌝ }
+    ensures { λ _. ⌜ now (frame .exit) ≡ writeCall (told (now (key .entry)) (now (font .entry))) (ownOf One (now (nonce .entry)) []) (now (line .entry)) (now (frame .entry)) .frame ⌝ }
+    ensures { λ _. ⌜ now (length .exit) ≡ writing.lengthOf (writeCall (told (now (key .entry)) (now (font .entry))) (ownOf One (now (nonce .entry)) []) (now (line .entry)) (now (frame .entry)) .answer) ⌝ }
+    ensures { λ _. ⌜ now (calls .exit) ≡ writing.countOf (writeCall (told (now (key .entry)) (now (font .entry))) (ownOf One (now (nonce .entry)) []) (now (line .entry)) (now (frame .entry)) .answer) ⌝ }
 {
     let answer = frame::write(key, nonce, font, line, frame);
+    *length = write_length(answer);
+    *calls = write_count(answer);
+    write_number(answer)
+}
+
+// Writes the frame of a line in edition two, with its job.
+#[no_mangle]
+pub extern "C" fn lubdhvani_write_two(
+    key: &[u8],
+    nonce: &[u8],
+    font: &[u8],
+    job: &[u8],
+    line: &[u8],
+    frame: &mut [u8],
+    length: &mut usize,
+    calls: &mut usize,
+) -> u32
+    ensures { λ r. ⌜ r ≡ writing.numberOf (writeCall (told (now (key .entry)) (now (font .entry))) (ownOf Two (now (nonce .entry)) (now (job .entry))) (now (line .entry)) (now (frame .entry)) .answer) ⌝ }
+    ensures { λ _. ⌜ now (frame .exit) ≡ writeCall (told (now (key .entry)) (now (font .entry))) (ownOf Two (now (nonce .entry)) (now (job .entry))) (now (line .entry)) (now (frame .entry)) .frame ⌝ }
+    ensures { λ _. ⌜ now (length .exit) ≡ writing.lengthOf (writeCall (told (now (key .entry)) (now (font .entry))) (ownOf Two (now (nonce .entry)) (now (job .entry))) (now (line .entry)) (now (frame .entry)) .answer) ⌝ }
+    ensures { λ _. ⌜ now (calls .exit) ≡ writing.countOf (writeCall (told (now (key .entry)) (now (font .entry))) (ownOf Two (now (nonce .entry)) (now (job .entry))) (now (line .entry)) (now (frame .entry)) .answer) ⌝ }
+{
+    let answer = frame::write_two(key, nonce, font, job, line, frame);
     *length = write_length(answer);
     *calls = write_count(answer);
     write_number(answer)
@@ -221,6 +247,7 @@ pub extern "C" fn lubdhvani_next_stretch(
 // What a reader is told anew at each call, as a C struct.
 #[repr(C)]
 pub struct Asked {
+    pub editions: usize,
     pub allowed: usize,
 }
 
@@ -231,6 +258,8 @@ pub struct Reading {
     pub closing: usize,
     pub length: usize,
     pub calls: usize,
+    pub edition: usize,
+    pub job: usize,
     pub number: u32,
     pub given: u32,
 }
@@ -249,6 +278,7 @@ pub extern "C" fn lubdhvani_read(
     ensures { λ _. ⌜ now (line .exit) ≡ readOut (told (now (key .entry)) (now (font .entry))) (askedOf asked) (now (stream .entry)) from (now (line .entry)) ⌝ }
 {
     let told_anew = reader::Asked {
+        editions: asked.editions,
         allowed: asked.allowed,
     };
     let reading = reader::read(stream, from, key, font, told_anew, line);
@@ -258,6 +288,8 @@ pub extern "C" fn lubdhvani_read(
         closing: reading.closing,
         length: read_length(answer),
         calls: read_count(answer),
+        edition: reading.edition,
+        job: reading.job,
         number: read_number(answer),
         given: read_given(answer),
     }

@@ -5,3 +5,4 @@ pub mod Parts
 pub mod Opening
 pub mod Single
 pub mod Jobs
+pub mod Handed

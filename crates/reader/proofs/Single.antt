@@ -1,4 +1,4 @@
--- The promise of `read`, as the check reads it (`Post`), admits a single answer and a single line buffer. Assumes nothing.
+-- The promises of `read`, `judge` and `fields_in`, as the check reads them (`Post`), admit a single answer and a single line buffer. Assumes nothing.
 use mathlib.Core.Path.{_≡_, sym, _∙_}
 use contract.Lifetimes.{Lfts}
 use denote.Triple.Clauses.{AtExit}
@@ -6,7 +6,21 @@ use borrow.Fn.Kinds.{Dens, endedOf}
 use Rattle.reader.specs.declared.Reading.{Reading}
 use Rattle.reader.proofs.read.Kinds as kinds
 use Rattle.reader.proofs.read.Reads.{Post}
+use Rattle.reader.specs.declared.Verdict.{Verdict}
+use Rattle.reader.proofs.judge.Kinds as judge-kinds
+use Rattle.reader.proofs.judge.Reads as judge-reads
+use Rattle.body.specs.declared.Judged.{Judged}
+use Rattle.reader.proofs.fields_in.Kinds as fields-kinds
+use Rattle.reader.proofs.fields_in.Reads as fields-reads
 
 pub read-single : (κs : Lfts 4) (a : Dens κs kinds.ps) (r r′ : Reading) (x x′ : AtExit (endedOf 4 kinds.ps kinds.r) κs)
     → Post κs a r x → Post κs a r′ x′ → (r ≡ r′) × (x .1 .1 .1 .1 .1 .0 .now ≡ x′ .1 .1 .1 .1 .1 .0 .now)
 read-single κs a r r′ x x′ p q = (p .0 ∙ sym (q .0), p .1 ∙ sym (q .1))
+
+pub judge-single : (κs : Lfts 4) (a : Dens κs judge-kinds.ps) (r r′ : Verdict) (x x′ : AtExit (endedOf 4 judge-kinds.ps judge-kinds.r) κs)
+    → judge-reads.Post κs a r x → judge-reads.Post κs a r′ x′ → (r ≡ r′) × (x .1 .1 .1 .1 .0 .now ≡ x′ .1 .1 .1 .1 .0 .now)
+judge-single κs a r r′ x x′ p q = (p .0 ∙ sym (q .0), p .1 ∙ sym (q .1))
+
+pub fields-in-single : (κs : Lfts 1) (a : Dens κs fields-kinds.ps) (r r′ : Judged) (x x′ : AtExit (endedOf 1 fields-kinds.ps fields-kinds.r) κs)
+    → fields-reads.Post κs a r x → fields-reads.Post κs a r′ x′ → r ≡ r′
+fields-in-single κs a r r′ x x′ p q = p ∙ sym q

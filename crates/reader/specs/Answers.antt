@@ -87,6 +87,16 @@ abbrev pub readingOf : Found → Reading
 readingOf (call at a) = readingAt (span at at) (plain a)
 readingOf (stretch p j) = readingAt p (verdictOf j)
 
+-- what judging a stretch that is handed in comes to: 2, 4, then the stretch's own
+unfoldable pub judgeAnswer : Told → Asked → List ℕ → List ℕ → Verdict
+judgeAnswer t a s o =
+    cond (not (sizedTold t)) (plain answer-is.Sizes)
+    (cond (ltb (length o) longest) (plain answer-is.NoRoom)
+    (verdictOf (judgedWithin t a s)))
+
+unfoldable pub judgeOut : Told → Asked → List ℕ → List ℕ → List ℕ
+judgeOut t a s o = cond (not (sizedTold t)) o (cond (ltb (length o) longest) o (lineOver (judgedWithin t a s) o))
+
 -- what the line buffer holds then
 abbrev pub buffer : Found → List ℕ → List ℕ
 buffer (call at a) o = o

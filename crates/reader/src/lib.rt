@@ -9,17 +9,17 @@ ghost use Rattle.line.specs.Lines.{longest};
 ghost use Rattle.cipher.specs.Instances.{first as firstInstance};
 ghost use Rattle.ingage.specs.Exactly.{Within};
 ghost use Rattle.body.specs.Fields.{jobLength, fieldsOf};
-ghost use Rattle.body.specs.Answers.{editionNumber};
+ghost use Rattle.body.specs.Answers.{editionNumber, judged};
 ghost use Rattle.body.specs.Job.{jobNumber};
 ghost use Rattle.body.specs.Places.{jobAt};
 ghost use Rattle.judging.specs.Editions.{allows as allowed, among};
 ghost use Rattle.judging.specs.Judged.{label};
-ghost use Rattle.judging.specs.Judging.{judgeSealed, judgeFields};
+ghost use Rattle.judging.specs.Judging.{judgeSealed, judgeFields, held};
 ghost use Rattle.judging.specs.Ceiling.{within};
 ghost use Rattle.judging.specs.Sizes.{Sizes};
 ghost use Rattle.framing.specs.Told.{keyLength, told};
 ghost use Rattle.reader.specs.Parts.{jobIn, Parts, judgeParts};
-ghost use Rattle.reader.specs.Answers.{plain, verdictOf, judgedWithin, lineOver, readingAt, readAnswer, readOut};
+ghost use Rattle.reader.specs.Answers.{plain, verdictOf, judgedWithin, judgeAnswer, judgeOut, lineOver, readingAt, readAnswer, readOut};
 use body::ASSOCIATED_AT;
 use body::ASSOCIATED_LENGTH;
 use body::CIPHER_AT;
@@ -29,6 +29,7 @@ use body::Edition;
 use body::HEAD_LENGTH;
 use body::HIGH_BYTE;
 use body::JOB_AT;
+use body::JOB_LENGTH;
 use body::LONGEST_LINE;
 use body::NONCE_AT;
 use body::NONCE_LENGTH;
@@ -50,8 +51,8 @@ use stuffing::unstuff;
 // The longest stream in bytes (document 01, number 3).
 pub const LONGEST_STREAM: usize = 65536;
 
-// All the work that a stretch can take, in calls of the permutation: that of the longest line.
-pub const ALL_WORK: usize = LONGEST_LINE + BESIDE_LINE;
+// All the work that a stretch can take, in calls of the permutation: that of the longest line, in edition two.
+pub const ALL_WORK: usize = LONGEST_LINE + BESIDE_LINE + HEAD_LENGTH + JOB_LENGTH;
 
 // What a reader is told anew at each call: which editions it allows, and how many calls of the permutation one stretch is allowed.
 pub struct Asked {
@@ -297,6 +298,39 @@ fn judge_stretch(stretch: &[u8], key: &[u8], font: &[u8], asked: Asked, line: &m
         Unstuffed::Length(n) => n,
     };
     judge_fields(&body[0..n], key, font, asked, line)
+}
+
+// Judges the bytes of a stretch that is handed in, what stands between two marks. A line that is given is written to the start of line; nothing
+// else is written.
+pub fn judge(stretch: &[u8], key: &[u8], font: &[u8], asked: Asked, line: &mut [u8]) -> Verdict
+    ensures { λ r. ⌜ r ≡ judgeAnswer (told (now (key .entry)) (now (font .entry))) asked (now (stretch .entry)) (now (line .entry)) ⌝ }
+    ensures { λ _. ⌜ now (line .exit) ≡ judgeOut (told (now (key .entry)) (now (font .entry))) asked (now (stretch .entry)) (now (line .entry)) ⌝ }
+{
+    if key.len() != KEY_LENGTH {
+        return refused(Answer::Sizes);
+    }
+    if font.len() != DIGEST_LENGTH {
+        return refused(Answer::Sizes);
+    }
+    if line.len() < LONGEST_LINE {
+        return refused(Answer::NoRoom);
+    }
+    judge_stretch(stretch, key, font, asked, line)
+}
+
+// What the fields are that a stretch holds, of whatever edition; none where it is too long or badly stuffed.
+pub fn fields_in(stretch: &[u8]) -> body::Judged
+    ensures { λ r. ⌜ r ≡ judged (held (now (stretch .entry))) ⌝ }
+{
+    let mut body = [0u8; LONGEST_STRETCH];
+    let n = match unstuff(stretch, &mut body) {
+        Unstuffed::TooLong => return body::Judged::Shape,
+        Unstuffed::Bad => return body::Judged::Shape,
+        // Never: the body has room for the longest stretch.
+        Unstuffed::NoRoom => return body::Judged::Shape,
+        Unstuffed::Length(n) => n,
+    };
+    judge_body(&body[0..n])
 }
 
 // An answer with one place for both.

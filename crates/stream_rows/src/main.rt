@@ -161,7 +161,10 @@ fn told_rows(c: Case, name: &[u8], stream: &[u8]) {
         c.place,
         &key[0..k],
         &font[0..f],
-        Asked { allowed: c.allowed },
+        Asked {
+            editions: reader::EDITION_ONE,
+            allowed: c.allowed,
+        },
         &mut line[0..l],
     );
 }
