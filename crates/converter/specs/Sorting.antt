@@ -5,9 +5,9 @@ use mathlib.Core.Bool.{Bool, true, false, not, cond}
 use mathlib.Core.List.{List}
 use Prim.Native.Nat.{ℕ, _≤_}
 use native.Mathlib.Omega.{arith}
-use lib.Dec.{ltb}
+use lib.Dec.{eqb, ltb}
 use lib.ListN.{length}
-use borrow.Author.Tests.{le-ltb, ltb-false}
+use borrow.Author.Tests.{eqb-true, le-ltb}
 use Rattle.lists.specs.Below.{Below}
 use Rattle.lists.specs.Buffers.{over}
 use Rattle.lists.specs.Never.{never}
@@ -17,8 +17,8 @@ use Rattle.stuffing.specs.Stuffing.{unstuffed}
 use Rattle.stuffing.specs.Answers.{lengthAnswer}
 use Rattle.body.specs.declared.Edition.{Edition}
 use Rattle.body.specs.declared.Edition.the-variants.{One, Two}
-use Rattle.body.specs.Fields.{Own, Fields, fields, no-body, fieldsOf}
-use Rattle.framing.specs.Told.{Told}
+use Rattle.body.specs.Fields.{nonceLength, digestLength, jobSize, Own, Fields, fields, no-body, fieldsOf}
+use Rattle.framing.specs.Told.{keyLength, Told}
 use Rattle.framing.specs.Frames.{frameOf}
 use Rattle.framing.specs.Lengths.{frameRoom, Sealable}
 use Rattle.frame.specs.Answers.{sizesRight}
@@ -48,7 +48,7 @@ module _ (t : Told) (named : Edition) where
       go : (b : Bool) → sameEdition named (own .edition) ≡ b → not b ≡ false
           → cond (not b) misnamed (judged (judgeFields t (fields own digest cipher T))) ≡ judged (judgeFields t (among (only named) (fields own digest cipher T)))
       go true e n = rw (sym (same-allows named (own .edition)) ∙ e)
-      go false e n = never n
+      go false e n = never (sym n)
 
   by-stuffing : (u : Unstuffed) (f : Fields) → otherThan named (heldBy u f) ≡ false
       → sortStuffing u (sortFields t named f) ≡ judged (byStuffing u (judgeFields t (among (only named) f)))
@@ -89,6 +89,17 @@ pub found-accepts : (t : Told) → Sizes t → (ed : ℕ) (s : List ℕ) → Bel
 found-accepts t z ed s bytes own r k L n e =
     let w = given-made t z ed s bytes k L n e .1 .accepts in
     record { sealable = right-sealable t own L r (length-right (w .sealable)); ruled = w .ruled }
+
+-- sizes that are right are right for a reader too
+pub sizes-told : (t : Told) (own : Own) → sizesRight t own ≡ true → Sizes t
+unfolding sizesRight
+sizes-told t own = go (eqb (length (t .key)) keyLength) refl (eqb (length (own .nonce)) nonceLength) (eqb (length (own .job)) (jobSize (own .edition)))
+  where
+    go : (x : Bool) → eqb (length (t .key)) keyLength ≡ x → (y v : Bool) → cond x (cond y (cond v (eqb (length (t .font)) digestLength) false) false) false ≡ true → Sizes t
+    go true p true true e = record { key-is = eqb-true (length (t .key)) keyLength p; font-is = eqb-true (length (t .font)) digestLength e }
+    go true p true false e = never e
+    go true p false v e = never e
+    go false p y v e = never e
 
 -- where no line is found the call is refused for it
 pub no-line : (t : Told) (own : Own) (x : Sorted) (frame : List ℕ) → (foundOf x .given ≡ 1 → ⊥) → bySort t own x frame ≡ refused (foundOf x .answer) frame

@@ -1,0 +1,59 @@
+-- `line_in` meets its promise: 16 where the stretch is misnamed, else what a reader of the edition named alone finds. Assumes nothing.
+use mathlib.Core.Path.{sym, _∙_}
+use native.Mathlib.Omega.{arith}
+use borrow.Author.Needs.{needs}
+use Rattle.lists.specs.Below.{below-all}
+use Rattle.framing.specs.Told.{told}
+use Rattle.converter.proofs.Converting.{at-misnamed, at-judged}
+use Rattle.converter.proofs.line_in.Statement.{statement}
+use Rattle.converter.proofs.line_in.Tie as tie
+
+misnamed-requires : tie.Need-misnamed-requires
+misnamed-requires c κs = search needs
+
+returns : tie.Need-returns
+returns c =
+    let a = c .before .before .before .before .before .before .args in
+    at-misnamed (told (a .key .now) (a .font .now)) (a .named) (a .stretch .now) (a .line .now) (sym (c .before .misnamed .ensures) ∙ c .if1 .taken)
+
+only-requires : tie.Need-only-requires
+only-requires c κs = search needs
+
+judge-requires : tie.Need-judge-requires
+judge-requires c κs = search needs
+
+converted-of-requires : tie.Need-converted-of-requires
+converted-of-requires c κs = search needs
+
+read-given-requires : tie.Need-read-given-requires
+read-given-requires c κs = search needs
+
+read-length-requires : tie.Need-read-length-requires
+read-length-requires c κs = search needs
+
+same-length : tie.Need-same-length
+same-length c = search needs
+
+returns-2 : tie.Need-returns-2
+returns-2 c =
+    let s = c .before .before .before .before .before .before .before .before .before .before .before .before .before .before in
+    let a = s .args in
+    let j = c .before .before .before .before .before .judge in
+    at-judged (told (a .key .now) (a .font .now)) (a .named) (a .stretch .now) (a .line .now)
+    (sym (c .before .before .before .before .before .before .before .before .before .misnamed .ensures) ∙ c .before .before .before .before .before .before .before .before .if1 .left) (s .pre .0)
+    (below-all 256 (a .stretch .now) (λ k h. omega (arith, c .before .before .before .before .before .before .before .before .before .before .before .before .before .shared-slice-known .given k))) (s .pre .1) _ (c .before .before .before .before .before .before .before .only .ensures) (omega arith)
+    _ _ (j .ensures .0) (j .ensures .1) _ _ _ (c .before .before .converted-of .ensures) (c .before .read-given .ensures) (c .read-length .ensures)
+
+pub line-in-spec : {M : Type 1} → statement M
+line-in-spec =
+    tie.close
+    (tie.spec
+    misnamed-requires
+    returns
+    only-requires
+    judge-requires
+    converted-of-requires
+    read-given-requires
+    read-length-requires
+    same-length
+    returns-2)
