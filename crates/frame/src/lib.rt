@@ -95,7 +95,15 @@ fn sealed_body(
     let length = body::ASSOCIATED_LENGTH + job_field_length(edition);
     let mut cipher = [0u8; body::LONGEST_LINE];
     let mut seal = [0u8; body::SEAL_LENGTH];
-    ingage::seal(INSTANCE, key, nonce, &assoc[0..length], line, &mut cipher, &mut seal);
+    ingage::seal(
+        INSTANCE,
+        key,
+        nonce,
+        &assoc[0..length],
+        line,
+        &mut cipher,
+        &mut seal,
+    );
     let mut out = [0u8; body::LONGEST_BODY];
     putting::put_body(
         edition,

@@ -6,15 +6,16 @@ use mathlib.Core.List.{List}
 use Prim.Native.Nat.{ℕ}
 use Rattle.lists.specs.Buffers.{same}
 use Rattle.lists.specs.Sameness.{same-eq}
-use Rattle.stuffing.specs.Stuffing.{stuffed}
+use Rattle.stuffing.specs.Stuffing.{stuffed, unstuffed}
 use Rattle.stuffing.specs.RoundTrip.{unstuff-stuff}
 use Rattle.stuffing.specs.GoodStuffing.{stuff-well}
-use Rattle.body.specs.Fields.{fieldsOf}
+use Rattle.body.specs.Fields.{Own, fieldsOf}
 use Rattle.body.specs.OneToOne.{fields-body}
 use Rattle.framing.specs.Told.{Told}
 use Rattle.framing.specs.Frames.{sealedLine, sealedBody, frameOf}
 use Rattle.framing.specs.Lengths.{Sealable, sealed-sized, stretch-within}
 use Rattle.framing.specs.OneToOne.{between, between-framed}
+use Rattle.judging.specs.Editions.{allows, among-allowed}
 use Rattle.judging.specs.Judged.{font}
 use Rattle.judging.specs.Judging.{judge}
 use Rattle.judging.specs.Cases.{Holds, judge-holds}
@@ -26,16 +27,17 @@ differ a b n = go (same a b) refl
     go true e = absurd (n (same-eq a b e))
     go false e = refl
 
-module _ (t t′ : Told) (nonce line : List ℕ) (a : Sealable t nonce line) (other : t .font ≡ t′ .font → ⊥) where
-  holds : Holds (stuffed (sealedBody t nonce line)) nonce (t .font) (sealedLine t nonce line .text) (sealedLine t nonce line .seal)
+module _ (t t′ : Told) (ed : ℕ) (own : Own) (line : List ℕ) (a : Sealable t own line) (y : allows ed (own .edition) ≡ true) (other : t .font ≡ t′ .font → ⊥) where
+  holds : Holds ed (stuffed (sealedBody t own line)) own (t .font) (sealedLine t own line .text) (sealedLine t own line .seal)
   unfolding sealedBody
   holds = (
-    record { short = stretch-within a; well = stuff-well (sealedBody t nonce line) },
-    ap fieldsOf (unstuff-stuff (sealedBody t nonce line)) ∙ fields-body (sealed-sized a),
+    record { short = stretch-within a; well = stuff-well (sealedBody t own line) },
+    among-allowed ed (fieldsOf (unstuffed (stuffed (sealedBody t own line)))) (ap fieldsOf (unstuff-stuff (sealedBody t own line)) ∙ fields-body (sealed-sized a)) y,
   )
 
-  pub other-font-refused : judge t′ (between (frameOf t nonce line)) ≡ font
+  -- of each edition, to every reader that allows it
+  pub other-font-refused : judge t′ ed (between (frameOf t own line)) ≡ font
   unfolding frameOf
   other-font-refused =
-      ap (judge t′) (between-framed (sealedBody t nonce line))
-      ∙ judge-holds t′ (stuffed (sealedBody t nonce line)) holds ∙ rw (differ (t .font) (t′ .font) other)
+      ap (judge t′ ed) (between-framed (sealedBody t own line))
+      ∙ judge-holds t′ ed (stuffed (sealedBody t own line)) holds ∙ rw (differ (t .font) (t′ .font) other)
