@@ -143,7 +143,7 @@ static void fill_frames(size_t length, enum kind kind)
 
 static void read_all(int who)
 {
-    const struct lubdhvani_asked everything = {.allowed = LUBDHVANI_ALL_WORK};
+    const struct lubdhvani_asked everything = {.editions = LUBDHVANI_EDITION_ONE, .allowed = LUBDHVANI_ALL_WORK};
     struct lubdhvani_reading reading = {0};
     (void)who;
     do

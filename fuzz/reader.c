@@ -66,7 +66,7 @@ static void must(int holds, const char *what)
 }
 
 static uint8_t key[LUBDHVANI_KEY], other_key[LUBDHVANI_KEY], font[LUBDHVANI_DIGEST], other_font[LUBDHVANI_DIGEST];
-static const struct lubdhvani_asked everything = {.allowed = LUBDHVANI_ALL_WORK};
+static const struct lubdhvani_asked everything = {.editions = LUBDHVANI_EDITION_ONE, .allowed = LUBDHVANI_ALL_WORK};
 
 /* The input, byte by byte; zeros where it has run out. */
 
@@ -562,7 +562,7 @@ int LLVMFuzzerTestOneInput(const uint8_t *data, size_t size)
         (how & 0x0C) == 0x0C ? other_key : key,
         (how & 0x30) == 0x30 ? other_font : font,
         (how & 0xC0) == 0xC0 ? LUBDHVANI_LONGEST_LINE - 1 : LUBDHVANI_LONGEST_LINE + (how >> 6) * MORE_ROOM / 2u,
-        {.allowed = work & 0x80 ? work & 0x7F : LUBDHVANI_ALL_WORK},
+        {.editions = LUBDHVANI_EDITION_ONE, .allowed = work & 0x80 ? work & 0x7F : LUBDHVANI_ALL_WORK},
     };
     read_all(lent_stream(), place, &told);
     return 0;

@@ -45,9 +45,11 @@ enum {
     LUBDHVANI_LONGEST_ASSOCIATED = 1024,
     LUBDHVANI_LONGEST_TEXT = 4096,     /* a message to seal, and a ciphertext to open */
     LUBDHVANI_LONGEST_LINE = 65,       /* a line has 1 to 65 bytes; also the least room for a line */
-    LUBDHVANI_FRAME = 276,             /* the least room for a frame */
-    LUBDHVANI_LONGEST_STRETCH = 274,   /* a longer one is refused with 7 */
-    LUBDHVANI_ALL_WORK = 104,          /* calls of the permutation that are enough for every stretch: those of the longest line */
+    LUBDHVANI_FRAME = 276,             /* the least room for a frame of edition one */
+    LUBDHVANI_FRAME_TWO = 290,         /* the least room for a frame of edition two */
+    LUBDHVANI_JOB = 4,                 /* a job, which edition two has */
+    LUBDHVANI_LONGEST_STRETCH = 288,   /* a longer one is refused with 7 */
+    LUBDHVANI_ALL_WORK = 111,          /* calls of the permutation that are enough for every stretch: those of the longest line, in edition two */
     LUBDHVANI_LARGEST_BLOCK = 16,      /* the largest rate of a hash instance */
     LUBDHVANI_INSTANCES = 10,          /* hash instances are 1 to 10; fonts are digested with 1 */
     LUBDHVANI_CIPHERS = 6,             /* cipher instances are 1 to 6; frames are sealed with 1 */
@@ -66,12 +68,12 @@ enum {
 enum {
     LUBDHVANI_DONE = 0,        /* done, or the end of the stream */
     LUBDHVANI_UNKNOWN = 1,     /* unknown hash or cipher instance, state size not permitted, or a record that no feeding gives */
-    LUBDHVANI_SIZES = 2,       /* key, nonce, digest, seal or seal buffer not of its size: 16, 12, 32, 16, 16 bytes, or the cipher's */
+    LUBDHVANI_SIZES = 2,       /* key, nonce, digest, seal, seal buffer or job not of its size: 16, 12, 32, 16, 16, 4 bytes, or the cipher's */
     LUBDHVANI_TOO_LONG = 3,    /* an input over its limit, or the writer's line not 1 to 65 bytes */
     LUBDHVANI_NO_ROOM = 4,     /* a buffer too small */
     LUBDHVANI_BAD_SEAL = 5,    /* the seal is not the one worked out */
     LUBDHVANI_BAD_STUFFING = 6,
-    LUBDHVANI_BAD_SHAPE = 7,   /* a stretch over 274 bytes, or fields not as they must be */
+    LUBDHVANI_BAD_SHAPE = 7,   /* a stretch over 288 bytes, or fields not as they must be, of an edition that is not allowed among them */
     LUBDHVANI_OTHER_FONT = 8,  /* the font digest differs from the one asked for */
     LUBDHVANI_UNLISTED = 9,    /* the line holds a byte that is not listed */
     LUBDHVANI_BEYOND = 10,     /* the place is beyond the stream's end */
@@ -149,13 +151,28 @@ uint32_t lubdhvani_write(const uint8_t *key, size_t key_length, const uint8_t *n
                          size_t font_length, const uint8_t *line, size_t line_length, uint8_t *frame, size_t room,
                          size_t *length, size_t *calls);
 
+/* The same in edition two, with a job of 4 bytes; 2 also for a job of another length.
+ * 0: *calls = line_length + 46. 4: room under 290. */
+uint32_t lubdhvani_write_two(const uint8_t *key, size_t key_length, const uint8_t *nonce, size_t nonce_length, const uint8_t *font,
+                             size_t font_length, const uint8_t *job, size_t job_length, const uint8_t *line, size_t line_length,
+                             uint8_t *frame, size_t room, size_t *length, size_t *calls);
+
+/* The editions that a reader allows: a set of two bits; other bits say nothing. */
+enum {
+    LUBDHVANI_EDITION_ONE = 1,
+    LUBDHVANI_EDITION_TWO = 2,
+    LUBDHVANI_BOTH_EDITIONS = 3
+};
+
 /* The next stretch of a stream of any length: the first whose opening mark stands at `from` or later.
  * *first is the place of its first byte, *closing that of its closing mark. Where there is none both are stream_length. */
 void lubdhvani_next_stretch(const uint8_t *stream, size_t stream_length, size_t from, size_t *first, size_t *closing);
 
-/* What a reader is told anew at each call. Later fields may join it: set it with an initializer, `{.allowed = LUBDHVANI_ALL_WORK}`. */
+/* What a reader is told anew at each call. Later fields may join it: set it with an initializer,
+ * `{.editions = LUBDHVANI_EDITION_ONE, .allowed = LUBDHVANI_ALL_WORK}`. */
 struct lubdhvani_asked {
-    size_t allowed; /* the calls of the permutation that the stretch is allowed */
+    size_t editions; /* the editions that are allowed; a stretch of another is refused with 7 */
+    size_t allowed;  /* the calls of the permutation that the stretch is allowed */
 };
 
 /* What a reading comes to. */
@@ -164,6 +181,8 @@ struct lubdhvani_reading {
     size_t closing;  /* the place of its closing mark, where the next reading starts */
     size_t length;   /* the line's length; 0 where no line is given */
     size_t calls;    /* the calls of the permutation made */
+    size_t edition;  /* the line's edition, 1 or 2; 0 where no line is given */
+    size_t job;      /* the job of a line of edition two as a number, high byte first; else 0 */
     uint32_t number; /* one of the numbers above */
     uint32_t given;  /* 1 where a line is given, else 0: the end of the stream has the number 0 too */
 };
@@ -172,8 +191,8 @@ struct lubdhvani_reading {
  * number 0, given 1: line[0..length] is the line. number 0, given 0: the end of the stream, first = closing = stream_length.
  * 5, 6, 7, 8, 9, 13, 15: the stretch from first up to closing is refused; line is untouched. Reading goes on from closing in each of
  * these cases. 2, 3, 4, 10: the call is refused, first = closing = from, line is untouched.
- * calls is n + 39 for a line, 5, 9 and 13, n being the length of the line's ciphertext; else 0, and never more than is allowed.
- * 15: n + 39 is more than is allowed. Nothing was worked out; the same stretch may be read again from the same place with more allowed. */
+ * calls is n + 39 (in edition two n + 46) for a line, 5, 9 and 13, n being the length of the line's ciphertext; else 0, and never more than is
+ * allowed. 15: that is more than is allowed. Nothing was worked out; the same stretch may be read again from the same place with more allowed. */
 struct lubdhvani_reading lubdhvani_read(const uint8_t *stream, size_t stream_length, size_t from, const uint8_t *key,
                                         size_t key_length, const uint8_t *font, size_t font_length, struct lubdhvani_asked asked,
                                         uint8_t *line, size_t room);

@@ -282,7 +282,7 @@ enum { BEAT = 60 };
 
 static struct lubdhvani_reading read_in_beats(size_t place, uint8_t line[LUBDHVANI_LONGEST_LINE])
 {
-    const struct lubdhvani_asked beat = {.allowed = BEAT}, everything = {.allowed = LUBDHVANI_ALL_WORK};
+    const struct lubdhvani_asked beat = {.editions = LUBDHVANI_EDITION_ONE, .allowed = BEAT}, everything = {.editions = LUBDHVANI_EDITION_ONE, .allowed = LUBDHVANI_ALL_WORK};
     memset(line, '#', LUBDHVANI_LONGEST_LINE);
     struct lubdhvani_reading r =
         lubdhvani_read(stream, stream_length, place, key, sizeof key, font, sizeof font, beat, line, LUBDHVANI_LONGEST_LINE);

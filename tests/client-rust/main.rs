@@ -28,7 +28,8 @@ mod lubdhvani {
     pub const OVER_WORK: u32 = 15;
 
     /// Enough for every stretch.
-    pub const ALL_WORK: usize = 104;
+    pub const ALL_WORK: usize = 111;
+    pub const EDITION_ONE: usize = 1;
 
     #[rustfmt::skip]
     extern "C" {
@@ -165,6 +166,7 @@ mod lubdhvani {
     #[repr(C)]
     #[derive(Clone, Copy)]
     pub struct Asked {
+        pub editions: usize,
         pub allowed: usize,
     }
 
@@ -176,6 +178,8 @@ mod lubdhvani {
         pub closing: usize,
         pub length: usize,
         pub calls: usize,
+        pub edition: usize,
+        pub job: usize,
         pub number: u32,
         pub given: u32,
     }
@@ -235,7 +239,7 @@ mod lubdhvani {
     }
 }
 
-use lubdhvani::{Asked, Reading, ALL_WORK, OVER_WORK};
+use lubdhvani::{Asked, Reading, ALL_WORK, EDITION_ONE, OVER_WORK};
 use lubdhvani::{ALIKE, NO_BUNDLE};
 use lubdhvani::{
     BAD_SEAL, BAD_SHAPE, BAD_STUFFING, DONE, INSTANCE, NOT_TRADE, OTHER_FONT, UNLISTED,
@@ -379,8 +383,8 @@ impl Checks {
         font: &[u8],
         line: &mut [u8],
     ) -> Reading {
-        let beat = Asked { allowed: BEAT };
-        let all = Asked { allowed: ALL_WORK };
+        let beat = Asked { editions: EDITION_ONE, allowed: BEAT };
+        let all = Asked { editions: EDITION_ONE, allowed: ALL_WORK };
         let before = line.to_vec();
         let reading = lubdhvani::read(stream, place, THE_KEY, font, beat, line);
         self.check(reading.calls <= BEAT, "no more calls are made than allowed");

@@ -28,7 +28,7 @@ static uint8_t frame[LUBDHVANI_FRAME], stretch[LUBDHVANI_LONGEST_STRETCH + 2];
 static uint8_t name[LUBDHVANI_LONGEST_NAME], rows[LUBDHVANI_BUNDLE_ROWS], bundle[LUBDHVANI_BUNDLE];
 static size_t calls, length, first, closing;
 static struct lubdhvani_running running;
-static const struct lubdhvani_asked everything = {.allowed = LUBDHVANI_ALL_WORK};
+static const struct lubdhvani_asked everything = {.editions = LUBDHVANI_EDITION_ONE, .allowed = LUBDHVANI_ALL_WORK};
 
 static void permute(void) { lubdhvani_permute(state, sizeof state); }
 static void unpermute(void) { lubdhvani_unpermute(state, sizeof state); }

@@ -12,6 +12,7 @@ pub enum Call {
     Seal,
     Open,
     Write,
+    WriteTwo,
     NextStretch,
     Read,
     BundleWrite,
@@ -49,7 +50,7 @@ const fn permuting(call: Call, name: &'static str) -> Signature {
     }
 }
 
-pub static SIGNATURES: [Signature; 13] = [
+pub static SIGNATURES: [Signature; 14] = [
     permuting(Call::Permute, "lubdhvani_permute"),
     permuting(Call::Unpermute, "lubdhvani_unpermute"),
     Signature {
@@ -89,6 +90,15 @@ pub static SIGNATURES: [Signature; 13] = [
         outcomes: &["0", "2", "3", "9", "13", "4"],
     },
     Signature {
+        call: Call::WriteTwo,
+        name: "lubdhvani_write_two",
+        number: None,
+        buffers: &["key", "nonce", "font", "job", "line", "frame"],
+        written: 1,
+        outs: &["length", "calls"],
+        outcomes: &["0", "2", "3", "9", "13", "4"],
+    },
+    Signature {
         call: Call::NextStretch,
         name: "lubdhvani_next_stretch",
         number: Some("from"),
@@ -103,7 +113,9 @@ pub static SIGNATURES: [Signature; 13] = [
         number: Some("from"),
         buffers: &["stream", "key", "font", "line"],
         written: 1,
-        outs: &["first", "closing", "length", "calls", "given"],
+        outs: &[
+            "first", "closing", "length", "calls", "edition", "job", "given",
+        ],
         outcomes: &[
             "line", "end", "2", "3", "4", "10", "7", "6", "8", "15", "5", "9", "13",
         ],

@@ -11,11 +11,11 @@ use second::cipher;
 use second::digest::{instances, sizes};
 use second::near::near_line;
 use second::numbers::{
-    ASSOCIATED_LIMIT, BESIDE_LINE, CIPHER_LIMIT, DIGEST, FRAME_ROOM, KEY, LINE_MOST, MESSAGE_LIMIT,
-    NONCE,
+    ASSOCIATED_LIMIT, BESIDE_LINE, CIPHER_LIMIT, DIGEST, FRAME_ROOM, FRAME_ROOM_2, JOB, KEY,
+    LINE_MOST, MESSAGE_LIMIT, NONCE,
 };
 use second::permutation::PERMITTED;
-use second::reader::Asked;
+use second::reader::{Asked, Editions, BOTH, ONE, TWO};
 
 /// A size is wrong once in so many times, and a room too small.
 const WRONG_SIZE: usize = 14;
@@ -31,7 +31,8 @@ pub fn case(chance: &mut Chance, stock: &Stock) -> Case {
         14..=25 => digest(chance),
         26..=37 => seal(chance),
         38..=49 => open(chance, stock),
-        50..=61 => (Call::Write, 0, write(chance, stock)),
+        50..=55 => (Call::Write, 0, write(chance, stock)),
+        56..=61 => (Call::WriteTwo, 0, write_two(chance, stock)),
         62..=71 => {
             let stream = stream(chance, stock);
             (Call::NextStretch, place(chance, &stream), vec![stream])
@@ -189,6 +190,15 @@ fn write(chance: &mut Chance, stock: &Stock) -> Vec<Vec<u8>> {
     ]
 }
 
+/// The same in edition two: with a job before the line, and more room.
+fn write_two(chance: &mut Chance, stock: &Stock) -> Vec<Vec<u8>> {
+    let mut contents = write(chance, stock);
+    let job = stuffy(chance, JOB);
+    contents.insert(3, sized(chance, job));
+    contents[5] = room(chance, FRAME_ROOM_2);
+    contents
+}
+
 fn read(chance: &mut Chance, stock: &Stock) -> (Call, usize, Vec<Vec<u8>>) {
     let stream = stream(chance, stock);
     let from = place(chance, &stream);
@@ -207,8 +217,8 @@ fn read(chance: &mut Chance, stock: &Stock) -> (Call, usize, Vec<Vec<u8>>) {
     (Call::Read, from, vec![stream, key, font, line])
 }
 
-/// Mostly all the work; else none, or around the count of a line of 1 to 65
-/// bytes, or the largest number.
+/// Some editions, and mostly all the work; else none, or around the count of a
+/// line of 1 to 65 bytes, or the largest number.
 fn asked(chance: &mut Chance) -> Asked {
     let allowed = match chance.below(12) {
         0 => chance.one_of(&[0, 1, BESIDE_LINE - 1, BESIDE_LINE]),
@@ -216,7 +226,8 @@ fn asked(chance: &mut Chance) -> Asked {
         5 => chance.one_of(&[usize::MAX, 1 << 63, VAST, VAST + BESIDE_LINE + LINE_MOST]),
         _ => BESIDE_LINE + LINE_MOST,
     };
-    Asked { allowed }
+    let editions = chance.one_of(&[ONE, TWO, BOTH, BOTH, Editions(0), Editions(7)]);
+    Asked { editions, allowed }
 }
 
 /// Mostly as it is; else of another size, one more or less among them.

@@ -61,6 +61,22 @@ extern "C" {
         length: *mut usize,
         calls: *mut usize,
     ) -> u32;
+    fn lubdhvani_write_two(
+        key: *const u8,
+        key_length: usize,
+        nonce: *const u8,
+        nonce_length: usize,
+        font: *const u8,
+        font_length: usize,
+        job: *const u8,
+        job_length: usize,
+        line: *const u8,
+        line_length: usize,
+        frame: *mut u8,
+        room: usize,
+        length: *mut usize,
+        calls: *mut usize,
+    ) -> u32;
     fn lubdhvani_next_stretch(
         stream: *const u8,
         stream_length: usize,
@@ -114,6 +130,7 @@ extern "C" {
 /// The structs of the header.
 #[repr(C)]
 struct Anew {
+    editions: usize,
     allowed: usize,
 }
 
@@ -123,6 +140,8 @@ struct Reading {
     closing: usize,
     length: usize,
     calls: usize,
+    edition: usize,
+    job: usize,
     number: u32,
     given: u32,
 }
@@ -220,12 +239,20 @@ unsafe fn called(case: &Case, puts: &[Put], outs: &[*mut usize]) -> u32 {
         (Call::Write, [key, nonce, font, line, frame], &[length, calls]) => {
             call!(lubdhvani_write: [key, nonce, font, line, frame] (length, calls))
         }
+        (Call::WriteTwo, [key, nonce, font, job, line, frame], &[length, calls]) => {
+            call!(lubdhvani_write_two: [key, nonce, font, job, line, frame] (length, calls))
+        }
         (Call::NextStretch, [stream], &[first, closing]) => {
             call!(lubdhvani_next_stretch: [stream] (case.number, first, closing));
             0
         }
-        (Call::Read, [stream, key, font, line], &[first, closing, length, calls, given]) => {
+        (
+            Call::Read,
+            [stream, key, font, line],
+            &[first, closing, length, calls, edition, job, given],
+        ) => {
             let asked = Anew {
+                editions: case.asked.editions.0 as usize,
                 allowed: case.asked.allowed,
             };
             let reading =
@@ -234,6 +261,8 @@ unsafe fn called(case: &Case, puts: &[Put], outs: &[*mut usize]) -> u32 {
             *closing = reading.closing;
             *length = reading.length;
             *calls = reading.calls;
+            *edition = reading.edition;
+            *job = reading.job;
             *given = reading.given as usize;
             reading.number
         }

@@ -4,6 +4,7 @@ use std::ops::Range;
 
 use crate::calls::{Answer, Call, Case};
 use crate::memory::Ground;
+use second::frame::Own;
 use second::numbers::DONE;
 use second::reader::{read, Told};
 use second::{bundle, cipher, digest, frame, permutation, stream};
@@ -49,6 +50,14 @@ fn answered(case: &Case, lent: &mut [&mut [u8]]) -> (u32, Vec<usize>) {
             let written = frame::write(key, nonce, font, line, out);
             (written.number.into(), vec![written.length, written.count])
         }
+        (Call::WriteTwo, [key, nonce, font, job, line, out]) => {
+            let own = Own {
+                nonce,
+                job: Some(job),
+            };
+            let written = frame::write_own(key, own, font, line, out);
+            (written.number.into(), vec![written.length, written.count])
+        }
         (Call::NextStretch, [stream]) => {
             let part = stream::next_stretch(stream, case.number);
             (0, vec![part.first, part.first + part.length])
@@ -61,6 +70,8 @@ fn answered(case: &Case, lent: &mut [&mut [u8]]) -> (u32, Vec<usize>) {
                 reading.closing,
                 reading.length,
                 reading.count,
+                reading.edition.into(),
+                reading.job as usize,
                 usize::from(reading.number == DONE && !reading.end),
             ];
             (reading.number.into(), outs)

@@ -3,9 +3,9 @@
 
 use second::chance::Chance;
 use second::cipher::{encrypt, instances, sizes};
-use second::frame::{framed, framed_escaping, framed_flipping, Fields};
+use second::frame::{framed, framed_escaping, framed_flipping, Fields, Own};
 use second::near::{near_line, trade_line};
-use second::numbers::{DIGEST, KEY, LINE_MOST, NONCE};
+use second::numbers::{DIGEST, JOB, KEY, LINE_MOST, NONCE};
 use second::readings::PRODUCT;
 use second::stuffing::{ESCAPE, MARK};
 
@@ -97,8 +97,12 @@ impl Stock {
     }
 
     fn fields_of(&self, chance: &mut Chance, line: &[u8]) -> Fields {
-        let nonce = stuffy(chance, NONCE);
-        Fields::sealing(&self.key, &nonce, &self.font, line).0
+        let (nonce, job) = (stuffy(chance, NONCE), stuffy(chance, JOB));
+        let own = Own {
+            nonce: &nonce,
+            job: chance.once_in(2).then(|| &job[..]),
+        };
+        Fields::sealing_own(&self.key, own, &self.font, line).0
     }
 
     /// Sealed as it should be, but under another key.
@@ -135,7 +139,7 @@ impl Stock {
     /// Fields exchanged, doubled, left out.
     fn body_misordered(&self, chance: &mut Chance) -> Vec<u8> {
         let mut whole = self.fields(chance).whole().to_vec();
-        let one = chance.below(4);
+        let one = chance.below(whole.len());
         match chance.below(3) {
             0 => whole.swap(one, (one + 1) % 4),
             1 => whole.insert(one, whole[one].clone()),
