@@ -19,7 +19,7 @@ static int write_frame(void)
 
 static int read_frame(size_t allowed)
 {
-    const struct lubdhvani_asked asked = {.allowed = allowed};
+    const struct lubdhvani_asked asked = {.editions = LUBDHVANI_EDITION_ONE, .allowed = allowed};
     uint8_t frame[LUBDHVANI_FRAME], given[LUBDHVANI_LONGEST_LINE];
     size_t length = fread(frame, 1, sizeof frame, stdin);
     const struct lubdhvani_reading r =
