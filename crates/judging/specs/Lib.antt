@@ -12,3 +12,4 @@ pub mod Resync
 pub mod Reaching
 pub mod Joining
 pub mod OtherFont
+pub mod EditionOne
