@@ -81,7 +81,8 @@ enum {
     LUBDHVANI_ALIKE = 12,      /* two glyphs with the same dots */
     LUBDHVANI_NOT_TRADE = 13,  /* the line's bytes are listed, but it is not the trade's line */
     LUBDHVANI_AFTER_FINISH = 14, /* feed or finish of a running digest after its finish */
-    LUBDHVANI_OVER_WORK = 15   /* the stretch takes more calls of the permutation than are allowed */
+    LUBDHVANI_OVER_WORK = 15,  /* the stretch takes more calls of the permutation than are allowed */
+    LUBDHVANI_OTHER_EDITION = 16 /* the converter's stretch is not of the edition named */
 };
 
 /* The permutation of 32 rounds on a state of `size` bytes, where it stands, and its inverse.
@@ -219,6 +220,16 @@ uint32_t lubdhvani_bundle_digest(const uint8_t *bundle, size_t bundle_length, ui
  * bundle (11 and 12 both), or the character is none of the fourteen, *first is bundle_length and *length 0. */
 void lubdhvani_bundle_name(const uint8_t *bundle, size_t bundle_length, size_t *first, size_t *length);
 void lubdhvani_bundle_rows(const uint8_t *bundle, size_t bundle_length, uint8_t character, size_t *first, size_t *length);
+
+/* The converter: the line of a stretch, what stands between two marks, sealed anew in the other edition under this nonce and, in edition two,
+ * this job. lubdhvani_to_one takes a stretch of edition two, lubdhvani_to_two one of edition one.
+ * 0: frame[0..*length] is the new frame with both its marks. 2, 4 (room under 276, or 290 for edition two), 7, 6, 16, 8, 5, 9, 13: frame is
+ * untouched, *length is 0. Going back under the first nonce, and the first job where there was one, gives the first frame byte for byte. */
+uint32_t lubdhvani_to_one(const uint8_t *stretch, size_t stretch_length, const uint8_t *key, size_t key_length, const uint8_t *font,
+                          size_t font_length, const uint8_t *nonce, size_t nonce_length, uint8_t *frame, size_t room, size_t *length);
+uint32_t lubdhvani_to_two(const uint8_t *stretch, size_t stretch_length, const uint8_t *key, size_t key_length, const uint8_t *font,
+                          size_t font_length, const uint8_t *nonce, size_t nonce_length, const uint8_t *job, size_t job_length,
+                          uint8_t *frame, size_t room, size_t *length);
 
 #ifdef __cplusplus
 }

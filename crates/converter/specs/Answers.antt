@@ -131,3 +131,16 @@ numberOf converted-is.Font = 8
 numberOf converted-is.Seal = 5
 numberOf converted-is.Unlisted = 9
 numberOf converted-is.Trade = 13
+
+-- the frame's length, 0 on a refusal
+abbrev pub lengthIn : Converted → ℕ
+lengthIn (converted-is.Done n) = n
+lengthIn converted-is.Sizes = 0
+lengthIn converted-is.NoRoom = 0
+lengthIn converted-is.Shape = 0
+lengthIn converted-is.Stuffing = 0
+lengthIn converted-is.Edition = 0
+lengthIn converted-is.Font = 0
+lengthIn converted-is.Seal = 0
+lengthIn converted-is.Unlisted = 0
+lengthIn converted-is.Trade = 0

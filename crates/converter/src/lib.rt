@@ -11,7 +11,7 @@ ghost use Rattle.framing.specs.Told.{told};
 ghost use Rattle.judging.specs.Sizes.{Sizes};
 ghost use Rattle.judging.specs.Judging.{held};
 ghost use Rattle.judging.specs.Editions.{only as onlyOf};
-ghost use Rattle.converter.specs.Answers.{other as otherOf, sameEdition, otherThan, convertedOf, foundOf, sorted, lineOut, convertCall};
+ghost use Rattle.converter.specs.Answers.{other as otherOf, sameEdition, otherThan, convertedOf, foundOf, sorted, lineOut, convertCall, numberOf, lengthIn};
 use body::Edition;
 use body::LONGEST_LINE;
 use body::job_field_length;
@@ -209,4 +209,40 @@ pub fn to_two(
     ensures { λ _. ⌜ now (frame .exit) ≡ convertCall (told (now (key .entry)) (now (font .entry))) (ownOf Two (now (nonce .entry)) (now (job .entry))) (now (stretch .entry)) (now (frame .entry)) .frame ⌝ }
 {
     convert(Edition::Two, stretch, key, font, nonce, job, frame)
+}
+
+// The number of what the converter answers.
+pub fn number(answer: Converted) -> u32
+    ensures { λ r. ⌜ r ≡ numberOf answer ⌝ }
+{
+    match answer {
+        Converted::Done(_) => 0,
+        Converted::Sizes => 2,
+        Converted::NoRoom => 4,
+        Converted::Shape => 7,
+        Converted::Stuffing => 6,
+        Converted::Edition => 16,
+        Converted::Font => 8,
+        Converted::Seal => 5,
+        Converted::Unlisted => 9,
+        Converted::Trade => 13,
+    }
+}
+
+// The length of the frame written, 0 on a refusal.
+pub fn frame_length(answer: Converted) -> usize
+    ensures { λ r. ⌜ r ≡ lengthIn answer ⌝ }
+{
+    match answer {
+        Converted::Done(n) => n,
+        Converted::Sizes => 0,
+        Converted::NoRoom => 0,
+        Converted::Shape => 0,
+        Converted::Stuffing => 0,
+        Converted::Edition => 0,
+        Converted::Font => 0,
+        Converted::Seal => 0,
+        Converted::Unlisted => 0,
+        Converted::Trade => 0,
+    }
 }

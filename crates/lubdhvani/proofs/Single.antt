@@ -28,6 +28,10 @@ use Rattle.lubdhvani.proofs.lubdhvani_write.Kinds as write-kinds
 use Rattle.lubdhvani.proofs.lubdhvani_write.Reads as write-reads
 use Rattle.lubdhvani.proofs.lubdhvani_write_two.Kinds as two-kinds
 use Rattle.lubdhvani.proofs.lubdhvani_write_two.Reads as two-reads
+use Rattle.lubdhvani.proofs.lubdhvani_to_one.Kinds as to-one-kinds
+use Rattle.lubdhvani.proofs.lubdhvani_to_one.Reads as to-one-reads
+use Rattle.lubdhvani.proofs.lubdhvani_to_two.Kinds as to-two-kinds
+use Rattle.lubdhvani.proofs.lubdhvani_to_two.Reads as to-two-reads
 use Rattle.lubdhvani.specs.declared.Reading.{Reading}
 use Rattle.lubdhvani.proofs.lubdhvani_read.Kinds as read-kinds
 use Rattle.lubdhvani.proofs.lubdhvani_read.Reads as read-reads
@@ -177,3 +181,13 @@ lubdhvani-feed-single κs a r r′ x x′ p q = (p .0 ∙ sym (q .0), p .1 ∙ s
 pub lubdhvani-finish-single : (κs : Lfts 3) (a : Args finish.signature κs) (r r′ : ℕ) (x x′ : AtExit finish.ended κs) → Finish κs a r x → Finish κs a r′ x′
     → (r ≡ r′) × (now (x .0) ≡ now (x′ .0)) × (now (x .1 .0) ≡ now (x′ .1 .0)) × (now (x .1 .1 .0) ≡ now (x′ .1 .1 .0))
 lubdhvani-finish-single κs a r r′ x x′ p q = (p .0 ∙ sym (q .0), p .1 ∙ sym (q .1), p .2 ∙ sym (q .2), p .3 ∙ sym (q .3))
+
+pub lubdhvani-to-one-single : (κs : Lfts 6) (a : Dens κs to-one-kinds.ps) (r r′ : ℕ)
+    (x x′ : AtExit (endedOf 6 to-one-kinds.ps to-one-kinds.r) κs)
+    → to-one-reads.Post κs a r x → to-one-reads.Post κs a r′ x′ → (r ≡ r′) × (x .1 .1 .1 .1 .0 .now ≡ x′ .1 .1 .1 .1 .0 .now) × (x .1 .1 .1 .1 .1 .0 .now ≡ x′ .1 .1 .1 .1 .1 .0 .now)
+lubdhvani-to-one-single κs a r r′ x x′ p q = (p .0 ∙ sym (q .0), p .1 .0 ∙ sym (q .1 .0), p .1 .1 ∙ sym (q .1 .1))
+
+pub lubdhvani-to-two-single : (κs : Lfts 7) (a : Dens κs to-two-kinds.ps) (r r′ : ℕ)
+    (x x′ : AtExit (endedOf 7 to-two-kinds.ps to-two-kinds.r) κs)
+    → to-two-reads.Post κs a r x → to-two-reads.Post κs a r′ x′ → (r ≡ r′) × (x .1 .1 .1 .1 .1 .0 .now ≡ x′ .1 .1 .1 .1 .1 .0 .now) × (x .1 .1 .1 .1 .1 .1 .0 .now ≡ x′ .1 .1 .1 .1 .1 .1 .0 .now)
+lubdhvani-to-two-single κs a r r′ x x′ p q = (p .0 ∙ sym (q .0), p .1 .0 ∙ sym (q .1 .0), p .1 .1 ∙ sym (q .1 .1))

@@ -15,6 +15,8 @@ ghost use Rattle.frame.specs.Answers as writing;
 ghost use mathlib.Core.List.{[]};
 ghost use Rattle.body.specs.declared.Edition.the-variants.{One, Two};
 ghost use Rattle.body.specs.Fields.{ownOf};
+ghost use Rattle.converter.specs.Answers as converting;
+ghost use Rattle.converter.specs.Answers.{convertCall};
 ghost use Rattle.framing.specs.Told.{told};
 ghost use Rattle.reader.specs.Answers.{readAnswer, readOut};
 ghost use Rattle.stream.specs.Stretches.{nextSpan};
@@ -226,6 +228,45 @@ pub extern "C" fn lubdhvani_write_two(
     *length = write_length(answer);
     *calls = write_count(answer);
     write_number(answer)
+}
+
+// Seals the line of a stretch of edition two anew in edition one.
+#[no_mangle]
+pub extern "C" fn lubdhvani_to_one(
+    stretch: &[u8],
+    key: &[u8],
+    font: &[u8],
+    nonce: &[u8],
+    frame: &mut [u8],
+    length: &mut usize,
+) -> u32
+    ensures { λ r. ⌜ r ≡ converting.numberOf (convertCall (told (now (key .entry)) (now (font .entry))) (ownOf One (now (nonce .entry)) []) (now (stretch .entry)) (now (frame .entry)) .answer) ⌝ }
+    ensures { λ _. ⌜ now (frame .exit) ≡ convertCall (told (now (key .entry)) (now (font .entry))) (ownOf One (now (nonce .entry)) []) (now (stretch .entry)) (now (frame .entry)) .frame ⌝ }
+    ensures { λ _. ⌜ now (length .exit) ≡ converting.lengthIn (convertCall (told (now (key .entry)) (now (font .entry))) (ownOf One (now (nonce .entry)) []) (now (stretch .entry)) (now (frame .entry)) .answer) ⌝ }
+{
+    let answer = converter::to_one(stretch, key, font, nonce, frame);
+    *length = converter::frame_length(answer);
+    converter::number(answer)
+}
+
+// Seals the line of a stretch of edition one anew in edition two, with a job.
+#[no_mangle]
+pub extern "C" fn lubdhvani_to_two(
+    stretch: &[u8],
+    key: &[u8],
+    font: &[u8],
+    nonce: &[u8],
+    job: &[u8],
+    frame: &mut [u8],
+    length: &mut usize,
+) -> u32
+    ensures { λ r. ⌜ r ≡ converting.numberOf (convertCall (told (now (key .entry)) (now (font .entry))) (ownOf Two (now (nonce .entry)) (now (job .entry))) (now (stretch .entry)) (now (frame .entry)) .answer) ⌝ }
+    ensures { λ _. ⌜ now (frame .exit) ≡ convertCall (told (now (key .entry)) (now (font .entry))) (ownOf Two (now (nonce .entry)) (now (job .entry))) (now (stretch .entry)) (now (frame .entry)) .frame ⌝ }
+    ensures { λ _. ⌜ now (length .exit) ≡ converting.lengthIn (convertCall (told (now (key .entry)) (now (font .entry))) (ownOf Two (now (nonce .entry)) (now (job .entry))) (now (stretch .entry)) (now (frame .entry)) .answer) ⌝ }
+{
+    let answer = converter::to_two(stretch, key, font, nonce, job, frame);
+    *length = converter::frame_length(answer);
+    converter::number(answer)
 }
 
 // The places of the next stretch.
