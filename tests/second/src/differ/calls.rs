@@ -15,6 +15,8 @@ pub enum Call {
     WriteTwo,
     NextStretch,
     Read,
+    ToOne,
+    ToTwo,
     BundleWrite,
     BundleRead,
     BundleDigest,
@@ -50,7 +52,20 @@ const fn permuting(call: Call, name: &'static str) -> Signature {
     }
 }
 
-pub static SIGNATURES: [Signature; 14] = [
+/// The converter's two calls answer alike.
+const fn converting(call: Call, name: &'static str, buffers: &'static [&'static str]) -> Signature {
+    Signature {
+        call,
+        name,
+        number: None,
+        buffers,
+        written: 1,
+        outs: &["length"],
+        outcomes: &["0", "2", "4", "7", "6", "16", "8", "5", "9", "13"],
+    }
+}
+
+pub static SIGNATURES: [Signature; 16] = [
     permuting(Call::Permute, "lubdhvani_permute"),
     permuting(Call::Unpermute, "lubdhvani_unpermute"),
     Signature {
@@ -120,6 +135,16 @@ pub static SIGNATURES: [Signature; 14] = [
             "line", "end", "2", "3", "4", "10", "7", "6", "8", "15", "5", "9", "13",
         ],
     },
+    converting(
+        Call::ToOne,
+        "lubdhvani_to_one",
+        &["stretch", "key", "font", "nonce", "frame"],
+    ),
+    converting(
+        Call::ToTwo,
+        "lubdhvani_to_two",
+        &["stretch", "key", "font", "nonce", "job", "frame"],
+    ),
     Signature {
         call: Call::BundleWrite,
         name: "lubdhvani_bundle_write",

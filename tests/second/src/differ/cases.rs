@@ -12,10 +12,11 @@ use second::digest::{instances, sizes};
 use second::near::near_line;
 use second::numbers::{
     ASSOCIATED_LIMIT, BESIDE_LINE, CIPHER_LIMIT, DIGEST, FRAME_ROOM, FRAME_ROOM_2, JOB, KEY,
-    LINE_MOST, MESSAGE_LIMIT, NONCE,
+    LINE_MOST, MESSAGE_LIMIT, NONCE, STRETCH_MOST,
 };
 use second::permutation::PERMITTED;
 use second::reader::{Asked, Editions, BOTH, ONE, TWO};
+use second::stream::next_stretch;
 
 /// A size is wrong once in so many times, and a room too small.
 const WRONG_SIZE: usize = 14;
@@ -37,7 +38,8 @@ pub fn case(chance: &mut Chance, stock: &Stock) -> Case {
             let stream = stream(chance, stock);
             (Call::NextStretch, place(chance, &stream), vec![stream])
         }
-        72..=91 => read(chance, stock),
+        72..=86 => read(chance, stock),
+        87..=91 => converted(chance, stock),
         _ => bundle_call(chance, room),
     };
     let buffers = contents
@@ -215,6 +217,56 @@ fn read(chance: &mut Chance, stock: &Stock) -> (Call, usize, Vec<Vec<u8>>) {
     let (key, font) = (sized(chance, key), sized(chance, font));
     let line = room(chance, LINE_MOST);
     (Call::Read, from, vec![stream, key, font, line])
+}
+
+/// A stretch for the converter, of the edition that is named about every second
+/// time: of the writer's frames, of frames with something wrong, or what stands
+/// next in a stream.
+fn stretch(chance: &mut Chance, stock: &Stock) -> Vec<u8> {
+    let stream = match chance.below(8) {
+        0 => stream(chance, stock),
+        1..=3 => stock.wrong[chance.below(stock.wrong.len())].clone(),
+        _ => stock.good[chance.below(stock.good.len())].clone(),
+    };
+    let part = next_stretch(&stream, place(chance, &stream));
+    let whole = match chance.below(4) {
+        0 => part.first..part.first + part.length,
+        _ => 1..stream.len().max(2) - 1,
+    };
+    let mut stretch = stream.get(whole).unwrap_or(&[]).to_vec();
+    match chance.below(16) {
+        0 => stretch.resize(chance.between(STRETCH_MOST - 1, STRETCH_MOST + 1), 0x5e),
+        1 if !stretch.is_empty() => chance.flip(&mut stretch),
+        2 => stretch.clear(),
+        _ => {}
+    }
+    stretch
+}
+
+fn converted(chance: &mut Chance, stock: &Stock) -> (Call, usize, Vec<Vec<u8>>) {
+    let stretch = stretch(chance, stock);
+    let key = match chance.below(16) {
+        0 => stock.other_key.clone(),
+        _ => stock.key.clone(),
+    };
+    let font = match chance.below(16) {
+        0 => stock.other_font.clone(),
+        _ => stock.font.clone(),
+    };
+    let (nonce, job) = (stuffy(chance, NONCE), stuffy(chance, JOB));
+    let mut contents = vec![
+        stretch,
+        sized(chance, key),
+        sized(chance, font),
+        sized(chance, nonce),
+    ];
+    if chance.once_in(2) {
+        contents.push(room(chance, FRAME_ROOM));
+        return (Call::ToOne, 0, contents);
+    }
+    contents.push(sized(chance, job));
+    contents.push(room(chance, FRAME_ROOM_2));
+    (Call::ToTwo, 0, contents)
 }
 
 /// Some editions, and mostly all the work; else none, or around the count of a

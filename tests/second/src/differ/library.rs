@@ -96,6 +96,34 @@ extern "C" {
         line: *mut u8,
         room: usize,
     ) -> Reading;
+    fn lubdhvani_to_one(
+        stretch: *const u8,
+        stretch_length: usize,
+        key: *const u8,
+        key_length: usize,
+        font: *const u8,
+        font_length: usize,
+        nonce: *const u8,
+        nonce_length: usize,
+        frame: *mut u8,
+        room: usize,
+        length: *mut usize,
+    ) -> u32;
+    fn lubdhvani_to_two(
+        stretch: *const u8,
+        stretch_length: usize,
+        key: *const u8,
+        key_length: usize,
+        font: *const u8,
+        font_length: usize,
+        nonce: *const u8,
+        nonce_length: usize,
+        job: *const u8,
+        job_length: usize,
+        frame: *mut u8,
+        room: usize,
+        length: *mut usize,
+    ) -> u32;
     fn lubdhvani_bundle_write(
         name: *const u8,
         name_length: usize,
@@ -265,6 +293,12 @@ unsafe fn called(case: &Case, puts: &[Put], outs: &[*mut usize]) -> u32 {
             *job = reading.job;
             *given = reading.given as usize;
             reading.number
+        }
+        (Call::ToOne, [stretch, key, font, nonce, frame], &[length]) => {
+            call!(lubdhvani_to_one: [stretch, key, font, nonce, frame] (length))
+        }
+        (Call::ToTwo, [stretch, key, font, nonce, job, frame], &[length]) => {
+            call!(lubdhvani_to_two: [stretch, key, font, nonce, job, frame] (length))
         }
         _ => bundle_called(case, puts, outs),
     }

@@ -4,6 +4,7 @@ use std::ops::Range;
 
 use crate::calls::{Answer, Call, Case};
 use crate::memory::Ground;
+use second::convert::convert;
 use second::frame::Own;
 use second::numbers::DONE;
 use second::reader::{read, Told};
@@ -75,6 +76,19 @@ fn answered(case: &Case, lent: &mut [&mut [u8]]) -> (u32, Vec<usize>) {
                 usize::from(reading.number == DONE && !reading.end),
             ];
             (reading.number.into(), outs)
+        }
+        (Call::ToOne, [stretch, key, digest, nonce, out]) => {
+            let own = Own { nonce, job: None };
+            let made = convert(Told { key, digest }, stretch, own, out);
+            (made.number.into(), vec![made.length])
+        }
+        (Call::ToTwo, [stretch, key, digest, nonce, job, out]) => {
+            let own = Own {
+                nonce,
+                job: Some(job),
+            };
+            let made = convert(Told { key, digest }, stretch, own, out);
+            (made.number.into(), vec![made.length])
         }
         (_, lent) => bundle_answered(case, lent),
     }
