@@ -17,10 +17,10 @@
  *  - Nothing is changed but what is named; the rest of a longer buffer stays as it was.
  *  - The library has no state of its own: calls on different buffers may run at the same time. Keys and states that a call works with are
  *    not wiped from the stack.
- *  - lubdhvani_read runs in LUBDHVANI_STACK bytes of stack, every other call in LUBDHVANI_STACK_BUT_READ. This is measured, not proved:
- *    tests/stack/run runs each call on a painted stack, with memcpy and memset bound at their first call (the binding takes stack as well)
- *    and when the program starts, prints what was used and fails over these figures. Reading takes the most for a damaged stretch of
- *    the greatest length, which is measured byte by byte in calls of its own.
+ *  - lubdhvani_read, lubdhvani_to_one and lubdhvani_to_two, which read a stretch, run in LUBDHVANI_STACK bytes of stack, every other call in
+ *    LUBDHVANI_STACK_BUT_READ. This is measured, not proved: tests/stack/run runs each call on a painted stack, with memcpy and memset bound
+ *    at their first call (the binding takes stack as well) and when the program starts, prints what was used and fails over these figures.
+ *    Reading takes the most for a damaged stretch of the greatest length, which is measured byte by byte in calls of its own.
  *
  * Link with target/staticlib/liblubdhvani.a, which `rt staticlib lubdhvani` makes.
  */
@@ -60,8 +60,8 @@ enum {
     LUBDHVANI_GLYPH_ROWS = 9,          /* a glyph's rows, of seven dots each; the top bit of a row is zero */
     LUBDHVANI_BUNDLE_ROWS = 126,       /* the rows of all glyphs */
     LUBDHVANI_BUNDLE = 217,            /* the longest bundle, and the least room for one */
-    LUBDHVANI_STACK = 24576,           /* what a call takes of the stack at most, on x86-64 */
-    LUBDHVANI_STACK_BUT_READ = 6144    /* the same of every call but lubdhvani_read */
+    LUBDHVANI_STACK = 25600,           /* what a call takes of the stack at most, on x86-64 */
+    LUBDHVANI_STACK_BUT_READ = 6144    /* the same of every call that reads no stretch */
 };
 
 /* Numbers returned. */

@@ -21,14 +21,14 @@ static void fill(volatile uint8_t *bytes, size_t length, uint8_t byte)
         bytes[i] = byte;
 }
 
-static uint8_t key[LUBDHVANI_KEY], nonce[LUBDHVANI_NONCE], font[LUBDHVANI_DIGEST], seal[LUBDHVANI_SEAL];
+static uint8_t key[LUBDHVANI_KEY], nonce[LUBDHVANI_NONCE], job[LUBDHVANI_JOB], font[LUBDHVANI_DIGEST], seal[LUBDHVANI_SEAL];
 static uint8_t state[LUBDHVANI_LARGEST_STATE], digest[LUBDHVANI_DIGEST], line[LUBDHVANI_LONGEST_LINE];
 static uint8_t text[LUBDHVANI_LONGEST_TEXT], out[LUBDHVANI_LONGEST_TEXT], associated[LUBDHVANI_LONGEST_ASSOCIATED];
-static uint8_t frame[LUBDHVANI_FRAME], stretch[LUBDHVANI_LONGEST_STRETCH + 2];
+static uint8_t frame[LUBDHVANI_FRAME_TWO], other[LUBDHVANI_FRAME_TWO], stretch[LUBDHVANI_LONGEST_STRETCH + 2];
 static uint8_t name[LUBDHVANI_LONGEST_NAME], rows[LUBDHVANI_BUNDLE_ROWS], bundle[LUBDHVANI_BUNDLE];
 static size_t calls, length, first, closing;
 static struct lubdhvani_running running;
-static const struct lubdhvani_asked everything = {.editions = LUBDHVANI_EDITION_ONE, .allowed = LUBDHVANI_ALL_WORK};
+static const struct lubdhvani_asked everything = {.editions = LUBDHVANI_BOTH_EDITIONS, .allowed = LUBDHVANI_ALL_WORK};
 
 static void permute(void) { lubdhvani_permute(state, sizeof state); }
 static void unpermute(void) { lubdhvani_unpermute(state, sizeof state); }
@@ -52,6 +52,23 @@ static void write_line(void)
 {
     lubdhvani_write(key, sizeof key, nonce, sizeof nonce, font, sizeof font, line, sizeof line, frame, sizeof frame, &length, &calls);
 }
+static void write_two(void)
+{
+    lubdhvani_write_two(key, sizeof key, nonce, sizeof nonce, font, sizeof font, job, sizeof job, line, sizeof line, frame, sizeof frame,
+                        &length, &calls);
+}
+static void converted_to_one(const uint8_t *from, size_t n)
+{
+    lubdhvani_to_one(from, n, key, sizeof key, font, sizeof font, nonce, sizeof nonce, other, sizeof other, &calls);
+}
+static void converted_to_two(const uint8_t *from, size_t n)
+{
+    lubdhvani_to_two(from, n, key, sizeof key, font, sizeof font, nonce, sizeof nonce, job, sizeof job, other, sizeof other, &calls);
+}
+static void to_one_line(void) { converted_to_one(frame + 1, length - 2); }
+static void to_two_line(void) { converted_to_two(frame + 1, length - 2); }
+static void to_one_stretch(void) { converted_to_one(stretch + 1, sizeof stretch - 2); }
+static void to_two_stretch(void) { converted_to_two(stretch + 1, sizeof stretch - 2); }
 static void bundle_write(void) { lubdhvani_bundle_write(name, sizeof name, rows, sizeof rows, bundle, sizeof bundle, &length); }
 static void bundle_read(void) { lubdhvani_bundle_read(bundle, length, &calls); }
 static void bundle_digest(void) { lubdhvani_bundle_digest(bundle, length, digest, sizeof digest); }
@@ -101,6 +118,11 @@ static void a_frame(void)
     a_line();
     write_line();
 }
+static void a_frame_two(void)
+{
+    a_line();
+    write_two();
+}
 
 static const struct {
     const char *name;
@@ -120,16 +142,25 @@ static const struct {
     {"seal", nothing, seal_text, LUBDHVANI_STACK_BUT_READ},
     {"open", nothing, open_text, LUBDHVANI_STACK_BUT_READ},
     {"write", a_line, write_line, LUBDHVANI_STACK_BUT_READ},
+    {"write_two", a_line, write_two, LUBDHVANI_STACK_BUT_READ},
     {"next_stretch", plain, next_stretch, LUBDHVANI_STACK_BUT_READ},
     {"bundle_write", glyphs, bundle_write, LUBDHVANI_STACK_BUT_READ},
     {"bundle_read", a_bundle, bundle_read, LUBDHVANI_STACK_BUT_READ},
     {"bundle_digest", a_bundle, bundle_digest, LUBDHVANI_STACK_BUT_READ},
     {"bundle_rows", a_bundle, bundle_rows, LUBDHVANI_STACK_BUT_READ},
     {"read, a line", a_frame, read_frame, LUBDHVANI_STACK},
+    {"read, a line of edition two", a_frame_two, read_frame, LUBDHVANI_STACK},
     {"read, longest stretch, plain", plain, read_stretch, LUBDHVANI_STACK},
     {"read, longest stretch, escapes", escapes, read_stretch, LUBDHVANI_STACK},
     {"read, longest stretch, dangling escape", dangling, read_stretch, LUBDHVANI_STACK},
     {"read, longest stretch, bad escape", bad_escape, read_stretch, LUBDHVANI_STACK},
+    {"to_one, a line", a_frame_two, to_one_line, LUBDHVANI_STACK},
+    {"to_two, a line", a_frame, to_two_line, LUBDHVANI_STACK},
+    {"to_one, longest stretch, plain", plain, to_one_stretch, LUBDHVANI_STACK},
+    {"to_two, longest stretch, plain", plain, to_two_stretch, LUBDHVANI_STACK},
+    {"to_two, longest stretch, escapes", escapes, to_two_stretch, LUBDHVANI_STACK},
+    {"to_two, longest stretch, dangling escape", dangling, to_two_stretch, LUBDHVANI_STACK},
+    {"to_two, longest stretch, bad escape", bad_escape, to_two_stretch, LUBDHVANI_STACK},
 };
 enum { MEASURED = sizeof calls_measured / sizeof calls_measured[0] };
 
