@@ -1,7 +1,8 @@
-// Prints the rows that the second program makes of its own seals and frames (tests/second, src/rows/call.rs): what sealing, opening or
-// writing gives for each case on standard input. A case is its head, its name and the call's five parts: key, nonce, associated data (of a
-// frame the font digest), text (or line), seal. The head has the lengths of those, the room for what comes out, 1 where the call is to
-// open or 2 where it is to write, and the cipher's instance: four bytes each, the high byte first.
+// Prints the rows that the second program makes of its own seals and frames (tests/second, src/rows/call.rs): what sealing, opening,
+// writing or converting gives for each case on standard input. A case is its head, its name and the call's five parts: key, nonce, associated
+// data (of a frame the font digest), text (or line, or stretch), seal (of a frame the job). The head has the lengths of those, the room for
+// what comes out, which call, and the cipher's instance: four bytes each, the high byte first.
+use converter::Converted;
 use digest::DIGEST;
 use frame::Written;
 use ingage::Opened;
@@ -33,6 +34,12 @@ const PRINTED_AS_DIGEST: usize = 4096;
 const OPENS: usize = 1;
 
 const WRITES: usize = 2;
+
+const WRITES_TWO: usize = 3;
+
+const TO_ONE: usize = 4;
+
+const TO_TWO: usize = 5;
 
 // Where the name and the parts of a case end in its bytes, its room, its call and its instance.
 struct Case {
@@ -111,6 +118,15 @@ fn of_write(answer: Written) -> Outcome {
     }
 }
 
+// The converter's answer has no count.
+fn of_convert(answer: Converted) -> Outcome {
+    Outcome {
+        number: converter::number(answer),
+        length: converter::frame_length(answer),
+        count: 0,
+    }
+}
+
 fn part(all: &[u8], from: usize, to: usize) -> &[u8] {
     if to > all.len() {
         return &all[0..0];
@@ -119,6 +135,28 @@ fn part(all: &[u8], from: usize, to: usize) -> &[u8] {
         return &all[0..0];
     }
     &all[from..to]
+}
+
+// The calls of a frame; text is the line, or the stretch to convert.
+fn framed(
+    call: usize,
+    key: &[u8],
+    nonce: &[u8],
+    font: &[u8],
+    job: &[u8],
+    text: &[u8],
+    out: &mut [u8],
+) -> Outcome {
+    if call == TO_ONE {
+        return of_convert(converter::to_one(text, key, font, nonce, out));
+    }
+    if call == TO_TWO {
+        return of_convert(converter::to_two(text, key, font, nonce, job, out));
+    }
+    if call == WRITES_TWO {
+        return of_write(frame::write_two(key, nonce, font, job, text, out));
+    }
+    of_write(frame::write(key, nonce, font, text, out))
 }
 
 fn called(
@@ -134,8 +172,8 @@ fn called(
     if call == OPENS {
         return of_open(ingage::open(instance, key, nonce, associated, text, seal, out));
     }
-    if call == WRITES {
-        return of_write(frame::write(key, nonce, associated, text, out));
+    if call >= WRITES {
+        return framed(call, key, nonce, associated, seal, text, out);
     }
     of_seal(ingage::seal(instance, key, nonce, associated, text, out, seal))
 }

@@ -16,7 +16,7 @@ ghost use lib.ListN.{length};
 const MOST_CASES: usize = 10000;
 
 // The head of a case has so many numbers and bytes; and the longest name, stream, line buffer, key and font digest that a case has.
-const NUMBERS: usize = 10;
+const NUMBERS: usize = 11;
 
 const HEAD: usize = 4 * NUMBERS;
 
@@ -34,7 +34,7 @@ const LONGEST_FONT: usize = 33;
 const MOST_TURNS: usize = LONGEST_CASE + 1;
 
 // The lengths of name, stream, its first and its last bytes, the byte between them, the place to read from, and the lengths of line
-// buffer, key and font digest, and the work allowed.
+// buffer, key and font digest, the work allowed and the editions.
 struct Case {
     name: usize,
     length: usize,
@@ -46,6 +46,7 @@ struct Case {
     key: usize,
     font: usize,
     allowed: usize,
+    editions: usize,
 }
 
 fn say(text: &[u8]) {
@@ -107,6 +108,8 @@ fn row(
     number(answer);
     cell(numbers::read_length(answer));
     cell(numbers::read_count(answer));
+    cell(reading.edition);
+    cell(reading.job);
     shown(line, numbers::read_length(answer));
     step
 }
@@ -162,7 +165,7 @@ fn told_rows(c: Case, name: &[u8], stream: &[u8]) {
         &key[0..k],
         &font[0..f],
         Asked {
-            editions: reader::EDITION_ONE,
+            editions: c.editions,
             allowed: c.allowed,
         },
         &mut line[0..l],
@@ -218,6 +221,7 @@ fn case_of(h: [u8; HEAD]) -> Case {
         key: number_in(h, 7),
         font: number_in(h, 8),
         allowed: number_in(h, 9),
+        editions: number_in(h, 10),
     }
 }
 

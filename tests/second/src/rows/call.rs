@@ -1,13 +1,15 @@
 //! `seal_rows`: one call and one row for each case of the case file, which seals,
-//! opens or writes a frame.
+//! opens, writes a frame or converts a stretch.
 
 use std::fmt::Write;
 
-use super::{frame, in_bytes, seal};
+use super::{edition, frame, in_bytes, seal};
 use crate::cipher;
+use crate::convert::convert;
 use crate::digest::digest;
-use crate::frame::write;
+use crate::frame::{write_own, Own};
 use crate::numbers::DIGEST;
+use crate::reader::Told;
 use crate::text::value;
 
 /// Buffers from this length on are printed as their instance 1 digest.
@@ -21,11 +23,15 @@ pub enum Call {
     Seal,
     Open,
     Write,
+    WriteTwo,
+    ToOne,
+    ToTwo,
 }
 
-/// The arguments of a call: instance is the cipher's (of a frame 0), text is the message, the ciphertext or the line,
-/// associated what is associated with it (of a frame the font digest), and seal
-/// what the seal's buffer holds before.
+/// The arguments of a call: instance is the cipher's (of a frame 0), text is the
+/// message, the ciphertext, the line or the stretch, associated what is
+/// associated with it (of a frame the font digest), and seal what the seal's
+/// buffer holds before (of a frame of edition two the job).
 #[derive(Clone)]
 pub struct Case {
     pub call: Call,
@@ -79,10 +85,29 @@ impl Case {
                     cipher::open(self.instance, key, nonce, associated, &self.text, seal, out);
                 (answer.number, 0, answer.count)
             }
-            Call::Write => {
-                let answer = write(key, nonce, associated, &self.text, out);
+            Call::Write | Call::WriteTwo => {
+                let answer = write_own(key, self.own(), associated, &self.text, out);
                 (answer.number, answer.length, answer.count)
             }
+            Call::ToOne | Call::ToTwo => {
+                let told = Told {
+                    key,
+                    digest: associated,
+                };
+                let answer = convert(told, &self.text, self.own(), out);
+                (answer.number, answer.length, 0)
+            }
+        }
+    }
+
+    /// What the frame that a call makes has as its own.
+    fn own(&self) -> Own<'_> {
+        Own {
+            nonce: &self.nonce,
+            job: match self.call {
+                Call::WriteTwo | Call::ToTwo => Some(&self.seal),
+                _ => None,
+            },
         }
     }
 
@@ -132,7 +157,8 @@ fn shown(buffer: &[u8]) -> String {
 pub fn stdin_and_rows() -> (Vec<u8>, String) {
     let mut stdin = Vec::new();
     let mut rows = String::new();
-    for (name, case) in seal::cases().into_iter().chain(frame::cases()) {
+    let cases = [seal::cases(), frame::cases(), edition::calls()].concat();
+    for (name, case) in cases {
         stdin.extend(case.stored(&name));
         case.row(&mut rows, &name);
     }

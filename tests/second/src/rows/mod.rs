@@ -6,6 +6,7 @@ mod bundle;
 mod call;
 mod damage;
 mod digest;
+mod edition;
 mod frame;
 mod limit;
 pub mod permute;

@@ -4,13 +4,13 @@
 use std::fmt::Write;
 use std::ops::Range;
 
-use super::{beat, damage, in_bytes, limit, sound, stretch, told};
+use super::{beat, damage, edition, in_bytes, limit, sound, stretch, told};
 use crate::numbers::{DIGEST, KEY, LINE_MOST};
-use crate::reader::{Asked, ALL};
+use crate::reader::{Asked, Editions, ONE};
 use crate::stream::next_stretch;
 
 /// A stream, the place to start from, the lengths of line buffer, key and font
-/// digest, and the work allowed. A case has a name of its own, or its number.
+/// digest, the work allowed and the editions. A case has a name of its own, or its number.
 pub struct Case {
     name: Option<&'static str>,
     stream: Vec<u8>,
@@ -19,13 +19,15 @@ pub struct Case {
     key: usize,
     digest: usize,
     allowed: usize,
+    editions: Editions,
 }
 
 /// Enough for every stretch, in the four bytes that a number of a case has.
 const ALL_WORK: usize = 0xffff_ffff;
 
 impl Case {
-    /// From the stream's start, all lengths as they should be, all work allowed.
+    /// From the stream's start, all lengths as they should be, all work
+    /// allowed, and edition one.
     pub fn of(stream: &[u8]) -> Case {
         Case {
             name: None,
@@ -35,6 +37,7 @@ impl Case {
             key: KEY,
             digest: DIGEST,
             allowed: ALL_WORK,
+            editions: ONE,
         }
     }
 
@@ -65,10 +68,14 @@ impl Case {
         Case { allowed, ..self }
     }
 
+    pub fn editions(self, editions: Editions) -> Case {
+        Case { editions, ..self }
+    }
+
     /// As the case file holds it: the lengths of the name, of the stream, of
     /// its first and of its last bytes, the byte between those, the place, the
-    /// lengths of line buffer, key and font digest, and the work allowed; then
-    /// the name and the first and the last bytes of the stream.
+    /// lengths of line buffer, key and font digest, the work allowed and the
+    /// editions; then the name and the first and the last bytes of the stream.
     fn stored(&self, name: &str) -> Vec<u8> {
         let run = longest_run(&self.stream);
         let (first, last) = (&self.stream[..run.start], &self.stream[run.end..]);
@@ -84,6 +91,7 @@ impl Case {
             self.key,
             self.digest,
             self.allowed,
+            self.editions.0 as usize,
         ];
         [
             head.map(in_bytes).concat(),
@@ -98,15 +106,15 @@ impl Case {
         let mut start = self.place;
         loop {
             let asked = Asked {
+                editions: self.editions,
                 allowed: self.allowed,
-                ..ALL
             };
             let (reading, line) =
                 told::reading(self.key, self.digest, asked, &self.stream, start, self.room);
             let part = next_stretch(&self.stream, start);
             writeln!(
                 rows,
-                "{} {} {} {} {} {} {} {} {} {}",
+                "{} {} {} {} {} {} {} {} {} {} {} {}",
                 name,
                 start,
                 part.first,
@@ -116,6 +124,8 @@ impl Case {
                 told::number(&reading),
                 reading.length,
                 reading.count,
+                reading.edition,
+                reading.job,
                 line
             )
             .unwrap();
@@ -151,6 +161,7 @@ fn cases() -> Vec<Case> {
     cases.extend(stretch::cases());
     cases.extend(limit::cases());
     cases.extend(beat::cases());
+    cases.extend(edition::streams());
     cases
 }
 
