@@ -7,9 +7,11 @@ use std::process::{Command, Stdio};
 
 use second::chance::Chance;
 use second::compose::compose;
+use second::digest::digest;
+use second::frame::{framed, Fields, Own};
 use second::lines::listing;
 use second::near::{near_line, trade_line};
-use second::numbers::{KEY, LINE_MOST, MESSAGE_LIMIT, NONCE, STREAM_LIMIT};
+use second::numbers::{DIGEST, JOB, KEY, LINE_MOST, MESSAGE_LIMIT, NONCE, STREAM_LIMIT};
 use second::stuffing::{ESCAPE, MARK};
 
 const LISTED: &[u8] = b"0123456789ABCD ";
@@ -60,12 +62,40 @@ impl Job {
         if written != self.composed() {
             return Err("compose");
         }
-        let stream = damaged(chance, written.0);
+        let stream = self.mixed(chance, written.0);
+        let stream = damaged(chance, stream);
         let listed = listing(self.key.clone(), self.font.clone(), &stream);
         if said_by(&programs.join("lines"), folder, &stream) != (listed.into_bytes(), Vec::new()) {
             return Err("lines");
         }
         Ok(())
+    }
+
+    /// The stream with frames of edition two before it and behind it, under the
+    /// job's own key and font: `lines` reads edition one alone.
+    fn mixed(&self, chance: &mut Chance, stream: Vec<u8>) -> Vec<u8> {
+        let (key, font) = match (&self.key, &self.font) {
+            (Some(key), Some(font)) if key.len() == KEY => (key, font),
+            _ => return stream,
+        };
+        let mut digest_of = [0; DIGEST];
+        digest(1, font, &mut digest_of);
+        let mut frame = || {
+            let nonce = chance.bytes(NONCE);
+            let job = some_of(chance, &[MARK, ESCAPE, 0, b'7'], JOB);
+            let length = chance.between(1, LINE_MOST);
+            let line = trade_line(chance, length);
+            let own = Own {
+                nonce: &nonce,
+                job: Some(&job),
+            };
+            framed(&Fields::sealing_own(key, own, &digest_of, &line).0.body())
+        };
+        match stream.len() % 3 {
+            0 => stream,
+            1 => [frame(), stream].concat(),
+            _ => [frame(), stream, frame()].concat(),
+        }
     }
 
     /// What stands on standard output and on standard error.

@@ -234,14 +234,19 @@ fn stream() -> Vec<u8> {
     stretches().into_iter().flat_map(marked).collect()
 }
 
-/// Lengths around the bound of edition one, which every reader has outgrown:
-/// 7 for the fields, 6 for the stuffing.
+/// Lengths around the bound of edition one, which every reader has outgrown,
+/// and around edition two's: plain, with an escape at the end, and all escapes.
 fn outgrown() -> Vec<Stream> {
     let mut cases = Vec::new();
-    for length in 272..=276 {
-        for end in [0x41, ESCAPE] {
-            let stretch = [vec![MARK], vec![0x41; length], vec![end, MARK]].concat();
-            cases.push(Stream::of(&stretch));
+    for length in [273, 274, 275, 276, 287, 288, 289] {
+        let plain = vec![0x41; length];
+        let dangling = [&plain[1..], &[ESCAPE]].concat();
+        let pairs = [ESCAPE, 0x5e].repeat(length / 2);
+        let escapes = [&plain[..length % 2], &pairs[..]].concat();
+        for stretch in [plain, dangling, escapes] {
+            let stream = [&[MARK], &stretch[..], &[MARK]].concat();
+            cases.push(Stream::of(&stream).editions(BOTH));
+            cases.push(Stream::of(&stream));
         }
     }
     cases
@@ -251,15 +256,7 @@ fn outgrown() -> Vec<Stream> {
 /// with the work allowed around the count of a line in each (54 and 61).
 pub fn streams() -> Vec<Stream> {
     let all = stream();
-    let sets = [
-        Editions(0),
-        ONE,
-        TWO,
-        BOTH,
-        Editions(4),
-        Editions(6),
-        Editions(0xffff_ffff),
-    ];
+    let sets = [Editions(0xffff_fffc), ONE, TWO, BOTH, Editions(6)];
     let mut cases: Vec<Stream> = sets
         .iter()
         .map(|&set| Stream::of(&all).editions(set))
