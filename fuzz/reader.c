@@ -1,4 +1,4 @@
-/* A fuzzer for writer and reader, over include/lubdhvani.h (libFuzzer). An input is what the reader is told, a place, and either
+/* A fuzzer for writers, reader and converter, over include/lubdhvani.h (libFuzzer). An input is what the reader is told, a place, and either
  * a stream or a recipe for one: frames written, frames with something wrong, raw bytes, damage. The stream is read to its end,
  * and every answer is held to the rules of the header. fuzz/README.md says what this can and can't see. */
 #define _DEFAULT_SOURCE
@@ -24,25 +24,36 @@ enum {
     MORE_ROOM = 8
 };
 
-/* A body is four fields, each a head (tag, then length with the high byte first) and a value. Here are the places of fields 02 and 03
- * and of what is in the first three. Field 02 whole is the associated data; a body has BESIDE_LINE bytes besides the line's; sealing and
- * opening take CALLS calls and one for each byte of the line. */
+/* A body is four fields, each a head (tag, then length with the high byte first) and a value; in edition two JOB_FIELD bytes more stand
+ * behind field 02. Here are the places of field 02 and of what follows it, and of what is in these. Field 02 whole, with that of the job,
+ * is the associated data. */
 enum {
     HEAD = 3,
     NONCE_AT = HEAD,
     FIELD_2 = NONCE_AT + LUBDHVANI_NONCE,
     FONT_AT = FIELD_2 + HEAD,
-    FIELD_3 = FONT_AT + LUBDHVANI_DIGEST,
-    LINE_AT = FIELD_3 + HEAD,
-    ASSOCIATED = FIELD_3 - FIELD_2,
-    BESIDE_LINE = LINE_AT + HEAD + LUBDHVANI_SEAL,
-    LONGEST_BODY = BESIDE_LINE + LUBDHVANI_LONGEST_LINE,
-    CALLS = ASSOCIATED + 4
+    BEHIND_2 = FONT_AT + LUBDHVANI_DIGEST,
+    JOB_AT = BEHIND_2 + HEAD,
+    JOB_FIELD = HEAD + LUBDHVANI_JOB,
+    LONGEST_BODY = BEHIND_2 + JOB_FIELD + HEAD + LUBDHVANI_LONGEST_LINE + HEAD + LUBDHVANI_SEAL
 };
+
+/* By edition: where field 03 and the line stand, the length of the associated data, the bytes that a body has besides the line's, the room of
+ * a frame, and the calls that sealing and opening take besides one for each byte of the line. */
+struct shape {
+    size_t field_3, line_at, associated, beside_line, room, calls;
+};
+
+static struct shape shape_of(int two)
+{
+    const size_t more = two ? JOB_FIELD : 0, field_3 = BEHIND_2 + more;
+    return (struct shape){field_3, field_3 + HEAD, field_3 - FIELD_2, field_3 + 2 * HEAD + LUBDHVANI_SEAL, LUBDHVANI_FRAME + 2 * more,
+                          field_3 - FIELD_2 + 4};
+}
 
 /* libFuzzer keeps an input that moves one of these: what the answers were, since the library itself has no counters. First each number
  * after each other number or none, then the lengths of lines, then those of stretches, the longest all as one. */
-enum { MET_NUMBERS = 32, MET_NONE = MET_NUMBERS - 1, MET_LINES = MET_NUMBERS * MET_NUMBERS, MET_STRETCHES = 2048, MET_LONGEST = 300 };
+enum { MET_NUMBERS = 32, MET_NONE = MET_NUMBERS - 1, MET_LINES = MET_NUMBERS * MET_NUMBERS, MET_STRETCHES = MET_LINES + 128, MET_LONGEST = 300 };
 __attribute__((section("__libfuzzer_extra_counters"))) static uint8_t met[2048];
 
 /* How often each number was met, lines apart from the end of the stream; printed at the end. */
@@ -51,7 +62,7 @@ static unsigned long lines_met, numbers_met[LUBDHVANI_OVER_WORK + 1];
 static void print_met(void)
 {
     printf("fuzz: lines %lu, ends %lu; refused", lines_met, numbers_met[LUBDHVANI_DONE]);
-    for (size_t i = 1; i <= LUBDHVANI_NOT_TRADE; i++)
+    for (size_t i = 1; i <= LUBDHVANI_OVER_WORK; i++)
         if (numbers_met[i] > 0)
             printf(", %zu: %lu times", i, numbers_met[i]);
     puts("");
@@ -66,7 +77,7 @@ static void must(int holds, const char *what)
 }
 
 static uint8_t key[LUBDHVANI_KEY], other_key[LUBDHVANI_KEY], font[LUBDHVANI_DIGEST], other_font[LUBDHVANI_DIGEST];
-static const struct lubdhvani_asked everything = {.editions = LUBDHVANI_EDITION_ONE, .allowed = LUBDHVANI_ALL_WORK};
+static const struct lubdhvani_asked everything = {.editions = LUBDHVANI_BOTH_EDITIONS, .allowed = LUBDHVANI_ALL_WORK};
 
 /* The input, byte by byte; zeros where it has run out. */
 
@@ -156,36 +167,68 @@ static void put_head(uint8_t *at, uint8_t tag, size_t length)
     at[2] = (uint8_t)length;
 }
 
+/* What is each frame's own: in edition two a job beside the nonce. */
+struct own {
+    int two;
+    uint8_t nonce[LUBDHVANI_NONCE], job[LUBDHVANI_JOB];
+};
+
 /* A body with everything as it must be but for its line, which may hold any bytes. */
-static size_t sealed_body(const uint8_t nonce[LUBDHVANI_NONCE], const uint8_t *line, size_t n, uint8_t body[LONGEST_BODY])
+static size_t sealed_body(const struct own *own, const uint8_t *line, size_t n, uint8_t body[LONGEST_BODY])
 {
+    const struct shape shape = shape_of(own->two);
+    uint8_t *const at = body + shape.line_at;
     size_t calls;
     put_head(body, 1, LUBDHVANI_NONCE);
-    memcpy(body + NONCE_AT, nonce, LUBDHVANI_NONCE);
+    memcpy(body + NONCE_AT, own->nonce, LUBDHVANI_NONCE);
     put_head(body + FIELD_2, 2, LUBDHVANI_DIGEST);
     memcpy(body + FONT_AT, font, LUBDHVANI_DIGEST);
-    put_head(body + FIELD_3, 3, n);
-    put_head(body + LINE_AT + n, 4, LUBDHVANI_SEAL);
-    must(lubdhvani_seal(1, key, LUBDHVANI_KEY, nonce, LUBDHVANI_NONCE, body + FIELD_2, ASSOCIATED, line, n, body + LINE_AT, n,
-                        body + LINE_AT + n + HEAD, LUBDHVANI_SEAL, &calls) == LUBDHVANI_DONE,
+    if (own->two) {
+        put_head(body + BEHIND_2, 5, LUBDHVANI_JOB);
+        memcpy(body + JOB_AT, own->job, LUBDHVANI_JOB);
+    }
+    put_head(body + shape.field_3, 3, n);
+    put_head(at + n, 4, LUBDHVANI_SEAL);
+    must(lubdhvani_seal(1, key, LUBDHVANI_KEY, own->nonce, LUBDHVANI_NONCE, body + FIELD_2, shape.associated, line, n, at, n, at + n + HEAD,
+                        LUBDHVANI_SEAL, &calls) == LUBDHVANI_DONE,
          "a line is sealed");
-    must(calls == n + CALLS, "the calls of sealing a line");
-    return BESIDE_LINE + n;
+    must(calls == n + shape.calls, "the calls of sealing a line");
+    return shape.beside_line + n;
 }
 
-/* The writer, with room just enough or more; what it wrote is read back alone. */
-static void write_line(const uint8_t *its_key, const uint8_t *its_font, const uint8_t nonce[LUBDHVANI_NONCE], const uint8_t *line,
-                       size_t n)
+/* The writer of an edition, with just the room that it asks for. */
+static uint32_t written(const uint8_t *its_key, const uint8_t *its_font, const struct own *own, const uint8_t *line, size_t n,
+                        uint8_t *frame, size_t *length, size_t *calls)
 {
-    uint8_t frame[LUBDHVANI_FRAME + CANARY], back[LUBDHVANI_LONGEST_LINE];
+    const size_t room = shape_of(own->two).room;
+    if (own->two)
+        return lubdhvani_write_two(its_key, LUBDHVANI_KEY, own->nonce, LUBDHVANI_NONCE, its_font, LUBDHVANI_DIGEST, own->job, LUBDHVANI_JOB,
+                                   line, n, frame, room, length, calls);
+    return lubdhvani_write(its_key, LUBDHVANI_KEY, own->nonce, LUBDHVANI_NONCE, its_font, LUBDHVANI_DIGEST, line, n, frame, room, length,
+                           calls);
+}
+
+/* A job as a reading tells it, its high byte first; none is zero. */
+static size_t job_number(const struct own *own)
+{
+    size_t number = 0;
+    for (size_t i = 0; own->two && i < LUBDHVANI_JOB; i++)
+        number = number << 8 | own->job[i];
+    return number;
+}
+
+/* The writer; what it wrote is read back alone. */
+static void write_line(const uint8_t *its_key, const uint8_t *its_font, const struct own *own, const uint8_t *line, size_t n)
+{
+    const struct shape shape = shape_of(own->two);
+    uint8_t frame[LUBDHVANI_FRAME_TWO + CANARY], back[LUBDHVANI_LONGEST_LINE];
     size_t length, calls;
     memset(frame, UNTOUCHED, sizeof frame);
-    uint32_t number = lubdhvani_write(its_key, LUBDHVANI_KEY, nonce, LUBDHVANI_NONCE, its_font, LUBDHVANI_DIGEST, line, n, frame,
-                                      LUBDHVANI_FRAME, &length, &calls);
+    uint32_t number = written(its_key, its_font, own, line, n, frame, &length, &calls);
 
     uint32_t expected = n < 1 || n > LUBDHVANI_LONGEST_LINE ? LUBDHVANI_TOO_LONG : ruled(line, n);
     must(number == expected, "the writer's number");
-    must(number == LUBDHVANI_DONE ? calls == n + CALLS && length >= BESIDE_LINE + n + 2 && length <= LUBDHVANI_FRAME
+    must(number == LUBDHVANI_DONE ? calls == n + shape.calls && length >= shape.beside_line + n + 2 && length <= shape.room
                                   : calls == 0 && length == 0,
          "the writer's length and calls");
     for (size_t i = length; i < sizeof frame; i++)
@@ -196,6 +239,7 @@ static void write_line(const uint8_t *its_key, const uint8_t *its_font, const ui
         lubdhvani_read(frame, length, 0, its_key, LUBDHVANI_KEY, its_font, LUBDHVANI_DIGEST, everything, back, sizeof back);
     must(r.number == LUBDHVANI_DONE && r.given && r.first == 1 && r.closing == length - 1 && r.length == n && memcmp(back, line, n) == 0,
          "a line that was written is read");
+    must(r.edition == 1u + (own->two != 0) && r.job == job_number(own), "with its edition and its job");
     append(frame, length);
 }
 
@@ -228,10 +272,14 @@ static void damage(void)
     }
 }
 
-static void take_nonce(uint8_t nonce[LUBDHVANI_NONCE])
+static struct own take_own(void)
 {
+    struct own own = {.two = take() & 1};
     for (size_t i = 0; i < LUBDHVANI_NONCE; i++)
-        nonce[i] = take();
+        own.nonce[i] = take();
+    for (size_t i = 0; own.two && i < LUBDHVANI_JOB; i++)
+        own.job[i] = take();
+    return own;
 }
 
 /* Any bytes, or listed ones only; these mostly without transit symbols, or with two around digits where there is room. */
@@ -258,21 +306,21 @@ static void take_line(uint8_t *line, size_t n, int any)
 /* The writer's frame of a line, which may be too long: as it should be, under another key or for another font. */
 static void append_written(uint8_t order)
 {
-    uint8_t nonce[LUBDHVANI_NONCE], line[LUBDHVANI_LONGEST_LINE + 3];
-    take_nonce(nonce);
+    uint8_t line[LUBDHVANI_LONGEST_LINE + 3];
+    const struct own own = take_own();
     size_t n = take() % sizeof line;
     take_line(line, n, order >= 0xE0);
-    write_line(order % 8 == 1 ? other_key : key, order % 8 == 2 ? other_font : font, nonce, line, n);
+    write_line(order % 8 == 1 ? other_key : key, order % 8 == 2 ? other_font : font, &own, line, n);
 }
 
 /* A line sealed as it should be; perhaps with one byte of the body changed, or the body cut short. */
 static void append_sealed(uint8_t order)
 {
-    uint8_t nonce[LUBDHVANI_NONCE], line[LUBDHVANI_LONGEST_LINE], body[LONGEST_BODY];
-    take_nonce(nonce);
+    uint8_t line[LUBDHVANI_LONGEST_LINE], body[LONGEST_BODY];
+    const struct own own = take_own();
     size_t n = 1 + take() % LUBDHVANI_LONGEST_LINE;
     take_line(line, n, order & 0x10);
-    n = sealed_body(nonce, line, n, body);
+    n = sealed_body(&own, line, n, body);
     if (order & 0x20) {
         uint8_t change = take();
         body[take() % n] ^= change;
@@ -334,7 +382,8 @@ struct told {
 struct judged {
     uint32_t number;
     size_t length, calls;
-    uint8_t nonce[LUBDHVANI_NONCE], line[LUBDHVANI_LONGEST_LINE];
+    struct own own;
+    uint8_t line[LUBDHVANI_LONGEST_LINE];
 };
 
 /* The body without its stuffing, and its length; 0 where the stuffing is bad. */
@@ -359,19 +408,21 @@ static int is_head(const uint8_t *at, uint8_t tag, size_t length)
     return memcmp(at, head, sizeof head) == 0;
 }
 
-/* The four fields stand in the body with their tags and lengths, and nothing behind them. */
-static int has_fields(const uint8_t *body, size_t n)
+/* The fields of an edition stand in the body with their tags and lengths, and nothing behind them. */
+static int has_fields(const uint8_t *body, size_t n, int two)
 {
-    if (n <= BESIDE_LINE || n > LONGEST_BODY)
+    const struct shape shape = shape_of(two);
+    if (n <= shape.beside_line || n > shape.beside_line + LUBDHVANI_LONGEST_LINE)
         return 0;
-    const size_t line = n - BESIDE_LINE;
-    return is_head(body, 1, LUBDHVANI_NONCE) && is_head(body + FIELD_2, 2, LUBDHVANI_DIGEST) && is_head(body + FIELD_3, 3, line) &&
-           is_head(body + LINE_AT + line, 4, LUBDHVANI_SEAL);
+    const size_t line = n - shape.beside_line;
+    return is_head(body, 1, LUBDHVANI_NONCE) && is_head(body + FIELD_2, 2, LUBDHVANI_DIGEST) &&
+           (!two || is_head(body + BEHIND_2, 5, LUBDHVANI_JOB)) && is_head(body + shape.field_3, 3, line) &&
+           is_head(body + shape.line_at + line, 4, LUBDHVANI_SEAL);
 }
 
 static struct judged judge(const uint8_t *stretch, size_t length, const struct told *told)
 {
-    struct judged j = {LUBDHVANI_BAD_SHAPE, 0, 0, {0}, {0}};
+    struct judged j = {.number = LUBDHVANI_BAD_SHAPE};
     uint8_t body[LUBDHVANI_LONGEST_STRETCH];
     size_t n;
 
@@ -381,20 +432,27 @@ static struct judged judge(const uint8_t *stretch, size_t length, const struct t
         j.number = LUBDHVANI_BAD_STUFFING;
         return j;
     }
-    if (!has_fields(body, n))
+    const int two = has_fields(body, n, 1);
+    must(!(two && has_fields(body, n, 0)), "no body is of both editions");
+    if (!(told->asked.editions & (two ? LUBDHVANI_EDITION_TWO : LUBDHVANI_EDITION_ONE)) || !has_fields(body, n, two))
         return j;
+    const struct shape shape = shape_of(two);
+    j.own.two = two;
     if (memcmp(body + FONT_AT, told->font, LUBDHVANI_DIGEST) != 0) {
         j.number = LUBDHVANI_OTHER_FONT;
         return j;
     }
-    const size_t line = n - BESIDE_LINE;
-    if (line + CALLS > told->asked.allowed) {
+    const size_t line = n - shape.beside_line;
+    if (line + shape.calls > told->asked.allowed) {
         j.number = LUBDHVANI_OVER_WORK;
         return j;
     }
-    memcpy(j.nonce, body + NONCE_AT, sizeof j.nonce);
-    j.number = lubdhvani_open(1, told->key, LUBDHVANI_KEY, body + NONCE_AT, LUBDHVANI_NONCE, body + FIELD_2, ASSOCIATED, body + LINE_AT, line,
-                              body + LINE_AT + line + HEAD, LUBDHVANI_SEAL, j.line, sizeof j.line, &j.calls);
+    memcpy(j.own.nonce, body + NONCE_AT, LUBDHVANI_NONCE);
+    if (two)
+        memcpy(j.own.job, body + JOB_AT, LUBDHVANI_JOB);
+    const uint8_t *const at = body + shape.line_at;
+    j.number = lubdhvani_open(1, told->key, LUBDHVANI_KEY, j.own.nonce, LUBDHVANI_NONCE, body + FIELD_2, shape.associated, at, line,
+                              at + line + HEAD, LUBDHVANI_SEAL, j.line, sizeof j.line, &j.calls);
     must(j.number == LUBDHVANI_DONE || j.number == LUBDHVANI_BAD_SEAL, "a ciphertext is opened or its seal is wrong");
     for (size_t i = j.number == LUBDHVANI_DONE ? line : 0; i < sizeof j.line; i++)
         must(j.line[i] == 0, "nothing is left of a message whose seal is wrong, and nothing stands behind one that was opened");
@@ -408,12 +466,49 @@ static struct judged judge(const uint8_t *stretch, size_t length, const struct t
 /* The bytes between the marks are the ones that the writer makes for this line. */
 static void check_rewritten(const struct judged *j, const struct told *told, const uint8_t *stretch, size_t length)
 {
-    uint8_t frame[LUBDHVANI_FRAME];
+    uint8_t frame[LUBDHVANI_FRAME_TWO];
     size_t frame_length, calls;
-    must(lubdhvani_write(told->key, LUBDHVANI_KEY, j->nonce, LUBDHVANI_NONCE, told->font, LUBDHVANI_DIGEST, j->line, j->length, frame,
-                         sizeof frame, &frame_length, &calls) == LUBDHVANI_DONE,
+    must(written(told->key, told->font, &j->own, j->line, j->length, frame, &frame_length, &calls) == LUBDHVANI_DONE,
          "a line given out can be written");
     must(frame_length == length + 2 && memcmp(frame + 1, stretch, length) == 0, "a line is given out only for the writer's bytes");
+}
+
+/* The converter to an edition: its number, with what it must leave alone. */
+static uint32_t converted(const struct told *told, const uint8_t *stretch, size_t length, const struct own *own,
+                          uint8_t frame[LUBDHVANI_FRAME_TWO], size_t *frame_length)
+{
+    memset(frame, UNTOUCHED, LUBDHVANI_FRAME_TWO);
+    const size_t room = shape_of(own->two).room;
+    const uint32_t number =
+        own->two ? lubdhvani_to_two(stretch, length, told->key, LUBDHVANI_KEY, told->font, LUBDHVANI_DIGEST, own->nonce, LUBDHVANI_NONCE,
+                                    own->job, LUBDHVANI_JOB, frame, room, frame_length)
+                 : lubdhvani_to_one(stretch, length, told->key, LUBDHVANI_KEY, told->font, LUBDHVANI_DIGEST, own->nonce, LUBDHVANI_NONCE,
+                                    frame, room, frame_length);
+    for (size_t i = *frame_length; i < LUBDHVANI_FRAME_TWO; i++)
+        must(frame[i] == UNTOUCHED, "the converter writes the frame only");
+    return number;
+}
+
+/* A stretch handed to both calls of the converter. It is converted exactly where a reader of its edition gives a line, else refused with that
+ * reader's number, or with 16; and going back gives the stretch byte for byte. */
+static void check_converted(const struct told *told, const uint8_t *stretch, size_t length)
+{
+    for (int two = 0; two < 2; two++) {
+        const struct told both = {told->key, told->font, told->room, everything};
+        const struct judged j = judge(stretch, length, &both);
+        const struct own own = {.two = two, .nonce = {MARK, ESCAPE}, .job = {ESCAPE, MARK}};
+        uint8_t frame[LUBDHVANI_FRAME_TWO], back[LUBDHVANI_FRAME_TWO];
+        size_t n, back_length;
+        const uint32_t number = converted(told, stretch, length, &own, frame, &n);
+        const int shaped = j.number != LUBDHVANI_BAD_SHAPE && j.number != LUBDHVANI_BAD_STUFFING;
+        must(number == (shaped && j.own.two == two ? LUBDHVANI_OTHER_EDITION : j.number), "the converter's number");
+        must((n > 0) == (number == LUBDHVANI_DONE), "a frame is written exactly where the stretch is converted");
+        if (n == 0)
+            continue;
+        must(converted(told, frame + 1, n - 2, &j.own, back, &back_length) == LUBDHVANI_DONE, "what was converted is converted back");
+        must(back_length == length + 2 && back[0] == MARK && back[length + 1] == MARK && memcmp(back + 1, stretch, length) == 0,
+             "going back gives the first frame");
+    }
 }
 
 /* The stream stands just before a page that can't be touched. */
@@ -486,6 +581,9 @@ static void check_judged(const uint8_t *stream, const struct told *told, const s
     const struct judged j = judge(stream + r->is.first, length, told);
     must(r->is.number == j.number && r->is.length == j.length && r->is.calls == j.calls, "the answer is the one its rules give");
     must(memcmp(r->around + CANARY, j.line, r->is.length) == 0, "the line is the one that was sealed");
+    must(r->is.edition == (j.length == 0 ? 0 : 1u + (j.own.two != 0)) && r->is.job == (j.length == 0 ? 0 : job_number(&j.own)),
+         "edition and job are the line's, and zero without one");
+    check_converted(told, stream + r->is.first, length);
     if (r->is.length > 0) {
         check_rewritten(&j, told, stream + r->is.first, length);
         met[MET_LINES + r->is.length]++;
@@ -552,7 +650,7 @@ int LLVMFuzzerTestOneInput(const uint8_t *data, size_t size)
 
     const uint8_t how = take();
     size_t place = take_two();
-    const uint8_t work = take();
+    const uint8_t work = take(), editions = take();
     if (how & 0x01)
         append(input, input_left);
     else
@@ -562,7 +660,7 @@ int LLVMFuzzerTestOneInput(const uint8_t *data, size_t size)
         (how & 0x0C) == 0x0C ? other_key : key,
         (how & 0x30) == 0x30 ? other_font : font,
         (how & 0xC0) == 0xC0 ? LUBDHVANI_LONGEST_LINE - 1 : LUBDHVANI_LONGEST_LINE + (how >> 6) * MORE_ROOM / 2u,
-        {.editions = LUBDHVANI_EDITION_ONE, .allowed = work & 0x80 ? work & 0x7F : LUBDHVANI_ALL_WORK},
+        {.editions = editions, .allowed = work & 0x80 ? work & 0x7F : LUBDHVANI_ALL_WORK},
     };
     read_all(lent_stream(), place, &told);
     return 0;
