@@ -5,6 +5,7 @@ use crate::frame::write;
 use crate::lines::{font_digest, usable_key};
 use crate::numbers::{DONE, FRAME_ROOM};
 use crate::text::unhex;
+use crate::told::Told;
 
 /// Frames for standard output, reports for standard error.
 #[derive(Debug, PartialEq, Eq)]
@@ -20,6 +21,7 @@ pub fn compose(
 ) -> Result<Composed, &'static str> {
     let key = usable_key(key)?;
     let font = font_digest(font)?;
+    let told = Told::of(&key, &font);
     let mut composed = Composed {
         frames: Vec::new(),
         reports: Vec::new(),
@@ -28,7 +30,7 @@ pub fn compose(
     for (index, order) in rows.iter().enumerate() {
         let (nonce, line) = nonce_and_line(order);
         let mut frame = [0; FRAME_ROOM];
-        let answer = write(&key, &nonce, &font, line, &mut frame);
+        let answer = write(told, &nonce, line, &mut frame);
         if answer.number == DONE {
             composed.frames.extend(&frame[..answer.length]);
         } else {

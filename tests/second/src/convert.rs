@@ -2,8 +2,9 @@
 //! other edition under a nonce, and where needed a job, given to it.
 
 use crate::frame::{framed, Edition, Fields, Own};
-use crate::numbers::{DIGEST, DONE, KEY, NOT_ITS_SIZE, NO_ROOM, OTHER_EDITION};
-use crate::reader::{fields_of, opened, Told};
+use crate::numbers::{DONE, NOT_ITS_SIZE, NO_ROOM, OTHER_EDITION};
+use crate::reader::{fields_of, opened};
+use crate::told::Told;
 
 /// What the converter answers: number, and the frame's length (0 on a refusal).
 #[derive(Clone, Copy, Debug, PartialEq, Eq)]
@@ -32,7 +33,7 @@ pub fn convert(told: Told, stretch: &[u8], own: Own, out: &mut [u8]) -> Converte
 /// The new frame, or the number: 2, 4, then the stretch's, with 16 directly
 /// after the 7 for its fields.
 fn frame(told: Told, stretch: &[u8], own: Own, room: usize) -> Result<Vec<u8>, u8> {
-    if told.key.len() != KEY || told.digest.len() != DIGEST || !own.sized() {
+    if !told.sized() || !own.sized() {
         return Err(NOT_ITS_SIZE);
     }
     let target: Edition = own.edition();
@@ -52,18 +53,16 @@ fn frame(told: Told, stretch: &[u8], own: Own, room: usize) -> Result<Vec<u8>, u
 mod tests {
     use super::*;
     use crate::frame::{write_own, TAG_SEAL};
+    use crate::line::{Layout, LAYOUT_A, LAYOUT_B};
     use crate::numbers::{
-        BAD_FIELDS, BAD_STUFFING, FRAME_ROOM, FRAME_ROOM_2, JOB, NONCE, NOT_LISTED, NOT_TRADE,
-        OTHER_FONT, STRETCH_MOST, WRONG_SEAL,
+        BAD_FIELDS, BAD_STUFFING, DIGEST, FRAME_ROOM, FRAME_ROOM_2, JOB, KEY, NONCE, NOT_LISTED,
+        NOT_TRADE, OTHER_FONT, OTHER_LAYOUT, STRETCH_MOST, WRONG_SEAL,
     };
     use crate::stuffing::stuff;
 
     const KEY_1: [u8; KEY] = [9; KEY];
     const FONT: [u8; DIGEST] = [0x7e; DIGEST];
-    const TOLD: Told = Told {
-        key: &KEY_1,
-        digest: &FONT,
-    };
+    const TOLD: Told = Told::of(&KEY_1, &FONT);
     const ONE: Own = Own {
         nonce: &[0x7d; NONCE],
         job: None,
@@ -78,8 +77,12 @@ mod tests {
     }
 
     fn converted(stretch: &[u8], own: Own, room: usize) -> (u8, Vec<u8>) {
+        converted_under(TOLD, stretch, own, room)
+    }
+
+    fn converted_under(told: Told, stretch: &[u8], own: Own, room: usize) -> (u8, Vec<u8>) {
         let mut out = vec![0xcc; room];
-        let answer = convert(TOLD, stretch, own, &mut out);
+        let answer = convert(told, stretch, own, &mut out);
         assert!(out[answer.length..].iter().all(|&byte| byte == 0xcc));
         out.truncate(answer.length);
         (answer.number, out)
@@ -93,7 +96,7 @@ mod tests {
                 let (number, there) = converted(&one, between, FRAME_ROOM_2);
                 assert_eq!(number, DONE);
                 let mut written = [0; FRAME_ROOM_2];
-                let length = write_own(&KEY_1, between, &FONT, line, &mut written).length;
+                let length = write_own(TOLD, between, line, &mut written).length;
                 assert_eq!(there, written[..length]);
                 let (number, back) = converted(&there[1..there.len() - 1], first, FRAME_ROOM_2);
                 assert_eq!((number, &back[1..back.len() - 1]), (DONE, &one[..]));
@@ -138,5 +141,26 @@ mod tests {
         assert_eq!(number(&unsealed, TWO), WRONG_SEAL);
         assert_eq!(number(&stretch(ONE, &FONT, b"x"), TWO), NOT_LISTED);
         assert_eq!(number(&stretch(ONE, &FONT, b" "), TWO), NOT_TRADE);
+    }
+    #[test]
+    fn the_layout_is_looked_at_last() {
+        let number = |layout, stretch: &[u8]| {
+            converted_under(TOLD.under(layout), stretch, TWO, FRAME_ROOM_2).0
+        };
+        let of_b = stretch(ONE, &FONT, b"A123456789A012345678901C");
+        assert_eq!(number(LAYOUT_B, &of_b), DONE);
+        for layout in [LAYOUT_A, Layout(3), Layout(usize::MAX)] {
+            assert_eq!(number(layout, &of_b), OTHER_LAYOUT);
+        }
+        let cases = [
+            (stretch(TWO, &FONT, b"7"), OTHER_EDITION),
+            (stretch(ONE, &[0; DIGEST], b"7"), OTHER_FONT),
+            (stretch(ONE, &FONT, b"7x"), NOT_LISTED),
+            (stretch(ONE, &FONT, b"D"), NOT_TRADE),
+            (stretch(ONE, &FONT, b"7"), OTHER_LAYOUT),
+        ];
+        for (stretch, expected) in cases {
+            assert_eq!(number(LAYOUT_A, &stretch), expected);
+        }
     }
 }

@@ -6,11 +6,12 @@ use crate::chance::Chance;
 use crate::cipher::{encrypt, INSTANCE_1};
 use crate::line;
 use crate::numbers::{
-    DIGEST, DONE, FRAME_ROOM, FRAME_ROOM_2, JOB, KEY, LINE_LEAST, LINE_MOST, NONCE, NOT_ITS_SIZE,
+    DIGEST, DONE, FRAME_ROOM, FRAME_ROOM_2, JOB, LINE_LEAST, LINE_MOST, NONCE, NOT_ITS_SIZE,
     NO_ROOM, SEAL, TOO_LONG,
 };
 use crate::readings::PRODUCT;
 use crate::stuffing::{stuff, ESCAPE, MARK};
+use crate::told::Told;
 
 pub const TAG_NONCE: u8 = 0x01;
 pub const TAG_DIGEST: u8 = 0x02;
@@ -253,27 +254,27 @@ impl Written {
 }
 
 /// The public call of edition one.
-pub fn write(key: &[u8], nonce: &[u8], digest: &[u8], line: &[u8], out: &mut [u8]) -> Written {
-    write_own(key, Own { nonce, job: None }, digest, line, out)
+pub fn write(told: Told, nonce: &[u8], line: &[u8], out: &mut [u8]) -> Written {
+    write_own(told, Own { nonce, job: None }, line, out)
 }
 
 /// The public call of the edition that the frame is of. Writes the frame into
 /// the first bytes of `out`; on a refusal nothing.
-pub fn write_own(key: &[u8], own: Own, digest: &[u8], line: &[u8], out: &mut [u8]) -> Written {
-    if key.len() != KEY || !own.sized() || digest.len() != DIGEST {
+pub fn write_own(told: Told, own: Own, line: &[u8], out: &mut [u8]) -> Written {
+    if !told.sized() || !own.sized() {
         return Written::refused(NOT_ITS_SIZE);
     }
     if line.len() < LINE_LEAST || line.len() > LINE_MOST {
         return Written::refused(TOO_LONG);
     }
-    let by_rule = line::number(line);
+    let by_rule = line::number(told.layout, line);
     if by_rule != DONE {
         return Written::refused(by_rule);
     }
     if out.len() < own.edition().frame_room() {
         return Written::refused(NO_ROOM);
     }
-    let (fields, count) = Fields::sealing_own(key, own, digest, line);
+    let (fields, count) = Fields::sealing_own(told.key, own, told.digest, line);
     let frame = framed(&fields.body());
     out[..frame.len()].copy_from_slice(&frame);
     Written {
@@ -286,7 +287,8 @@ pub fn write_own(key: &[u8], own: Own, digest: &[u8], line: &[u8], out: &mut [u8
 #[cfg(test)]
 mod tests {
     use super::*;
-    use crate::numbers::{NOT_LISTED, NOT_TRADE};
+    use crate::line::{LAYOUT_A, LAYOUT_B};
+    use crate::numbers::{KEY, NOT_LISTED, NOT_TRADE, OTHER_LAYOUT};
     use crate::stuffing::unstuff;
 
     #[test]
@@ -294,7 +296,8 @@ mod tests {
         for length in [1, 2, 64, 65] {
             let line = vec![b'7'; length];
             let mut out = [0xee; FRAME_ROOM + 5];
-            let answer = write(&[1; KEY], &[0x7e; NONCE], &[0x7d; DIGEST], &line, &mut out);
+            let told = Told::of(&[1; KEY], &[0x7d; DIGEST]);
+            let answer = write(told, &[0x7e; NONCE], &line, &mut out);
             assert_eq!(answer.number, DONE);
             assert_eq!(answer.count, length + 39);
             let frame = &out[..answer.length];
@@ -316,7 +319,8 @@ mod tests {
             };
             let mut out = [0xee; FRAME_ROOM_2];
             let line = vec![b'7'; length];
-            let answer = write_own(&[1; KEY], own, &[0x7d; DIGEST], &line, &mut out);
+            let told = Told::of(&[1; KEY], &[0x7d; DIGEST]);
+            let answer = write_own(told, own, &line, &mut out);
             assert_eq!((answer.number, answer.count), (DONE, length + 46));
             let body = unstuff(&out[1..answer.length - 1]).unwrap();
             assert_eq!(body.len(), 79 + length);
@@ -346,7 +350,8 @@ mod tests {
                 job: Some(&job),
             };
             let mut out = vec![0xee; room];
-            let answer = write_own(&[0; KEY], own, &[0; DIGEST], line, &mut out);
+            let told = Told::of(&[0; KEY], &[0; DIGEST]);
+            let answer = write_own(told, own, line, &mut out);
             assert_eq!(answer, Written::refused(number));
             assert_eq!(out, vec![0xee; room]);
         }
@@ -374,10 +379,39 @@ mod tests {
         ];
         for (k, n, d, line, room, number) in cases {
             let mut out = vec![0xee; room];
-            let answer = write(&vec![0; k], &vec![0; n], &vec![0; d], line, &mut out);
+            let (key, digest) = (vec![0; k], vec![0; d]);
+            let answer = write(Told::of(&key, &digest), &vec![0; n], line, &mut out);
             assert_eq!(answer, Written::refused(number));
             assert_eq!(out, vec![0xee; room]);
         }
+    }
+
+    #[test]
+    fn the_layout_comes_after_the_trade_and_before_the_room() {
+        let told = Told::of(&[0; KEY], &[0; DIGEST]);
+        let short = Told::of(&[0; KEY - 1], &[0; DIGEST]);
+        let of_a = b"A123456789A0123456789C";
+        // What is told, the line, the room, the number.
+        let cases: [(Told, &[u8], usize, u8); 8] = [
+            (short.under(LAYOUT_A), b"7", 0, NOT_ITS_SIZE),
+            (told.under(LAYOUT_A), &[b'7'; 66], 0, TOO_LONG),
+            (told.under(LAYOUT_A), b"7x", 0, NOT_LISTED),
+            (told.under(LAYOUT_A), b"C", 0, NOT_TRADE),
+            (told.under(LAYOUT_A), b"7", 0, OTHER_LAYOUT),
+            (told.under(LAYOUT_B), of_a, 275, OTHER_LAYOUT),
+            (told.under(LAYOUT_B), of_a, 276, OTHER_LAYOUT),
+            (told.under(LAYOUT_A), of_a, 275, NO_ROOM),
+        ];
+        for (told, line, room, number) in cases {
+            let mut out = vec![0xee; room];
+            let answer = write(told, &[0; NONCE], line, &mut out);
+            assert_eq!(answer, Written::refused(number));
+            assert_eq!(out, vec![0xee; room]);
+        }
+        let (mut named, mut loose) = ([0xee; FRAME_ROOM], [0xee; FRAME_ROOM]);
+        let answer = write(told.under(LAYOUT_A), &[0; NONCE], of_a, &mut named);
+        assert_eq!(answer, write(told, &[0; NONCE], of_a, &mut loose));
+        assert_eq!((answer.number, named), (DONE, loose));
     }
 
     #[test]

@@ -28,3 +28,4 @@ pub mod stream;
 pub mod stuffing;
 pub mod substitution;
 pub mod text;
+pub mod told;

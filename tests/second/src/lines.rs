@@ -4,7 +4,8 @@ use std::fmt::Write;
 
 use crate::digest::digest;
 use crate::numbers::{DIGEST, DONE, KEY, LINE_MOST, MESSAGE_LIMIT, STREAM_LIMIT};
-use crate::reader::{Told, Walker, ALL};
+use crate::reader::{Walker, ALL};
+use crate::told::Told;
 
 /// The key file's bytes, or the refusal.
 pub fn usable_key(file: Option<Vec<u8>>) -> Result<Vec<u8>, &'static str> {
@@ -41,10 +42,7 @@ fn rows(
     if stream.len() > STREAM_LIMIT {
         return Err("too long");
     }
-    let told = Told {
-        key: &key,
-        digest: &font,
-    };
+    let told = Told::of(&key, &font);
     let mut walker = Walker::new(stream);
     let mut line = [0; LINE_MOST];
     let mut rows = String::new();

@@ -70,7 +70,7 @@ pub fn near_line(chance: &mut Chance) -> Vec<u8> {
 #[cfg(test)]
 mod tests {
     use super::*;
-    use crate::line::number;
+    use crate::line::{number, NEITHER};
     use crate::numbers::{DONE, LINE_MOST, NOT_TRADE};
 
     #[test]
@@ -78,9 +78,12 @@ mod tests {
         let chance = &mut Chance::of(1, 1);
         for round in 0..20_000 {
             let line = trade_line(chance, 1 + round % LINE_MOST);
-            assert_eq!((number(&line), line.len()), (DONE, 1 + round % LINE_MOST));
+            assert_eq!(
+                (number(NEITHER, &line), line.len()),
+                (DONE, 1 + round % LINE_MOST)
+            );
             let near = near_line(chance);
-            assert_eq!(number(&near), NOT_TRADE);
+            assert_eq!(number(NEITHER, &near), NOT_TRADE);
             assert!(!near.is_empty() && near.len() <= LINE_MOST);
         }
     }

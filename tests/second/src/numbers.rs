@@ -35,6 +35,8 @@ pub const AFTER_FINISH: u8 = 14;
 pub const OVER_WORK: u8 = 15;
 /// Frame not of the edition named (order W6).
 pub const OTHER_EDITION: u8 = 16;
+/// Line of the trade that has not the layout named (order W7).
+pub const OTHER_LAYOUT: u8 = 17;
 
 pub const KEY: usize = 16;
 pub const NONCE: usize = 12;

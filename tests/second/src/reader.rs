@@ -4,19 +4,13 @@ use crate::cipher::{decrypt, INSTANCE_1};
 use crate::frame::{associated, Edition, Fields};
 use crate::line;
 use crate::numbers::{
-    BAD_FIELDS, BAD_STUFFING, BESIDE_LINE, BESIDE_LINE_2, BEYOND_END, DIGEST, DONE, KEY, LINE_MOST,
+    BAD_FIELDS, BAD_STUFFING, BESIDE_LINE, BESIDE_LINE_2, BEYOND_END, DONE, LINE_MOST,
     NOT_ITS_SIZE, NO_ROOM, OTHER_FONT, OVER_WORK, STREAM_LIMIT, STRETCH_MOST, TOO_LONG, WRONG_SEAL,
 };
 use crate::readings::PRODUCT;
 use crate::stream::next_stretch;
 use crate::stuffing::unstuff;
-
-/// What the reader is told besides the stream.
-#[derive(Clone, Copy)]
-pub struct Told<'a> {
-    pub key: &'a [u8],
-    pub digest: &'a [u8],
-}
+use crate::told::Told;
 
 /// The editions that a reader allows: bit 1 for edition one, bit 2 for edition
 /// two; other bits say nothing.
@@ -87,7 +81,7 @@ pub fn fields_of(stretch: &[u8]) -> Result<Fields, u8> {
 }
 
 /// Order of a stretch: 7 for its length, 6, 7 for its fields and for an edition
-/// that is not allowed, 8, 15, 5, 9, 13.
+/// that is not allowed, 8, 15, 5, 9, 13, 17.
 fn judge(told: Told, asked: Asked, stretch: &[u8]) -> Judged {
     match fields_of(stretch) {
         Err(number) => Judged::refused(number, 0),
@@ -136,7 +130,7 @@ pub fn opened(
     if fields.seal != worked_out {
         return Err((WRONG_SEAL, count));
     }
-    let by_rule = line::number(&line);
+    let by_rule = line::number(told.layout, &line);
     if by_rule != DONE {
         return Err((by_rule, count));
     }
@@ -180,7 +174,7 @@ impl Reading {
 /// The public call. Writes the line into the first bytes of `out`; on a
 /// refusal, of the call or of the stretch, nothing.
 pub fn read(told: Told, asked: Asked, stream: &[u8], place: usize, out: &mut [u8]) -> Reading {
-    if told.key.len() != KEY || told.digest.len() != DIGEST {
+    if !told.sized() {
         return Reading::call_refused(NOT_ITS_SIZE, place);
     }
     if stream.len() > STREAM_LIMIT {
@@ -244,18 +238,16 @@ impl<'a> Walker<'a> {
 mod tests {
     use super::*;
     use crate::frame::{framed, write, Own};
-    use crate::numbers::{FRAME_ROOM, NONCE, NOT_LISTED, NOT_TRADE};
+    use crate::line::{Layout, LAYOUT_A, LAYOUT_B, NEITHER};
+    use crate::numbers::{DIGEST, FRAME_ROOM, KEY, NONCE, NOT_LISTED, NOT_TRADE, OTHER_LAYOUT};
 
     const KEY_1: [u8; KEY] = [9; KEY];
     const FONT: [u8; DIGEST] = [0x7e; DIGEST];
-    const TOLD: Told = Told {
-        key: &KEY_1,
-        digest: &FONT,
-    };
+    const TOLD: Told = Told::of(&KEY_1, &FONT);
 
     fn frame(line: &[u8]) -> Vec<u8> {
         let mut out = [0; FRAME_ROOM];
-        let length = write(&KEY_1, &[0x7d; NONCE], &FONT, line, &mut out).length;
+        let length = write(TOLD, &[0x7d; NONCE], line, &mut out).length;
         out[..length].to_vec()
     }
 
@@ -441,6 +433,37 @@ mod tests {
     }
 
     #[test]
+    fn a_line_of_another_layout_is_refused_with_its_count() {
+        let of_a = b"A123456789A0123456789C";
+        let own = Own {
+            nonce: &[3; NONCE],
+            job: Some(&[0; 4]),
+        };
+        let two = framed(&Fields::sealing_own(&KEY_1, own, &FONT, of_a).0.body());
+        let given = |stream: &[u8], layout, allowed| {
+            let asked = Asked {
+                editions: BOTH,
+                allowed,
+            };
+            let mut out = [0xcc; LINE_MOST];
+            let reading = read(TOLD.under(layout), asked, stream, 0, &mut out);
+            let untouched = out == [0xcc; LINE_MOST] && (reading.edition, reading.job) == (0, 0);
+            assert_eq!(untouched, reading.number != DONE);
+            (reading.number, reading.length, reading.count)
+        };
+        for (stream, count) in [(frame(of_a), 22 + 39), (two, 22 + 46)] {
+            for layout in [NEITHER, LAYOUT_A] {
+                assert_eq!(given(&stream, layout, count), (DONE, 22, count));
+            }
+            for layout in [LAYOUT_B, Layout(3), Layout(1 << 32), Layout(usize::MAX)] {
+                let refused = (OTHER_LAYOUT, 0, count);
+                assert_eq!(given(&stream, layout, count), refused);
+                assert_eq!(given(&stream, layout, count - 1), (OVER_WORK, 0, 0));
+            }
+        }
+    }
+
+    #[test]
     fn order_of_the_call() {
         let long = vec![b'~'; STREAM_LIMIT + 1];
         // Lengths of key and digest, the stream, the place, the room, the number.
@@ -456,10 +479,7 @@ mod tests {
         ];
         for (k, d, stream, place, room, number) in cases {
             let (key, digest) = (vec![0; k], vec![0; d]);
-            let told = Told {
-                key: &key,
-                digest: &digest,
-            };
+            let told = Told::of(&key, &digest);
             let mut out = vec![0xcc; room];
             let reading = read(told, ALL, stream, place, &mut out);
             assert_eq!(reading, Reading::call_refused(number, place));

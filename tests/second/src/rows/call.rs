@@ -3,14 +3,15 @@
 
 use std::fmt::Write;
 
-use super::{edition, frame, in_bytes, seal};
+use super::{edition, frame, in_bytes, layout, seal};
 use crate::cipher;
 use crate::convert::convert;
 use crate::digest::digest;
 use crate::frame::{write_own, Own};
+use crate::line::Layout;
 use crate::numbers::DIGEST;
-use crate::reader::Told;
 use crate::text::value;
+use crate::told::Told;
 
 /// Buffers from this length on are printed as their instance 1 digest.
 const PRINTED_AS_DIGEST: usize = 4096;
@@ -30,8 +31,9 @@ pub enum Call {
 
 /// The arguments of a call: instance is the cipher's (of a frame 0), text is the
 /// message, the ciphertext, the line or the stretch, associated what is
-/// associated with it (of a frame the font digest), and seal what the seal's
-/// buffer holds before (of a frame of edition two the job).
+/// associated with it (of a frame the font digest), seal what the seal's buffer
+/// holds before (of a frame of edition two the job), and layout that of the line
+/// (neither where a call knows none).
 #[derive(Clone)]
 pub struct Case {
     pub call: Call,
@@ -42,6 +44,7 @@ pub struct Case {
     pub text: Vec<u8>,
     pub seal: Vec<u8>,
     pub room: usize,
+    pub layout: Layout,
 }
 
 /// A case and how its row begins.
@@ -86,18 +89,19 @@ impl Case {
                 (answer.number, 0, answer.count)
             }
             Call::Write | Call::WriteTwo => {
-                let answer = write_own(key, self.own(), associated, &self.text, out);
+                let answer = write_own(self.told(), self.own(), &self.text, out);
                 (answer.number, answer.length, answer.count)
             }
             Call::ToOne | Call::ToTwo => {
-                let told = Told {
-                    key,
-                    digest: associated,
-                };
-                let answer = convert(told, &self.text, self.own(), out);
+                let answer = convert(self.told(), &self.text, self.own(), out);
                 (answer.number, answer.length, 0)
             }
         }
+    }
+
+    /// What a writer and a converter are told.
+    fn told(&self) -> Told<'_> {
+        Told::of(&self.key, &self.associated).under(self.layout)
     }
 
     /// What the frame that a call makes has as its own.
@@ -112,7 +116,8 @@ impl Case {
     }
 
     /// As the case file holds it: the lengths of the name and of the five
-    /// parts, the room, which call, and the instance; then the name and the parts.
+    /// parts, the room, which call, the instance and the layout; then the name
+    /// and the parts.
     fn stored(&self, name: &str) -> Vec<u8> {
         let parts = [
             name.as_bytes(),
@@ -123,7 +128,7 @@ impl Case {
             &self.seal,
         ];
         let mut head: Vec<usize> = parts.iter().map(|part| part.len()).collect();
-        head.extend([self.room, self.call as usize, self.instance]);
+        head.extend([self.room, self.call as usize, self.instance, self.layout.0]);
         let head: Vec<[u8; 4]> = head.into_iter().map(in_bytes).collect();
         [head.concat(), parts.concat()].concat()
     }
@@ -157,7 +162,13 @@ fn shown(buffer: &[u8]) -> String {
 pub fn stdin_and_rows() -> (Vec<u8>, String) {
     let mut stdin = Vec::new();
     let mut rows = String::new();
-    let cases = [seal::cases(), frame::cases(), edition::calls()].concat();
+    let cases = [
+        seal::cases(),
+        frame::cases(),
+        edition::calls(),
+        layout::calls(),
+    ]
+    .concat();
     for (name, case) in cases {
         stdin.extend(case.stored(&name));
         case.row(&mut rows, &name);

@@ -8,6 +8,7 @@ use super::stream::Case as Stream;
 use super::told;
 use super::trade::LINES as TRADE;
 use crate::frame::{framed, Fields, Own};
+use crate::line::NEITHER;
 use crate::numbers::{DIGEST, FRAME_ROOM, FRAME_ROOM_2, JOB, KEY, LINE_MOST, NONCE};
 use crate::reader::{Editions, BOTH, ONE, TWO};
 use crate::stuffing::{ESCAPE, MARK};
@@ -25,7 +26,7 @@ fn job(seed: usize, length: usize) -> Vec<u8> {
 
 /// The fields of a line in either edition, under the key and the digest that
 /// every reader of the rows is told.
-fn fields(seed: usize, two: bool, digest: &[u8], line: &[u8]) -> Fields {
+pub fn fields(seed: usize, two: bool, digest: &[u8], line: &[u8]) -> Fields {
     let (nonce, job) = (nonce(seed), job(seed, JOB));
     let own = Own {
         nonce: &nonce,
@@ -39,13 +40,13 @@ fn body(two: bool, line: &[u8]) -> Vec<u8> {
 }
 
 /// What stands between the marks of a body's frame.
-fn between(body: &[u8]) -> Vec<u8> {
+pub fn between(body: &[u8]) -> Vec<u8> {
     let frame = framed(body);
     frame[1..frame.len() - 1].to_vec()
 }
 
 /// A call with all sizes as they should be; the rows change one or two of them.
-fn call(call: Call, seed: usize, text: &[u8]) -> Case {
+pub fn call(call: Call, seed: usize, text: &[u8]) -> Case {
     let (job, room) = match call {
         Call::WriteTwo | Call::ToTwo => (job(seed, JOB), FRAME_ROOM_2),
         _ => (Vec::new(), FRAME_ROOM),
@@ -59,6 +60,7 @@ fn call(call: Call, seed: usize, text: &[u8]) -> Case {
         text: text.to_vec(),
         seal: job,
         room,
+        layout: NEITHER,
     }
 }
 

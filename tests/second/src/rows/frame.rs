@@ -4,6 +4,7 @@
 use super::by_rule;
 use super::call::{Call, Case, Named};
 use super::trade::LINES as TRADE;
+use crate::line::NEITHER;
 use crate::numbers::{DIGEST, FRAME_ROOM, KEY, NONCE};
 
 /// Listed bytes but the transit symbol, in the order in which a line's rule
@@ -147,6 +148,7 @@ impl Spoilt {
             text: line,
             seal: Vec::new(),
             room: self.room,
+            layout: NEITHER,
         }
     }
 

@@ -8,6 +8,7 @@ mod damage;
 mod digest;
 mod edition;
 mod frame;
+mod layout;
 mod limit;
 pub mod permute;
 mod seal;

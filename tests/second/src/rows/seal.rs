@@ -5,6 +5,7 @@
 use super::by_rule;
 use super::call::{Call, Case, Named, BEFORE};
 use crate::cipher::{instances, sizes};
+use crate::line::NEITHER;
 
 /// Lengths at instance 1.
 const ASSOCIATED: [usize; 8] = [0, 1, 2, 15, 16, 17, 35, 40];
@@ -122,6 +123,7 @@ fn sealing(instance: usize, a: usize, p: usize) -> Case {
         text: message(p),
         seal: vec![BEFORE; its.seal],
         room: p,
+        layout: NEITHER,
     }
 }
 
@@ -150,6 +152,7 @@ fn refused(call: Call, [instance, k, n, a, p, s, room]: [usize; 7]) -> Case {
         text: message(p),
         seal: key(s),
         room,
+        layout: NEITHER,
     }
 }
 

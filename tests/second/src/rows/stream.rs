@@ -4,13 +4,15 @@
 use std::fmt::Write;
 use std::ops::Range;
 
-use super::{beat, damage, edition, in_bytes, limit, sound, stretch, told};
+use super::{beat, damage, edition, in_bytes, layout, limit, sound, stretch, told};
+use crate::line::{Layout, NEITHER};
 use crate::numbers::{DIGEST, KEY, LINE_MOST};
 use crate::reader::{Asked, Editions, ONE};
 use crate::stream::next_stretch;
 
 /// A stream, the place to start from, the lengths of line buffer, key and font
-/// digest, the work allowed and the editions. A case has a name of its own, or its number.
+/// digest, the work allowed, the editions and the layout. A case has a name of
+/// its own, or its number.
 pub struct Case {
     name: Option<&'static str>,
     stream: Vec<u8>,
@@ -20,6 +22,7 @@ pub struct Case {
     digest: usize,
     allowed: usize,
     editions: Editions,
+    layout: Layout,
 }
 
 /// Enough for every stretch, in the four bytes that a number of a case has.
@@ -27,7 +30,7 @@ const ALL_WORK: usize = 0xffff_ffff;
 
 impl Case {
     /// From the stream's start, all lengths as they should be, all work
-    /// allowed, and edition one.
+    /// allowed, edition one and neither layout.
     pub fn of(stream: &[u8]) -> Case {
         Case {
             name: None,
@@ -38,6 +41,7 @@ impl Case {
             digest: DIGEST,
             allowed: ALL_WORK,
             editions: ONE,
+            layout: NEITHER,
         }
     }
 
@@ -72,10 +76,15 @@ impl Case {
         Case { editions, ..self }
     }
 
+    pub fn layout(self, layout: Layout) -> Case {
+        Case { layout, ..self }
+    }
+
     /// As the case file holds it: the lengths of the name, of the stream, of
     /// its first and of its last bytes, the byte between those, the place, the
-    /// lengths of line buffer, key and font digest, the work allowed and the
-    /// editions; then the name and the first and the last bytes of the stream.
+    /// lengths of line buffer, key and font digest, the work allowed, the
+    /// editions and the layout; then the name and the first and the last bytes
+    /// of the stream.
     fn stored(&self, name: &str) -> Vec<u8> {
         let run = longest_run(&self.stream);
         let (first, last) = (&self.stream[..run.start], &self.stream[run.end..]);
@@ -92,6 +101,7 @@ impl Case {
             self.digest,
             self.allowed,
             self.editions.0 as usize,
+            self.layout.0,
         ];
         [
             head.map(in_bytes).concat(),
@@ -109,8 +119,15 @@ impl Case {
                 editions: self.editions,
                 allowed: self.allowed,
             };
-            let (reading, line) =
-                told::reading(self.key, self.digest, asked, &self.stream, start, self.room);
+            let (reading, line) = told::reading(
+                self.key,
+                self.digest,
+                self.layout,
+                asked,
+                &self.stream,
+                start,
+                self.room,
+            );
             let part = next_stretch(&self.stream, start);
             writeln!(
                 rows,
@@ -162,6 +179,7 @@ fn cases() -> Vec<Case> {
     cases.extend(limit::cases());
     cases.extend(beat::cases());
     cases.extend(edition::streams());
+    cases.extend(layout::streams());
     cases
 }
 
@@ -184,13 +202,13 @@ mod tests {
     #[test]
     fn the_case_file_is_small_and_every_answer_of_a_reading_occurs_often() {
         let (stdin, rows) = stdin_and_rows();
-        assert!(stdin.len() < 250_000);
+        assert!(stdin.len() < 270_000);
         let numbers: Vec<&str> = rows
             .lines()
             .map(|row| row.split(' ').nth(6).unwrap())
             .collect();
         for number in [
-            "0", "2", "3", "4", "5", "6", "7", "8", "9", "10", "13", "15", "end",
+            "0", "2", "3", "4", "5", "6", "7", "8", "9", "10", "13", "15", "17", "end",
         ] {
             let times = numbers.iter().filter(|&&one| one == number).count();
             assert!(times >= 4, "{} occurs {} times", number, times);

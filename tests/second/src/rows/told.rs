@@ -3,8 +3,10 @@
 
 use super::by_rule;
 use crate::frame::write;
+use crate::line::Layout;
 use crate::numbers::{DIGEST, DONE, FRAME_ROOM, KEY, LINE_MOST};
-use crate::reader::{read, Asked, Reading, Told};
+use crate::reader::{read, Asked, Reading};
+use crate::told::Told;
 
 pub fn key() -> Vec<u8> {
     key_of(KEY)
@@ -25,26 +27,24 @@ fn digest_of(length: usize) -> Vec<u8> {
 /// The writer's frame of a line under that key and digest.
 pub fn frame(nonce: &[u8], line: &[u8]) -> Vec<u8> {
     let mut out = [0; FRAME_ROOM];
-    let answer = write(&key(), nonce, &digest(), line, &mut out);
+    let answer = write(Told::of(&key(), &digest()), nonce, line, &mut out);
     assert_eq!(answer.number, DONE, "an order of the rows is sound");
     out[..answer.length].to_vec()
 }
 
-/// One reading under a key and a digest of these lengths, with the line as a
-/// row prints it.
+/// One reading under a key and a digest of these lengths and a layout, with the
+/// line as a row prints it.
 pub fn reading(
     key: usize,
     digest: usize,
+    layout: Layout,
     asked: Asked,
     stream: &[u8],
     place: usize,
     room: usize,
 ) -> (Reading, String) {
     let (key, digest) = (key_of(key), digest_of(digest));
-    let told = Told {
-        key: &key,
-        digest: &digest,
-    };
+    let told = Told::of(&key, &digest).under(layout);
     let mut out = vec![0; room.max(LINE_MOST)];
     let reading = read(told, asked, stream, place, &mut out[..room]);
     let line = if reading.length == 0 {
