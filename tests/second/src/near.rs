@@ -1,12 +1,18 @@
-//! Lines by chance for the rows, the jobs and `differ`: lines of the trade, and
-//! lines of listed bytes that miss the trade's rule by little.
+//! Lines by chance for the rows, the jobs and `differ`: lines of the trade, lines
+//! of listed bytes that miss the trade's rule by little, lines of a layout, and
+//! lines of the trade that miss every layout by little.
 
 use crate::chance::Chance;
-use crate::line::{BETWEEN, TRANSIT};
+use crate::line::{Layout, BETWEEN, LAYOUT_A, LAYOUT_B, TRANSIT};
 
 const DIGITS: &[u8] = b"0123456789";
 const NO_DIGITS: &[u8] = b"BCD ";
 const NO_TRANSITS: &[u8] = b"0123456789BCD ";
+const ON_US: u8 = b'C';
+const NO_ON_US: &[u8] = b"0123456789BD ";
+
+/// The account digits of each layout.
+const ACCOUNTS: [(Layout, usize); 2] = [(LAYOUT_A, 10), (LAYOUT_B, 12)];
 
 /// A line with two transit symbols has at least these and what is between.
 const WITH_TRANSITS: usize = BETWEEN + 2;
@@ -67,11 +73,67 @@ pub fn near_line(chance: &mut Chance) -> Vec<u8> {
     [before, middle, some_of(chance, NO_TRANSITS, behind)].concat()
 }
 
+/// The parts of a line of a layout: transit number, account, on-us.
+fn parts(chance: &mut Chance, account: usize) -> [Vec<u8>; 3] {
+    let transit = enclosed(&nine(chance));
+    [transit, some_of(chance, DIGITS, account), vec![ON_US]]
+}
+
+/// A line of the layout; of A or B where no line has it.
+pub fn layout_line(chance: &mut Chance, layout: Layout) -> Vec<u8> {
+    let its_own = ACCOUNTS.iter().find(|(of, _)| *of == layout);
+    let (_, account) = *its_own.unwrap_or(&chance.one_of(&ACCOUNTS));
+    parts(chance, account).concat()
+}
+
+/// A line of the trade that misses layouts A and B: a digit too many or too few,
+/// a byte too many, another symbol or another order.
+pub fn near_layout(chance: &mut Chance) -> Vec<u8> {
+    let (_, digits) = chance.one_of(&ACCOUNTS);
+    let [transit, mut account, mut on_us] = parts(chance, digits);
+    match chance.below(8) {
+        0 => drop(account.pop()),
+        1 => account.push(chance.one_of(DIGITS)),
+        2 => account[chance.below(digits)] = chance.one_of(NO_DIGITS),
+        3 => on_us[0] = chance.one_of(NO_ON_US),
+        4 => return [account, on_us, transit].concat(),
+        5 => return [on_us, transit, account].concat(),
+        6 => return [&[ON_US], &transit[1..=BETWEEN], &[ON_US], &account, &on_us].concat(),
+        _ => {
+            // Before, between or behind; not among the nine.
+            let at = chance.one_of(&[0, transit.len(), transit.len() + digits]);
+            let mut line = [transit, account, on_us].concat();
+            let at = chance.one_of(&[at, line.len()]);
+            line.insert(at, chance.one_of(NO_TRANSITS));
+            return line;
+        }
+    }
+    [transit, account, on_us].concat()
+}
+
 #[cfg(test)]
 mod tests {
     use super::*;
     use crate::line::{number, NEITHER};
-    use crate::numbers::{DONE, LINE_MOST, NOT_TRADE};
+    use crate::numbers::{DONE, LINE_MOST, NOT_TRADE, OTHER_LAYOUT};
+
+    #[test]
+    fn lines_of_a_layout_and_near_ones() {
+        let chance = &mut Chance::of(2, 1);
+        for _ in 0..20_000 {
+            for layout in [LAYOUT_A, LAYOUT_B] {
+                let line = layout_line(chance, layout);
+                assert_eq!(number(layout, &line), DONE);
+                assert_eq!(number(NEITHER, &line), DONE);
+            }
+            let either = layout_line(chance, NEITHER);
+            assert_ne!(LAYOUT_A.has(&either), LAYOUT_B.has(&either));
+            let near = near_layout(chance);
+            assert_eq!(number(NEITHER, &near), DONE);
+            assert_eq!(number(LAYOUT_A, &near), OTHER_LAYOUT);
+            assert_eq!(number(LAYOUT_B, &near), OTHER_LAYOUT);
+        }
+    }
 
     #[test]
     fn lines_of_the_trade_and_near_ones() {

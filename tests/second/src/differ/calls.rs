@@ -2,6 +2,7 @@
 //! case of it is, and what an answer is.
 
 use crate::memory::Stand;
+use second::line::{Layout, LAYOUT_A, LAYOUT_B};
 use second::reader::Asked;
 
 #[derive(Clone, Copy, Debug, PartialEq, Eq)]
@@ -61,7 +62,9 @@ const fn converting(call: Call, name: &'static str, buffers: &'static [&'static 
         buffers,
         written: 1,
         outs: &["length"],
-        outcomes: &["0", "2", "4", "7", "6", "16", "8", "5", "9", "13"],
+        outcomes: &[
+            "0", "0 of A", "0 of B", "2", "4", "7", "6", "16", "8", "5", "9", "13", "17",
+        ],
     }
 }
 
@@ -102,7 +105,7 @@ pub static SIGNATURES: [Signature; 16] = [
         buffers: &["key", "nonce", "font", "line", "frame"],
         written: 1,
         outs: &["length", "calls"],
-        outcomes: &["0", "2", "3", "9", "13", "4"],
+        outcomes: &["0", "0 of A", "0 of B", "2", "3", "9", "13", "17", "4"],
     },
     Signature {
         call: Call::WriteTwo,
@@ -111,7 +114,7 @@ pub static SIGNATURES: [Signature; 16] = [
         buffers: &["key", "nonce", "font", "job", "line", "frame"],
         written: 1,
         outs: &["length", "calls"],
-        outcomes: &["0", "2", "3", "9", "13", "4"],
+        outcomes: &["0", "0 of A", "0 of B", "2", "3", "9", "13", "17", "4"],
     },
     Signature {
         call: Call::NextStretch,
@@ -132,7 +135,8 @@ pub static SIGNATURES: [Signature; 16] = [
             "first", "closing", "length", "calls", "edition", "job", "given",
         ],
         outcomes: &[
-            "line", "end", "2", "3", "4", "10", "7", "6", "8", "15", "5", "9", "13",
+            "line", "line A", "line B", "end", "2", "3", "4", "10", "7", "6", "8", "15", "5", "9",
+            "13", "17",
         ],
     },
     converting(
@@ -197,6 +201,12 @@ impl Call {
         let its_own = SIGNATURES.iter().find(|signature| signature.call == self);
         its_own.expect("every call has its signature")
     }
+
+    /// Writers, reader and converter are told a layout.
+    pub fn knows_layouts(self) -> bool {
+        use Call::{Read, ToOne, ToTwo, Write, WriteTwo};
+        matches!(self, Write | WriteTwo | Read | ToOne | ToTwo)
+    }
 }
 
 /// A buffer to lend: its bytes before the call, then `more` zeros where its
@@ -219,6 +229,8 @@ pub struct Case {
     pub number: usize,
     /// What a reader is told anew.
     pub asked: Asked,
+    /// For the calls that know layouts.
+    pub layout: Layout,
     pub buffers: Vec<Buffer>,
     /// What stands in every number that goes out, before the call.
     pub before: usize,
@@ -236,8 +248,20 @@ pub struct Answer {
 }
 
 impl Answer {
-    /// The answer's name among its call's outcomes.
-    pub fn outcome(&self, call: Call) -> String {
+    /// The answer's name among its call's outcomes: a line of a layout that was
+    /// named is an outcome of its own.
+    pub fn outcome(&self, case: &Case) -> String {
+        let outcome = self.plain_outcome(case.call);
+        match (case.layout, &outcome[..]) {
+            (LAYOUT_A, "line") => "line A".to_string(),
+            (LAYOUT_B, "line") => "line B".to_string(),
+            (LAYOUT_A, "0") if case.call.knows_layouts() => "0 of A".to_string(),
+            (LAYOUT_B, "0") if case.call.knows_layouts() => "0 of B".to_string(),
+            _ => outcome,
+        }
+    }
+
+    fn plain_outcome(&self, call: Call) -> String {
         match (call, &self.outs[..]) {
             (Call::NextStretch, [first, closing]) if first < closing => "stretch".to_string(),
             (Call::NextStretch, _) => "none".to_string(),

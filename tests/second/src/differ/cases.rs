@@ -9,6 +9,7 @@ use crate::streams::{near_place, place, stream};
 use second::chance::Chance;
 use second::cipher;
 use second::digest::{instances, sizes};
+use second::line::{Layout, LAYOUT_A, LAYOUT_B, NEITHER};
 use second::near::near_line;
 use second::numbers::{
     ASSOCIATED_LIMIT, BESIDE_LINE, CIPHER_LIMIT, DIGEST, FRAME_ROOM, FRAME_ROOM_2, JOB, KEY,
@@ -54,6 +55,7 @@ pub fn case(chance: &mut Chance, stock: &Stock) -> Case {
         call,
         number,
         asked: asked(chance),
+        layout: layout(chance, stock.layout),
         buffers,
         before: chance.word() as usize,
     };
@@ -167,7 +169,7 @@ fn open(chance: &mut Chance, stock: &Stock) -> (Call, usize, Vec<Vec<u8>>) {
 }
 
 fn write(chance: &mut Chance, stock: &Stock) -> Vec<Vec<u8>> {
-    let mut line = line(chance);
+    let mut line = line(chance, stock.layout);
     match chance.below(14) {
         0 => line.clear(),
         1 => line.resize(chance.between(LINE_MOST, LINE_MOST + 2), b'7'),
@@ -280,6 +282,20 @@ fn asked(chance: &mut Chance) -> Asked {
     };
     let editions = chance.one_of(&[ONE, TWO, BOTH, BOTH, Editions(0), Editions(7)]);
     Asked { editions, allowed }
+}
+
+/// Mostly the one that the lines of the stock have, or neither; else another, or
+/// a number that is no layout, or one only in its last 32 bits.
+pub fn layout(chance: &mut Chance, of_lines: Layout) -> Layout {
+    match chance.below(24) {
+        0..=14 => of_lines,
+        15..=18 => NEITHER,
+        19 => LAYOUT_A,
+        20 => LAYOUT_B,
+        21 => Layout(chance.one_of(&[3, 4, 255, 256, 257, usize::MAX, 1 << 63])),
+        22 => Layout(chance.one_of(&[VAST, VAST + 1, VAST + 2])),
+        _ => Layout(chance.word() as usize),
+    }
 }
 
 /// Mostly as it is; else of another size, one more or less among them.

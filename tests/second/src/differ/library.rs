@@ -54,6 +54,7 @@ extern "C" {
         nonce_length: usize,
         font: *const u8,
         font_length: usize,
+        layout: usize,
         line: *const u8,
         line_length: usize,
         frame: *mut u8,
@@ -68,6 +69,7 @@ extern "C" {
         nonce_length: usize,
         font: *const u8,
         font_length: usize,
+        layout: usize,
         job: *const u8,
         job_length: usize,
         line: *const u8,
@@ -96,26 +98,28 @@ extern "C" {
         line: *mut u8,
         room: usize,
     ) -> Reading;
-    fn lubdhvani_to_one(
+    pub fn lubdhvani_to_one(
         stretch: *const u8,
         stretch_length: usize,
         key: *const u8,
         key_length: usize,
         font: *const u8,
         font_length: usize,
+        layout: usize,
         nonce: *const u8,
         nonce_length: usize,
         frame: *mut u8,
         room: usize,
         length: *mut usize,
     ) -> u32;
-    fn lubdhvani_to_two(
+    pub fn lubdhvani_to_two(
         stretch: *const u8,
         stretch_length: usize,
         key: *const u8,
         key_length: usize,
         font: *const u8,
         font_length: usize,
+        layout: usize,
         nonce: *const u8,
         nonce_length: usize,
         job: *const u8,
@@ -160,6 +164,7 @@ extern "C" {
 struct Anew {
     editions: usize,
     allowed: usize,
+    layout: usize,
 }
 
 #[repr(C)]
@@ -252,6 +257,7 @@ macro_rules! call {
 }
 
 unsafe fn called(case: &Case, puts: &[Put], outs: &[*mut usize]) -> u32 {
+    let layout = case.layout.0;
     match (case.call, puts, outs) {
         (Call::Permute, [state], []) => call!(lubdhvani_permute: [state] ()),
         (Call::Unpermute, [state], []) => call!(lubdhvani_unpermute: [state] ()),
@@ -265,10 +271,10 @@ unsafe fn called(case: &Case, puts: &[Put], outs: &[*mut usize]) -> u32 {
             call!(lubdhvani_open: [] (case.number) [key, nonce, associated, cipher, seal, out] (calls))
         }
         (Call::Write, [key, nonce, font, line, frame], &[length, calls]) => {
-            call!(lubdhvani_write: [key, nonce, font, line, frame] (length, calls))
+            call!(lubdhvani_write: [key, nonce, font] (layout) [line, frame] (length, calls))
         }
         (Call::WriteTwo, [key, nonce, font, job, line, frame], &[length, calls]) => {
-            call!(lubdhvani_write_two: [key, nonce, font, job, line, frame] (length, calls))
+            call!(lubdhvani_write_two: [key, nonce, font] (layout) [job, line, frame] (length, calls))
         }
         (Call::NextStretch, [stream], &[first, closing]) => {
             call!(lubdhvani_next_stretch: [stream] (case.number, first, closing));
@@ -282,6 +288,7 @@ unsafe fn called(case: &Case, puts: &[Put], outs: &[*mut usize]) -> u32 {
             let asked = Anew {
                 editions: case.asked.editions.0 as usize,
                 allowed: case.asked.allowed,
+                layout: case.layout.0,
             };
             let reading =
                 call!(lubdhvani_read: [stream] (case.number) [key, font] (asked) [line] ());
@@ -295,10 +302,10 @@ unsafe fn called(case: &Case, puts: &[Put], outs: &[*mut usize]) -> u32 {
             reading.number
         }
         (Call::ToOne, [stretch, key, font, nonce, frame], &[length]) => {
-            call!(lubdhvani_to_one: [stretch, key, font, nonce, frame] (length))
+            call!(lubdhvani_to_one: [stretch, key, font] (layout) [nonce, frame] (length))
         }
         (Call::ToTwo, [stretch, key, font, nonce, job, frame], &[length]) => {
-            call!(lubdhvani_to_two: [stretch, key, font, nonce, job, frame] (length))
+            call!(lubdhvani_to_two: [stretch, key, font] (layout) [nonce, job, frame] (length))
         }
         _ => bundle_called(case, puts, outs),
     }

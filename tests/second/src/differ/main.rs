@@ -1,6 +1,7 @@
 //! Calls the static library and the second program with the same arguments,
 //! chosen by chance, and compares all that each leaves behind.
 
+mod back;
 mod bundles;
 mod calls;
 mod cases;
@@ -109,12 +110,13 @@ fn differ(seed: u64, count: u64) -> bool {
                 print(seed, index, &case, &library, &reference);
             }
         }
-        tally.count(index, case.call, &reference.outcome(case.call));
+        tally.count(index, case.call, &reference.outcome(&case));
     }
     let complete = tally.print();
     let fed = running::differ(seed, count / running::SERVES);
+    let back = back::differ(seed, count / back::SERVES);
     println!("differ: {} calls, {} differ", count, differing);
-    differing == 0 && complete && fed
+    differing == 0 && complete && fed && back
 }
 
 /// How often each answer of each call was met.
@@ -176,6 +178,12 @@ fn print_case(seed: u64, index: u64, case: &Case) {
     println!("call {} of seed {}: {}", index, seed, signature.name);
     if let Some(name) = signature.number {
         println!("  {} {}", name, case.number);
+    }
+    if case.call.knows_layouts() {
+        println!("  layout {}", case.layout.0);
+    }
+    if case.call == Call::Read {
+        println!("  {:?}", case.asked);
     }
     for (name, buffer) in signature.buffers.iter().zip(&case.buffers) {
         println!("  {} {}: {}", name, described(buffer), value(&buffer.bytes));

@@ -7,7 +7,8 @@ use crate::memory::Ground;
 use second::convert::convert;
 use second::frame::Own;
 use second::numbers::DONE;
-use second::reader::{read, Told};
+use second::reader::read;
+use second::told::Told;
 use second::{bundle, cipher, digest, frame, permutation, stream};
 
 pub fn answer(case: &Case, vast: &mut Ground) -> Answer {
@@ -32,6 +33,7 @@ pub fn answer(case: &Case, vast: &mut Ground) -> Answer {
 }
 
 fn answered(case: &Case, lent: &mut [&mut [u8]]) -> (u32, Vec<usize>) {
+    let layout = case.layout;
     match (case.call, lent) {
         (Call::Permute, [state]) => (permutation::permute(state).into(), vec![]),
         (Call::Unpermute, [state]) => (permutation::unpermute(state).into(), vec![]),
@@ -48,7 +50,8 @@ fn answered(case: &Case, lent: &mut [&mut [u8]]) -> (u32, Vec<usize>) {
             (counted.number.into(), vec![counted.count])
         }
         (Call::Write, [key, nonce, font, line, out]) => {
-            let written = frame::write(key, nonce, font, line, out);
+            let told = Told::of(key, font).under(layout);
+            let written = frame::write(told, nonce, line, out);
             (written.number.into(), vec![written.length, written.count])
         }
         (Call::WriteTwo, [key, nonce, font, job, line, out]) => {
@@ -56,7 +59,8 @@ fn answered(case: &Case, lent: &mut [&mut [u8]]) -> (u32, Vec<usize>) {
                 nonce,
                 job: Some(job),
             };
-            let written = frame::write_own(key, own, font, line, out);
+            let told = Told::of(key, font).under(layout);
+            let written = frame::write_own(told, own, line, out);
             (written.number.into(), vec![written.length, written.count])
         }
         (Call::NextStretch, [stream]) => {
@@ -64,7 +68,7 @@ fn answered(case: &Case, lent: &mut [&mut [u8]]) -> (u32, Vec<usize>) {
             (0, vec![part.first, part.first + part.length])
         }
         (Call::Read, [stream, key, digest, line]) => {
-            let told = Told { key, digest };
+            let told = Told::of(key, digest).under(layout);
             let reading = read(told, case.asked, stream, case.number, line);
             let outs = vec![
                 reading.first,
@@ -79,7 +83,8 @@ fn answered(case: &Case, lent: &mut [&mut [u8]]) -> (u32, Vec<usize>) {
         }
         (Call::ToOne, [stretch, key, digest, nonce, out]) => {
             let own = Own { nonce, job: None };
-            let made = convert(Told { key, digest }, stretch, own, out);
+            let told = Told::of(key, digest).under(layout);
+            let made = convert(told, stretch, own, out);
             (made.number.into(), vec![made.length])
         }
         (Call::ToTwo, [stretch, key, digest, nonce, job, out]) => {
@@ -87,7 +92,8 @@ fn answered(case: &Case, lent: &mut [&mut [u8]]) -> (u32, Vec<usize>) {
                 nonce,
                 job: Some(job),
             };
-            let made = convert(Told { key, digest }, stretch, own, out);
+            let told = Told::of(key, digest).under(layout);
+            let made = convert(told, stretch, own, out);
             (made.number.into(), vec![made.length])
         }
         (_, lent) => bundle_answered(case, lent),

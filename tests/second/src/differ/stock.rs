@@ -4,7 +4,8 @@
 use second::chance::Chance;
 use second::cipher::{encrypt, instances, sizes};
 use second::frame::{framed, framed_escaping, framed_flipping, Fields, Own};
-use second::near::{near_line, trade_line};
+use second::line::{Layout, LAYOUT_A, LAYOUT_B, NEITHER};
+use second::near::{layout_line, near_layout, near_line, trade_line};
 use second::numbers::{DIGEST, JOB, KEY, LINE_MOST, NONCE};
 use second::readings::PRODUCT;
 use second::stuffing::{ESCAPE, MARK};
@@ -33,6 +34,8 @@ pub struct Stock {
     pub font: Vec<u8>,
     pub other_key: Vec<u8>,
     pub other_font: Vec<u8>,
+    /// What most of its lines have, and most calls name.
+    pub layout: Layout,
     pub texts: Vec<Text>,
     /// Frames of the writer, under the key and the font.
     pub good: Vec<Vec<u8>>,
@@ -52,6 +55,11 @@ impl Stock {
             font,
             other_key,
             other_font,
+            layout: match number % 4 {
+                0 => LAYOUT_A,
+                1 => LAYOUT_B,
+                _ => NEITHER,
+            },
             texts: Vec::new(),
             good: Vec::new(),
             wrong: Vec::new(),
@@ -92,7 +100,7 @@ impl Stock {
     }
 
     fn fields(&self, chance: &mut Chance) -> Fields {
-        let line = line(chance);
+        let line = line(chance, self.layout);
         self.fields_of(chance, &line)
     }
 
@@ -107,19 +115,19 @@ impl Stock {
 
     /// Sealed as it should be, but under another key.
     fn fields_other_key(&self, chance: &mut Chance) -> Fields {
-        let (nonce, line) = (stuffy(chance, NONCE), line(chance));
+        let (nonce, line) = (stuffy(chance, NONCE), line(chance, self.layout));
         Fields::sealing(&self.other_key, &nonce, &self.font, &line).0
     }
 
     /// Sealed as it should be, but to the digest of another font.
     fn fields_other_font(&self, chance: &mut Chance) -> Fields {
-        let (nonce, line) = (stuffy(chance, NONCE), line(chance));
+        let (nonce, line) = (stuffy(chance, NONCE), line(chance, self.layout));
         Fields::sealing(&self.key, &nonce, &self.other_font, &line).0
     }
 
     /// Sealed as it should be, over a line that no writer takes.
     fn fields_unlisted(&self, chance: &mut Chance) -> Fields {
-        let mut line = line(chance);
+        let mut line = line(chance, self.layout);
         spoil(chance, &mut line);
         self.fields_of(chance, &line)
     }
@@ -200,8 +208,15 @@ impl Stock {
     }
 }
 
-/// A line of the trade, mostly short.
-pub fn line(chance: &mut Chance) -> Vec<u8> {
+/// A line of the trade: where there is a layout mostly of that, else mostly
+/// short; sometimes of any layout, or just not of one.
+pub fn line(chance: &mut Chance, layout: Layout) -> Vec<u8> {
+    match chance.below(24) {
+        0 | 1 => return layout_line(chance, NEITHER),
+        2 | 3 => return near_layout(chance),
+        4..=17 if layout != NEITHER => return layout_line(chance, layout),
+        _ => {}
+    }
     let length = match chance.below(12) {
         0 => 1,
         1 => chance.between(LINE_MOST - 1, LINE_MOST),
