@@ -132,8 +132,8 @@ static void fill_frames(size_t length, enum kind kind)
     for (unsigned k = 0; at < length; k++) {
         nonce[0] = (uint8_t)k;
         nonce[1] = (uint8_t)(k >> 8);
-        lubdhvani_write(key, LUBDHVANI_KEY, nonce, LUBDHVANI_NONCE, font, sizeof font, (const uint8_t *)order, sizeof order - 1, frame,
-                        sizeof frame, &n, &calls);
+        lubdhvani_write(key, LUBDHVANI_KEY, nonce, LUBDHVANI_NONCE, font, sizeof font, LUBDHVANI_LAYOUT_NEITHER, (const uint8_t *)order,
+                        sizeof order - 1, frame, sizeof frame, &n, &calls);
         if (kind == DAMAGED)
             frame[n / 2] ^= 0x01;
         for (size_t i = 0; i < n && at < length; i++)

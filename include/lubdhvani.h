@@ -10,8 +10,8 @@
  *  - Buffers that are written overlap no other argument of the call.
  *  - `calls`, `length`, `first` and `closing` each point to a size_t of the caller's: never NULL, no two to the same one, none into a
  *    buffer of the call. A reading comes back as a struct by value, and what a reader is told anew goes in as one.
- *  - The return value is one of the numbers below. They are tested in the order 1, 2, 3, 9, 13, 4, 10; the first that holds is given. A
- *    stretch is judged in the order 7 for its length, 6, 7 for its fields, 8, 15, 5, 9, 13. A call of a bundle: 3, 11, 12, 4.
+ *  - The return value is one of the numbers below. They are tested in the order 1, 2, 3, 9, 13, 17, 4, 10; the first that holds is given. A
+ *    stretch is judged in the order 7 for its length, 6, 7 for its fields, 8, 15, 5, 9, 13, 17. A call of a bundle: 3, 11, 12, 4.
  *    The calls of a running digest test 14 before these. Their record is never NULL, and is the caller's alone while the call runs.
  *  - `calls` (and `length`, `first`, `closing`) are always written: counts of calls of the permutation, lengths, places.
  *  - Nothing is changed but what is named; the rest of a longer buffer stays as it was.
@@ -82,7 +82,8 @@ enum {
     LUBDHVANI_NOT_TRADE = 13,  /* the line's bytes are listed, but it is not the trade's line */
     LUBDHVANI_AFTER_FINISH = 14, /* feed or finish of a running digest after its finish */
     LUBDHVANI_OVER_WORK = 15,  /* the stretch takes more calls of the permutation than are allowed */
-    LUBDHVANI_OTHER_EDITION = 16 /* the converter's stretch is not of the edition named */
+    LUBDHVANI_OTHER_EDITION = 16, /* the converter's stretch is not of the edition named */
+    LUBDHVANI_OTHER_LAYOUT = 17 /* the line is the trade's, but not of the layout named */
 };
 
 /* The permutation of 32 rounds on a state of `size` bytes, where it stands, and its inverse.
@@ -144,19 +145,29 @@ uint32_t lubdhvani_open(size_t instance, const uint8_t *key, size_t key_length, 
                         const uint8_t *associated, size_t associated_length, const uint8_t *cipher, size_t cipher_length,
                         const uint8_t *seal, size_t seal_length, uint8_t *out, size_t room, size_t *calls);
 
+/* The layout of a line that a caller names; writers, reader and converter are told it alike. A layout is the whole line, with nothing before,
+ * between or behind: under A 22 bytes, transit (A), nine digits, transit, ten account digits, on-us (C); under B 24 bytes, with twelve account
+ * digits. Neither asks for no more than the trade's line. Any other number is a layout that no line has: a wrong number prints nothing. */
+enum {
+    LUBDHVANI_LAYOUT_NEITHER = 0,
+    LUBDHVANI_LAYOUT_A = 1,
+    LUBDHVANI_LAYOUT_B = 2
+};
+
 /* Writes the frame of a line, sealed to a font's digest.
  * 0: frame[0..*length] is the frame with both its marks, *calls = line_length + 39.
- * 2, 3 (line not 1 to 65 bytes), 9, 13, 4 (room under 276): frame is untouched, *length and *calls are 0.
- * A line is the trade's if it has a digit and no transit symbol (A), or exactly two with exactly nine digits and no other byte between. */
+ * 2, 3 (line not 1 to 65 bytes), 9, 13, 17, 4 (room under 276): frame is untouched, *length and *calls are 0.
+ * A line is the trade's if it has a digit and no transit symbol (A), or exactly two with exactly nine digits and no other byte between.
+ * 17: it is, but has not the layout. The frame doesn't say under which layout it was written. */
 uint32_t lubdhvani_write(const uint8_t *key, size_t key_length, const uint8_t *nonce, size_t nonce_length, const uint8_t *font,
-                         size_t font_length, const uint8_t *line, size_t line_length, uint8_t *frame, size_t room,
+                         size_t font_length, size_t layout, const uint8_t *line, size_t line_length, uint8_t *frame, size_t room,
                          size_t *length, size_t *calls);
 
 /* The same in edition two, with a job of 4 bytes; 2 also for a job of another length.
  * 0: *calls = line_length + 46. 4: room under 290. */
 uint32_t lubdhvani_write_two(const uint8_t *key, size_t key_length, const uint8_t *nonce, size_t nonce_length, const uint8_t *font,
-                             size_t font_length, const uint8_t *job, size_t job_length, const uint8_t *line, size_t line_length,
-                             uint8_t *frame, size_t room, size_t *length, size_t *calls);
+                             size_t font_length, size_t layout, const uint8_t *job, size_t job_length, const uint8_t *line,
+                             size_t line_length, uint8_t *frame, size_t room, size_t *length, size_t *calls);
 
 /* The editions that a reader allows: a set of two bits; other bits say nothing. */
 enum {
@@ -170,10 +181,11 @@ enum {
 void lubdhvani_next_stretch(const uint8_t *stream, size_t stream_length, size_t from, size_t *first, size_t *closing);
 
 /* What a reader is told anew at each call. Later fields may join it: set it with an initializer,
- * `{.editions = LUBDHVANI_EDITION_ONE, .allowed = LUBDHVANI_ALL_WORK}`. */
+ * `{.editions = LUBDHVANI_EDITION_ONE, .allowed = LUBDHVANI_ALL_WORK}`. What is left out is 0, which is neither layout. */
 struct lubdhvani_asked {
     size_t editions; /* the editions that are allowed; a stretch of another is refused with 7 */
     size_t allowed;  /* the calls of the permutation that the stretch is allowed */
+    size_t layout;   /* the layout that a line must have; the trade's line of another is refused with 17 */
 };
 
 /* What a reading comes to. */
@@ -190,9 +202,9 @@ struct lubdhvani_reading {
 
 /* Judges the next stretch from a place and gives out its line.
  * number 0, given 1: line[0..length] is the line. number 0, given 0: the end of the stream, first = closing = stream_length.
- * 5, 6, 7, 8, 9, 13, 15: the stretch from first up to closing is refused; line is untouched. Reading goes on from closing in each of
+ * 5, 6, 7, 8, 9, 13, 15, 17: the stretch from first up to closing is refused; line is untouched. Reading goes on from closing in each of
  * these cases. 2, 3, 4, 10: the call is refused, first = closing = from, line is untouched.
- * calls is n + 39 (in edition two n + 46) for a line, 5, 9 and 13, n being the length of the line's ciphertext; else 0, and never more than is
+ * calls is n + 39 (in edition two n + 46) for a line, 5, 9, 13 and 17, n being the length of the line's ciphertext; else 0, and never more than is
  * allowed. 15: that is more than is allowed. Nothing was worked out; the same stretch may be read again from the same place with more allowed. */
 struct lubdhvani_reading lubdhvani_read(const uint8_t *stream, size_t stream_length, size_t from, const uint8_t *key,
                                         size_t key_length, const uint8_t *font, size_t font_length, struct lubdhvani_asked asked,
@@ -222,14 +234,15 @@ void lubdhvani_bundle_name(const uint8_t *bundle, size_t bundle_length, size_t *
 void lubdhvani_bundle_rows(const uint8_t *bundle, size_t bundle_length, uint8_t character, size_t *first, size_t *length);
 
 /* The converter: the line of a stretch, what stands between two marks, sealed anew in the other edition under this nonce and, in edition two,
- * this job. lubdhvani_to_one takes a stretch of edition two, lubdhvani_to_two one of edition one.
- * 0: frame[0..*length] is the new frame with both its marks. 2, 4 (room under 276, or 290 for edition two), 7, 6, 16, 8, 5, 9, 13: frame is
+ * this job. lubdhvani_to_one takes a stretch of edition two, lubdhvani_to_two one of edition one; the line must have the layout.
+ * 0: frame[0..*length] is the new frame with both its marks. 2, 4 (room under 276, or 290 for edition two), 7, 6, 16, 8, 5, 9, 13, 17: frame is
  * untouched, *length is 0. Going back under the first nonce, and the first job where there was one, gives the first frame byte for byte. */
 uint32_t lubdhvani_to_one(const uint8_t *stretch, size_t stretch_length, const uint8_t *key, size_t key_length, const uint8_t *font,
-                          size_t font_length, const uint8_t *nonce, size_t nonce_length, uint8_t *frame, size_t room, size_t *length);
+                          size_t font_length, size_t layout, const uint8_t *nonce, size_t nonce_length, uint8_t *frame, size_t room,
+                          size_t *length);
 uint32_t lubdhvani_to_two(const uint8_t *stretch, size_t stretch_length, const uint8_t *key, size_t key_length, const uint8_t *font,
-                          size_t font_length, const uint8_t *nonce, size_t nonce_length, const uint8_t *job, size_t job_length,
-                          uint8_t *frame, size_t room, size_t *length);
+                          size_t font_length, size_t layout, const uint8_t *nonce, size_t nonce_length, const uint8_t *job,
+                          size_t job_length, uint8_t *frame, size_t room, size_t *length);
 
 #ifdef __cplusplus
 }

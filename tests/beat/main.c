@@ -12,8 +12,8 @@ static int write_frame(void)
 {
     uint8_t frame[LUBDHVANI_FRAME];
     size_t length, calls;
-    uint32_t number = lubdhvani_write(key, sizeof key, nonce, sizeof nonce, font, sizeof font, line, sizeof line - 1, frame, sizeof frame,
-                                      &length, &calls);
+    uint32_t number = lubdhvani_write(key, sizeof key, nonce, sizeof nonce, font, sizeof font, LUBDHVANI_LAYOUT_NEITHER, line,
+                                      sizeof line - 1, frame, sizeof frame, &length, &calls);
     return number != LUBDHVANI_DONE || fwrite(frame, 1, length, stdout) != length;
 }
 

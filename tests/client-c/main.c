@@ -153,10 +153,57 @@ static void check_trade(void)
 
     memset(blanks, ' ', sizeof blanks);
     memset(frame, 0xEE, sizeof frame);
-    check(lubdhvani_write(key, sizeof key, nonce, sizeof nonce, font, sizeof font, blanks, sizeof blanks, frame, sizeof frame, &length,
-                          &calls) == LUBDHVANI_NOT_TRADE,
+    check(lubdhvani_write(key, sizeof key, nonce, sizeof nonce, font, sizeof font, LUBDHVANI_LAYOUT_NEITHER, blanks, sizeof blanks, frame,
+                          sizeof frame, &length, &calls) == LUBDHVANI_NOT_TRADE,
           "a line of blanks is refused");
     check(length == 0 && calls == 0 && all_are(0xEE, frame, sizeof frame), "and no frame is written");
+}
+
+/* A line of layout A: written and read under A and under neither, refused under B and under a number that is no layout. */
+
+static const uint8_t of_a[] = "A123456780A0012345678C";
+enum { OF_A = sizeof of_a - 1 };
+
+static void check_read_under(size_t layout, int has, const uint8_t *frame, size_t length, const char *what)
+{
+    const struct lubdhvani_asked asked = {.editions = LUBDHVANI_EDITION_ONE, .allowed = LUBDHVANI_ALL_WORK, .layout = layout};
+    uint8_t line[LUBDHVANI_LONGEST_LINE];
+    memset(line, '#', sizeof line);
+    const struct lubdhvani_reading r = lubdhvani_read(frame, length, 0, key, sizeof key, font, sizeof font, asked, line, sizeof line);
+
+    check(r.number == (has ? LUBDHVANI_DONE : LUBDHVANI_OTHER_LAYOUT) && r.given == (uint32_t)has, what);
+    check(r.calls == OF_A + 39 && r.closing == length - 1, "the stretch was worked out, and reading goes on behind it");
+    check(has ? r.length == OF_A && memcmp(line, of_a, OF_A) == 0 : all_are('#', line, sizeof line), "its line is given, or none");
+}
+
+static void check_layouts(void)
+{
+    static const uint8_t nonce[LUBDHVANI_NONCE] = "once in A";
+    static const struct {
+        size_t layout;
+        int has;
+        const char *what;
+    } named[] = {
+        {LUBDHVANI_LAYOUT_A, 1, "a line of A under A"},
+        {LUBDHVANI_LAYOUT_B, 0, "a line of A under B"},
+        {LUBDHVANI_LAYOUT_NEITHER, 1, "a line of A under neither"},
+        {3, 0, "a line of A under 3, which is no layout"},
+    };
+    uint8_t frame[LUBDHVANI_FRAME], other[LUBDHVANI_FRAME];
+    size_t length, calls, none;
+
+    check(lubdhvani_write(key, sizeof key, nonce, sizeof nonce, font, sizeof font, LUBDHVANI_LAYOUT_A, of_a, OF_A, frame, sizeof frame, &length, &calls) == LUBDHVANI_DONE,
+          "a line of A is written");
+    memset(other, 0xEE, sizeof other);
+    for (size_t i = 0; i < sizeof named / sizeof named[0]; i++) {
+        check_read_under(named[i].layout, named[i].has, frame, length, named[i].what);
+        if (named[i].has)
+            continue;
+        check(lubdhvani_write(key, sizeof key, nonce, sizeof nonce, font, sizeof font, named[i].layout, of_a, OF_A, other,
+                              sizeof other, &none, &calls) == LUBDHVANI_OTHER_LAYOUT,
+              "it is not written either");
+        check(none == 0 && calls == 0 && all_are(0xEE, other, sizeof other), "and no frame is there");
+    }
 }
 
 /* The composer's orders, and what the link does to the frame of each. */
@@ -246,8 +293,8 @@ static void compose(void)
         size_t length, calls, n = strlen(orders[k].line);
 
         nonce[11] = (uint8_t)k; /* the line's number; a nonce is never used twice with one key */
-        check(lubdhvani_write(key, sizeof key, nonce, sizeof nonce, its_font, LUBDHVANI_DIGEST, line, n, frame, sizeof frame,
-                              &length, &calls) == LUBDHVANI_DONE,
+        check(lubdhvani_write(key, sizeof key, nonce, sizeof nonce, its_font, LUBDHVANI_DIGEST, LUBDHVANI_LAYOUT_NEITHER, line, n, frame,
+                              sizeof frame, &length, &calls) == LUBDHVANI_DONE,
               "a line is written");
         check(length >= n + 74 && length <= LUBDHVANI_FRAME && calls == n + 39, "the frame's length and calls");
         send(frame, damaged(orders[k].damage, frame, length));
@@ -272,6 +319,8 @@ static const char *meaning(uint32_t number)
         return "unlisted byte";
     case LUBDHVANI_NOT_TRADE:
         return "not the trade's line";
+    case LUBDHVANI_OTHER_LAYOUT:
+        return "other layout";
     default:
         return "the call is refused";
     }
@@ -386,6 +435,7 @@ int main(void)
     check_seal();
     check_instances();
     check_trade();
+    check_layouts();
     check_bundle();
     compose();
     press();

@@ -26,10 +26,14 @@ mod lubdhvani {
     pub const ALIKE: u32 = 12;
     pub const NOT_TRADE: u32 = 13;
     pub const OVER_WORK: u32 = 15;
+    pub const OTHER_LAYOUT: u32 = 17;
 
     /// Enough for every stretch.
     pub const ALL_WORK: usize = 111;
     pub const EDITION_ONE: usize = 1;
+    pub const NEITHER: usize = 0;
+    pub const LAYOUT_A: usize = 1;
+    pub const LAYOUT_B: usize = 2;
 
     #[rustfmt::skip]
     extern "C" {
@@ -51,7 +55,7 @@ mod lubdhvani {
         ) -> u32;
         fn lubdhvani_write(
             key: *const u8, key_length: usize, nonce: *const u8, nonce_length: usize,
-            font: *const u8, font_length: usize, line: *const u8, line_length: usize,
+            font: *const u8, font_length: usize, layout: usize, line: *const u8, line_length: usize,
             frame: *mut u8, room: usize, length: *mut usize, calls: *mut usize,
         ) -> u32;
         fn lubdhvani_next_stretch(
@@ -135,13 +139,13 @@ mod lubdhvani {
     /// Number, the frame's length and calls.
     #[rustfmt::skip]
     pub fn write(
-        key: &[u8], nonce: &[u8], font: &[u8], line: &[u8], frame: &mut [u8],
+        key: &[u8], nonce: &[u8], font: &[u8], layout: usize, line: &[u8], frame: &mut [u8],
     ) -> (u32, usize, usize) {
         let (mut length, mut calls) = (0, 0);
         let number = unsafe {
             lubdhvani_write(
                 key.as_ptr(), key.len(), nonce.as_ptr(), nonce.len(), font.as_ptr(), font.len(),
-                line.as_ptr(), line.len(), frame.as_mut_ptr(), frame.len(), &mut length, &mut calls,
+                layout, line.as_ptr(), line.len(), frame.as_mut_ptr(), frame.len(), &mut length, &mut calls,
             )
         };
         (number, length, calls)
@@ -168,6 +172,7 @@ mod lubdhvani {
     pub struct Asked {
         pub editions: usize,
         pub allowed: usize,
+        pub layout: usize,
     }
 
     /// What a reading comes to; `given` is 1 where a line is given, else 0.
@@ -245,9 +250,17 @@ use lubdhvani::{
     BAD_SEAL, BAD_SHAPE, BAD_STUFFING, DONE, INSTANCE, NOT_TRADE, OTHER_FONT, UNLISTED,
 };
 use lubdhvani::{DIGEST, FRAME, KEY, LONGEST_LINE, NONCE, SEAL};
+use lubdhvani::{LAYOUT_A, LAYOUT_B, NEITHER, OTHER_LAYOUT};
 
 /// A beat of the press, in calls of the permutation.
 const BEAT: usize = 60;
+
+/// Edition one, all the work, and any line of the trade.
+const EVERYTHING: Asked = Asked {
+    editions: EDITION_ONE,
+    allowed: ALL_WORK,
+    layout: NEITHER,
+};
 
 /// What the composer and the press share, beside the font's digest.
 const THE_KEY: &[u8; KEY] = b"the press's key\0";
@@ -351,6 +364,46 @@ impl Checks {
         );
     }
 
+    /// A line of layout A is given under A and under neither, and refused under
+    /// B and under what is no layout.
+    fn layouts(&mut self, font: &[u8]) {
+        let (nonce, of_a) = (b"once in A...", b"A123456780A0012345678C");
+        let (mut frame, mut other) = ([0; FRAME], [0xee; FRAME]);
+        let (number, length, _) =
+            lubdhvani::write(THE_KEY, nonce, font, LAYOUT_A, of_a, &mut frame);
+        self.check(number == DONE, "a line of A is written");
+        for (layout, has) in [
+            (LAYOUT_A, true),
+            (LAYOUT_B, false),
+            (NEITHER, true),
+            (3, false),
+        ] {
+            let asked = Asked {
+                layout,
+                ..EVERYTHING
+            };
+            let mut line = [b'#'; LONGEST_LINE];
+            let reading = lubdhvani::read(&frame[..length], 0, THE_KEY, font, asked, &mut line);
+            let expected = if has {
+                (DONE, of_a.len())
+            } else {
+                (OTHER_LAYOUT, 0)
+            };
+            let found = (reading.number, reading.length);
+            self.check(
+                found == expected && reading.calls == of_a.len() + 39,
+                "it is read by its layout",
+            );
+            let kept = line[reading.length..].iter().all(|&byte| byte == b'#');
+            self.check(kept, "nothing is written but a line of the layout");
+        }
+        let refused = lubdhvani::write(THE_KEY, nonce, font, LAYOUT_B, of_a, &mut other);
+        self.check(
+            refused == (OTHER_LAYOUT, 0, 0) && other == [0xee; FRAME],
+            "nor is it written",
+        );
+    }
+
     /// Twelve lines, each with what the link does to it; what it all becomes.
     fn compose(&mut self, font: &[u8]) -> Vec<u8> {
         let mut stream = vec![0x41, 0x00, 0x7e, 0x7d, 0x41]; // noise, with a mark in it
@@ -362,8 +415,14 @@ impl Checks {
                 _ => font,
             };
             let mut frame = [0; FRAME];
-            let (number, length, calls) =
-                lubdhvani::write(THE_KEY, &nonce, its_font, line.as_bytes(), &mut frame);
+            let (number, length, calls) = lubdhvani::write(
+                THE_KEY,
+                &nonce,
+                its_font,
+                NEITHER,
+                line.as_bytes(),
+                &mut frame,
+            );
             self.check(
                 number == DONE && calls == line.len() + 39,
                 "a line is written",
@@ -383,8 +442,11 @@ impl Checks {
         font: &[u8],
         line: &mut [u8],
     ) -> Reading {
-        let beat = Asked { editions: EDITION_ONE, allowed: BEAT };
-        let all = Asked { editions: EDITION_ONE, allowed: ALL_WORK };
+        let all = EVERYTHING;
+        let beat = Asked {
+            allowed: BEAT,
+            ..all
+        };
         let before = line.to_vec();
         let reading = lubdhvani::read(stream, place, THE_KEY, font, beat, line);
         self.check(reading.calls <= BEAT, "no more calls are made than allowed");
@@ -493,6 +555,7 @@ fn meaning(number: u32) -> &'static str {
         OTHER_FONT => "other font",
         UNLISTED => "unlisted byte",
         NOT_TRADE => "not the trade's line",
+        OTHER_LAYOUT => "other layout",
         _ => "the call is refused",
     }
 }
@@ -520,6 +583,7 @@ fn main() {
     checks.digest();
     checks.seal(&font);
     checks.bundle();
+    checks.layouts(&font);
     let stream = checks.compose(&font);
     checks.press(&font, &stream);
     if checks.wrong > 0 {

@@ -81,7 +81,8 @@ static void writes(void)
     uint8_t key[LUBDHVANI_KEY] = {0}, nonce[LUBDHVANI_NONCE] = {0}, font[LUBDHVANI_DIGEST] = {0}, frame[LUBDHVANI_FRAME] = {0};
     size_t length, calls;
     secret(key, sizeof key);
-    failed |= lubdhvani_write(key, sizeof key, nonce, sizeof nonce, font, sizeof font, line, LINE, frame, sizeof frame, &length, &calls)
+    failed |= lubdhvani_write(key, sizeof key, nonce, sizeof nonce, font, sizeof font, LUBDHVANI_LAYOUT_NEITHER, line, LINE, frame,
+                              sizeof frame, &length, &calls)
               != LUBDHVANI_DONE;
 }
 

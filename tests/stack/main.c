@@ -26,9 +26,9 @@ static uint8_t state[LUBDHVANI_LARGEST_STATE], digest[LUBDHVANI_DIGEST], line[LU
 static uint8_t text[LUBDHVANI_LONGEST_TEXT], out[LUBDHVANI_LONGEST_TEXT], associated[LUBDHVANI_LONGEST_ASSOCIATED];
 static uint8_t frame[LUBDHVANI_FRAME_TWO], other[LUBDHVANI_FRAME_TWO], stretch[LUBDHVANI_LONGEST_STRETCH + 2];
 static uint8_t name[LUBDHVANI_LONGEST_NAME], rows[LUBDHVANI_BUNDLE_ROWS], bundle[LUBDHVANI_BUNDLE];
-static size_t calls, length, first, closing;
+static size_t calls, length, first, closing, line_length = sizeof line, layout = LUBDHVANI_LAYOUT_NEITHER;
 static struct lubdhvani_running running;
-static const struct lubdhvani_asked everything = {.editions = LUBDHVANI_BOTH_EDITIONS, .allowed = LUBDHVANI_ALL_WORK};
+static struct lubdhvani_asked everything = {.editions = LUBDHVANI_BOTH_EDITIONS, .allowed = LUBDHVANI_ALL_WORK};
 
 static void permute(void) { lubdhvani_permute(state, sizeof state); }
 static void unpermute(void) { lubdhvani_unpermute(state, sizeof state); }
@@ -50,20 +50,21 @@ static void open_text(void)
 }
 static void write_line(void)
 {
-    lubdhvani_write(key, sizeof key, nonce, sizeof nonce, font, sizeof font, line, sizeof line, frame, sizeof frame, &length, &calls);
+    lubdhvani_write(key, sizeof key, nonce, sizeof nonce, font, sizeof font, layout, line, line_length, frame, sizeof frame, &length, &calls);
 }
 static void write_two(void)
 {
-    lubdhvani_write_two(key, sizeof key, nonce, sizeof nonce, font, sizeof font, job, sizeof job, line, sizeof line, frame, sizeof frame,
+    lubdhvani_write_two(key, sizeof key, nonce, sizeof nonce, font, sizeof font, layout, job, sizeof job, line, line_length, frame, sizeof frame,
                         &length, &calls);
 }
 static void converted_to_one(const uint8_t *from, size_t n)
 {
-    lubdhvani_to_one(from, n, key, sizeof key, font, sizeof font, nonce, sizeof nonce, other, sizeof other, &calls);
+    lubdhvani_to_one(from, n, key, sizeof key, font, sizeof font, layout, nonce, sizeof nonce, other, sizeof other, &calls);
 }
 static void converted_to_two(const uint8_t *from, size_t n)
 {
-    lubdhvani_to_two(from, n, key, sizeof key, font, sizeof font, nonce, sizeof nonce, job, sizeof job, other, sizeof other, &calls);
+    lubdhvani_to_two(from, n, key, sizeof key, font, sizeof font, layout, nonce, sizeof nonce, job, sizeof job, other, sizeof other,
+                     &calls);
 }
 static void to_one_line(void) { converted_to_one(frame + 1, length - 2); }
 static void to_two_line(void) { converted_to_two(frame + 1, length - 2); }
@@ -101,6 +102,15 @@ static void a_line(void)
 {
     fill(line, sizeof line, '7');
 }
+/* The line of the longest layout, which is then named to every call. */
+static void a_line_of_b(void)
+{
+    static const char of_b[] = "A123456789A012345678901C";
+    line_length = sizeof of_b - 1;
+    for (size_t i = 0; i < line_length; i++)
+        ((volatile uint8_t *)line)[i] = (uint8_t)of_b[i];
+    layout = everything.layout = LUBDHVANI_LAYOUT_B;
+}
 /* Rows in which no two glyphs are alike, and the bundle of them. */
 static void glyphs(void)
 {
@@ -123,6 +133,11 @@ static void a_frame_two(void)
     a_line();
     write_two();
 }
+static void a_frame_of_b(void)
+{
+    a_line_of_b();
+    write_line();
+}
 
 static const struct {
     const char *name;
@@ -143,6 +158,7 @@ static const struct {
     {"open", nothing, open_text, LUBDHVANI_STACK_BUT_READ},
     {"write", a_line, write_line, LUBDHVANI_STACK_BUT_READ},
     {"write_two", a_line, write_two, LUBDHVANI_STACK_BUT_READ},
+    {"write, layout B", a_line_of_b, write_line, LUBDHVANI_STACK_BUT_READ},
     {"next_stretch", plain, next_stretch, LUBDHVANI_STACK_BUT_READ},
     {"bundle_write", glyphs, bundle_write, LUBDHVANI_STACK_BUT_READ},
     {"bundle_read", a_bundle, bundle_read, LUBDHVANI_STACK_BUT_READ},
@@ -150,12 +166,14 @@ static const struct {
     {"bundle_rows", a_bundle, bundle_rows, LUBDHVANI_STACK_BUT_READ},
     {"read, a line", a_frame, read_frame, LUBDHVANI_STACK},
     {"read, a line of edition two", a_frame_two, read_frame, LUBDHVANI_STACK},
+    {"read, a line of layout B", a_frame_of_b, read_frame, LUBDHVANI_STACK},
     {"read, longest stretch, plain", plain, read_stretch, LUBDHVANI_STACK},
     {"read, longest stretch, escapes", escapes, read_stretch, LUBDHVANI_STACK},
     {"read, longest stretch, dangling escape", dangling, read_stretch, LUBDHVANI_STACK},
     {"read, longest stretch, bad escape", bad_escape, read_stretch, LUBDHVANI_STACK},
     {"to_one, a line", a_frame_two, to_one_line, LUBDHVANI_STACK},
     {"to_two, a line", a_frame, to_two_line, LUBDHVANI_STACK},
+    {"to_two, a line of layout B", a_frame_of_b, to_two_line, LUBDHVANI_STACK},
     {"to_one, longest stretch, plain", plain, to_one_stretch, LUBDHVANI_STACK},
     {"to_two, longest stretch, plain", plain, to_two_stretch, LUBDHVANI_STACK},
     {"to_two, longest stretch, escapes", escapes, to_two_stretch, LUBDHVANI_STACK},
