@@ -9,12 +9,15 @@
 #include <string.h>
 #include <sys/mman.h>
 
-/* BETWEEN is how many digits stand between two transit symbols, ESCAPED what is XORed into a byte behind an escape, UNTOUCHED what stands
- * in a buffer before a call, MOST the longest stream made here, MORE_ROOM what a line buffer has at most beyond the longest line. */
+/* BETWEEN is how many digits stand between two transit symbols, LAYOUT_BESIDE what a layout has beside its account digits, ESCAPED what is
+ * XORed into a byte behind an escape, UNTOUCHED what stands in a buffer before a call, MOST the longest stream made here, MORE_ROOM what a line
+ * buffer has at most beyond the longest line. */
 enum {
     MARK = 0x7E,
     TRANSIT = 'A',
+    ON_US = 'C',
     BETWEEN = 9,
+    LAYOUT_BESIDE = BETWEEN + 3,
     ESCAPE = 0x7D,
     ESCAPED = 0x20,
     UNTOUCHED = 0xA5,
@@ -52,17 +55,24 @@ static struct shape shape_of(int two)
 }
 
 /* libFuzzer keeps an input that moves one of these: what the answers were, since the library itself has no counters. First each number
- * after each other number or none, then the lengths of lines, then those of stretches, the longest all as one. */
-enum { MET_NUMBERS = 32, MET_NONE = MET_NUMBERS - 1, MET_LINES = MET_NUMBERS * MET_NUMBERS, MET_STRETCHES = MET_LINES + 128, MET_LONGEST = 300 };
+ * after each other number or none, then the lengths of lines, then those of stretches, the longest all as one, then the layouts of lines. */
+enum {
+    MET_NUMBERS = 32,
+    MET_NONE = MET_NUMBERS - 1,
+    MET_LINES = MET_NUMBERS * MET_NUMBERS,
+    MET_STRETCHES = MET_LINES + 128,
+    MET_LONGEST = 300,
+    MET_LAYOUTS = MET_STRETCHES + MET_LONGEST + 1
+};
 __attribute__((section("__libfuzzer_extra_counters"))) static uint8_t met[2048];
 
 /* How often each number was met, lines apart from the end of the stream; printed at the end. */
-static unsigned long lines_met, numbers_met[LUBDHVANI_OVER_WORK + 1];
+static unsigned long lines_met, numbers_met[LUBDHVANI_OTHER_LAYOUT + 1];
 
 static void print_met(void)
 {
     printf("fuzz: lines %lu, ends %lu; refused", lines_met, numbers_met[LUBDHVANI_DONE]);
-    for (size_t i = 1; i <= LUBDHVANI_OVER_WORK; i++)
+    for (size_t i = 1; i <= LUBDHVANI_OTHER_LAYOUT; i++)
         if (numbers_met[i] > 0)
             printf(", %zu: %lu times", i, numbers_met[i]);
     puts("");
@@ -126,8 +136,18 @@ static size_t digits(const uint8_t *line, size_t length)
     return met;
 }
 
-/* The number of the line's rule: transit symbols none, or two with nine digits between. */
-static uint32_t ruled(const uint8_t *line, size_t length)
+/* A layout is the whole line: transit, nine digits, transit, account digits, on-us. No line has what is no layout. */
+static int has_layout(const uint8_t *line, size_t length, size_t layout)
+{
+    const size_t account = layout == LUBDHVANI_LAYOUT_A ? 10 : layout == LUBDHVANI_LAYOUT_B ? 12 : 0;
+    if (layout == LUBDHVANI_LAYOUT_NEITHER)
+        return 1;
+    return account > 0 && length == LAYOUT_BESIDE + account && line[0] == TRANSIT && line[BETWEEN + 1] == TRANSIT &&
+           line[length - 1] == ON_US && digits(line, length) == BETWEEN + account;
+}
+
+/* The number of the line's rule: transit symbols none, or two with nine digits between; then the layout. */
+static uint32_t ruled(const uint8_t *line, size_t length, size_t layout)
 {
     size_t transits = 0, first = 0, last = 0;
     for (size_t i = 0; i < length; i++) {
@@ -142,7 +162,9 @@ static uint32_t ruled(const uint8_t *line, size_t length)
     if (digits(line, length) == 0)
         return LUBDHVANI_NOT_TRADE;
     const int enclosed = last - first == BETWEEN + 1 && digits(line + first + 1, BETWEEN) == BETWEEN;
-    return transits == 0 || (transits == 2 && enclosed) ? LUBDHVANI_DONE : LUBDHVANI_NOT_TRADE;
+    if (transits != 0 && !(transits == 2 && enclosed))
+        return LUBDHVANI_NOT_TRADE;
+    return has_layout(line, length, layout) ? LUBDHVANI_DONE : LUBDHVANI_OTHER_LAYOUT;
 }
 
 static void append_framed(const uint8_t *body, size_t length)
@@ -197,15 +219,15 @@ static size_t sealed_body(const struct own *own, const uint8_t *line, size_t n, 
 }
 
 /* The writer of an edition, with just the room that it asks for. */
-static uint32_t written(const uint8_t *its_key, const uint8_t *its_font, const struct own *own, const uint8_t *line, size_t n,
-                        uint8_t *frame, size_t *length, size_t *calls)
+static uint32_t written(const uint8_t *its_key, const uint8_t *its_font, size_t layout, const struct own *own, const uint8_t *line,
+                        size_t n, uint8_t *frame, size_t *length, size_t *calls)
 {
     const size_t room = shape_of(own->two).room;
     if (own->two)
-        return lubdhvani_write_two(its_key, LUBDHVANI_KEY, own->nonce, LUBDHVANI_NONCE, its_font, LUBDHVANI_DIGEST, own->job, LUBDHVANI_JOB,
-                                   line, n, frame, room, length, calls);
-    return lubdhvani_write(its_key, LUBDHVANI_KEY, own->nonce, LUBDHVANI_NONCE, its_font, LUBDHVANI_DIGEST, line, n, frame, room, length,
-                           calls);
+        return lubdhvani_write_two(its_key, LUBDHVANI_KEY, own->nonce, LUBDHVANI_NONCE, its_font, LUBDHVANI_DIGEST, layout, own->job,
+                                   LUBDHVANI_JOB, line, n, frame, room, length, calls);
+    return lubdhvani_write(its_key, LUBDHVANI_KEY, own->nonce, LUBDHVANI_NONCE, its_font, LUBDHVANI_DIGEST, layout, line, n, frame, room,
+                           length, calls);
 }
 
 /* A job as a reading tells it, its high byte first; none is zero. */
@@ -217,16 +239,16 @@ static size_t job_number(const struct own *own)
     return number;
 }
 
-/* The writer; what it wrote is read back alone. */
-static void write_line(const uint8_t *its_key, const uint8_t *its_font, const struct own *own, const uint8_t *line, size_t n)
+/* The writer; what it wrote is read back alone, under the same layout. */
+static void write_line(const uint8_t *its_key, const uint8_t *its_font, size_t layout, const struct own *own, const uint8_t *line, size_t n)
 {
     const struct shape shape = shape_of(own->two);
     uint8_t frame[LUBDHVANI_FRAME_TWO + CANARY], back[LUBDHVANI_LONGEST_LINE];
     size_t length, calls;
     memset(frame, UNTOUCHED, sizeof frame);
-    uint32_t number = written(its_key, its_font, own, line, n, frame, &length, &calls);
+    uint32_t number = written(its_key, its_font, layout, own, line, n, frame, &length, &calls);
 
-    uint32_t expected = n < 1 || n > LUBDHVANI_LONGEST_LINE ? LUBDHVANI_TOO_LONG : ruled(line, n);
+    uint32_t expected = n < 1 || n > LUBDHVANI_LONGEST_LINE ? LUBDHVANI_TOO_LONG : ruled(line, n, layout);
     must(number == expected, "the writer's number");
     must(number == LUBDHVANI_DONE ? calls == n + shape.calls && length >= shape.beside_line + n + 2 && length <= shape.room
                                   : calls == 0 && length == 0,
@@ -235,8 +257,10 @@ static void write_line(const uint8_t *its_key, const uint8_t *its_font, const st
         must(frame[i] == UNTOUCHED, "the writer writes the frame only");
     if (number != LUBDHVANI_DONE)
         return;
+    struct lubdhvani_asked asked = everything;
+    asked.layout = layout;
     const struct lubdhvani_reading r =
-        lubdhvani_read(frame, length, 0, its_key, LUBDHVANI_KEY, its_font, LUBDHVANI_DIGEST, everything, back, sizeof back);
+        lubdhvani_read(frame, length, 0, its_key, LUBDHVANI_KEY, its_font, LUBDHVANI_DIGEST, asked, back, sizeof back);
     must(r.number == LUBDHVANI_DONE && r.given && r.first == 1 && r.closing == length - 1 && r.length == n && memcmp(back, line, n) == 0,
          "a line that was written is read");
     must(r.edition == 1u + (own->two != 0) && r.job == job_number(own), "with its edition and its job");
@@ -282,8 +306,28 @@ static struct own take_own(void)
     return own;
 }
 
-/* Any bytes, or listed ones only; these mostly without transit symbols, or with two around digits where there is room. */
-static void take_line(uint8_t *line, size_t n, int any)
+/* Mostly neither or one that lines have; else any number, some of them a layout only in their last 32 bits. */
+static size_t take_layout(void)
+{
+    const uint8_t how = take();
+    return how % 8 < 6 ? how % 3 : how % 8 == 6 ? how : (size_t)1 << 32 | how % 3;
+}
+
+/* The symbols of a layout where they belong, and digits everywhere else: nine to thirteen account digits, so that A and B are missed by one. */
+static size_t lay_out(uint8_t *line, size_t n)
+{
+    enum { LEAST = 9, MOST_DIGITS = 13 };
+    n = LAYOUT_BESIDE + LEAST + n % (MOST_DIGITS - LEAST + 1);
+    for (size_t i = 0; i < n; i++)
+        line[i] = (uint8_t)('0' + line[i] % 10);
+    line[0] = line[BETWEEN + 1] = TRANSIT;
+    line[n - 1] = ON_US;
+    return n;
+}
+
+/* Any bytes, or listed ones only; these mostly without transit symbols, or with two around digits where there is room, or as a layout has them.
+ * Gives the line's length, which is another where it is laid out. */
+static size_t take_line(uint8_t *line, size_t n, int any)
 {
     static const char all[] = "0123456789BCD A";
     const uint8_t how = take();
@@ -292,34 +336,38 @@ static void take_line(uint8_t *line, size_t n, int any)
         if (!any)
             line[i] = (uint8_t)all[line[i] % (sizeof all - 1 - (how % 4 != 0))];
     }
+    if (!any && (how & 0xC0) == 0xC0)
+        return lay_out(line, n);
     const size_t between = how % 16 == 1 ? BETWEEN - 1 : how % 16 == 2 ? BETWEEN + 1 : BETWEEN;
     if (any || how % 2 == 0 || n < between + 2)
-        return;
+        return n;
     uint8_t *at = line + how % (n - between - 1);
     for (size_t i = 1; i <= between; i++)
         at[i] = (uint8_t)('0' + at[i] % 10);
     at[0] = at[between + 1] = TRANSIT;
+    return n;
 }
 
 /* What a recipe can ask for. The order says which, and in its other bits how. */
 
-/* The writer's frame of a line, which may be too long: as it should be, under another key or for another font. */
+/* The writer's frame of a line, which may be too long: as it should be, under another key or for another font, under some layout. */
 static void append_written(uint8_t order)
 {
-    uint8_t line[LUBDHVANI_LONGEST_LINE + 3];
+    uint8_t line[LUBDHVANI_LONGEST_LINE + 3] = {0};
     const struct own own = take_own();
+    const size_t layout = take_layout();
     size_t n = take() % sizeof line;
-    take_line(line, n, order >= 0xE0);
-    write_line(order % 8 == 1 ? other_key : key, order % 8 == 2 ? other_font : font, &own, line, n);
+    n = take_line(line, n, order >= 0xE0);
+    write_line(order % 8 == 1 ? other_key : key, order % 8 == 2 ? other_font : font, layout, &own, line, n);
 }
 
 /* A line sealed as it should be; perhaps with one byte of the body changed, or the body cut short. */
 static void append_sealed(uint8_t order)
 {
-    uint8_t line[LUBDHVANI_LONGEST_LINE], body[LONGEST_BODY];
+    uint8_t line[LUBDHVANI_LONGEST_LINE] = {0}, body[LONGEST_BODY];
     const struct own own = take_own();
     size_t n = 1 + take() % LUBDHVANI_LONGEST_LINE;
-    take_line(line, n, order & 0x10);
+    n = take_line(line, n, order & 0x10);
     n = sealed_body(&own, line, n, body);
     if (order & 0x20) {
         uint8_t change = take();
@@ -457,7 +505,7 @@ static struct judged judge(const uint8_t *stretch, size_t length, const struct t
     for (size_t i = j.number == LUBDHVANI_DONE ? line : 0; i < sizeof j.line; i++)
         must(j.line[i] == 0, "nothing is left of a message whose seal is wrong, and nothing stands behind one that was opened");
     if (j.number == LUBDHVANI_DONE)
-        j.number = ruled(j.line, line);
+        j.number = ruled(j.line, line, told->asked.layout);
     if (j.number == LUBDHVANI_DONE)
         j.length = line;
     return j;
@@ -468,7 +516,7 @@ static void check_rewritten(const struct judged *j, const struct told *told, con
 {
     uint8_t frame[LUBDHVANI_FRAME_TWO];
     size_t frame_length, calls;
-    must(written(told->key, told->font, &j->own, j->line, j->length, frame, &frame_length, &calls) == LUBDHVANI_DONE,
+    must(written(told->key, told->font, told->asked.layout, &j->own, j->line, j->length, frame, &frame_length, &calls) == LUBDHVANI_DONE,
          "a line given out can be written");
     must(frame_length == length + 2 && memcmp(frame + 1, stretch, length) == 0, "a line is given out only for the writer's bytes");
 }
@@ -480,21 +528,23 @@ static uint32_t converted(const struct told *told, const uint8_t *stretch, size_
     memset(frame, UNTOUCHED, LUBDHVANI_FRAME_TWO);
     const size_t room = shape_of(own->two).room;
     const uint32_t number =
-        own->two ? lubdhvani_to_two(stretch, length, told->key, LUBDHVANI_KEY, told->font, LUBDHVANI_DIGEST, own->nonce, LUBDHVANI_NONCE,
-                                    own->job, LUBDHVANI_JOB, frame, room, frame_length)
-                 : lubdhvani_to_one(stretch, length, told->key, LUBDHVANI_KEY, told->font, LUBDHVANI_DIGEST, own->nonce, LUBDHVANI_NONCE,
-                                    frame, room, frame_length);
+        own->two ? lubdhvani_to_two(stretch, length, told->key, LUBDHVANI_KEY, told->font, LUBDHVANI_DIGEST, told->asked.layout, own->nonce,
+                                    LUBDHVANI_NONCE, own->job, LUBDHVANI_JOB, frame, room, frame_length)
+                 : lubdhvani_to_one(stretch, length, told->key, LUBDHVANI_KEY, told->font, LUBDHVANI_DIGEST, told->asked.layout, own->nonce,
+                                    LUBDHVANI_NONCE, frame, room, frame_length);
     for (size_t i = *frame_length; i < LUBDHVANI_FRAME_TWO; i++)
         must(frame[i] == UNTOUCHED, "the converter writes the frame only");
     return number;
 }
 
-/* A stretch handed to both calls of the converter. It is converted exactly where a reader of its edition gives a line, else refused with that
- * reader's number, or with 16; and going back gives the stretch byte for byte. */
+/* A stretch handed to both calls of the converter, which are told the reader's layout. It is converted exactly where a reader of its edition
+ * gives a line, else refused with that reader's number, or with 16; and going back gives the stretch byte for byte. */
 static void check_converted(const struct told *told, const uint8_t *stretch, size_t length)
 {
     for (int two = 0; two < 2; two++) {
-        const struct told both = {told->key, told->font, told->room, everything};
+        struct told both = *told;
+        both.asked.editions = LUBDHVANI_BOTH_EDITIONS;
+        both.asked.allowed = LUBDHVANI_ALL_WORK;
         const struct judged j = judge(stretch, length, &both);
         const struct own own = {.two = two, .nonce = {MARK, ESCAPE}, .job = {ESCAPE, MARK}};
         uint8_t frame[LUBDHVANI_FRAME_TWO], back[LUBDHVANI_FRAME_TWO];
@@ -539,7 +589,9 @@ static struct reading read_once(const uint8_t *stream, size_t place, const struc
     for (size_t i = 0; i < sizeof r.around; i++)
         must((i >= CANARY && i < CANARY + r.is.length) || r.around[i] == UNTOUCHED, "the reader writes the line only");
     must(memcmp(stream, building, built) == 0, "the stream stays");
-    must(r.is.number <= LUBDHVANI_BEYOND || r.is.number == LUBDHVANI_NOT_TRADE || r.is.number == LUBDHVANI_OVER_WORK, "a number of the table");
+    must(r.is.number <= LUBDHVANI_BEYOND || r.is.number == LUBDHVANI_NOT_TRADE || r.is.number == LUBDHVANI_OVER_WORK ||
+             r.is.number == LUBDHVANI_OTHER_LAYOUT,
+         "a number of the table");
     must(r.is.given == (r.is.length > 0) && r.is.calls <= told->asked.allowed, "a line is told from the end, and no count is over what is allowed");
     *(r.is.length > 0 ? &lines_met : &numbers_met[r.is.number]) += 1;
     return r;
@@ -587,6 +639,7 @@ static void check_judged(const uint8_t *stream, const struct told *told, const s
     if (r->is.length > 0) {
         check_rewritten(&j, told, stream + r->is.first, length);
         met[MET_LINES + r->is.length]++;
+        met[MET_LAYOUTS + told->asked.layout]++;
     }
     met[MET_STRETCHES + (length > MET_LONGEST ? MET_LONGEST : length)]++;
 }
@@ -651,6 +704,7 @@ int LLVMFuzzerTestOneInput(const uint8_t *data, size_t size)
     const uint8_t how = take();
     size_t place = take_two();
     const uint8_t work = take(), editions = take();
+    const size_t layout = take_layout();
     if (how & 0x01)
         append(input, input_left);
     else
@@ -660,7 +714,7 @@ int LLVMFuzzerTestOneInput(const uint8_t *data, size_t size)
         (how & 0x0C) == 0x0C ? other_key : key,
         (how & 0x30) == 0x30 ? other_font : font,
         (how & 0xC0) == 0xC0 ? LUBDHVANI_LONGEST_LINE - 1 : LUBDHVANI_LONGEST_LINE + (how >> 6) * MORE_ROOM / 2u,
-        {.editions = editions, .allowed = work & 0x80 ? work & 0x7F : LUBDHVANI_ALL_WORK},
+        {.editions = editions, .allowed = work & 0x80 ? work & 0x7F : LUBDHVANI_ALL_WORK, .layout = layout},
     };
     read_all(lent_stream(), place, &told);
     return 0;
