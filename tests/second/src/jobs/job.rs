@@ -9,8 +9,9 @@ use second::chance::Chance;
 use second::compose::compose;
 use second::digest::digest;
 use second::frame::{framed, Fields, Own};
+use second::line::NEITHER;
 use second::lines::listing;
-use second::near::{near_line, trade_line};
+use second::near::{layout_line, near_layout, near_line, trade_line};
 use second::numbers::{DIGEST, JOB, KEY, LINE_MOST, MESSAGE_LIMIT, NONCE, STREAM_LIMIT};
 use second::stuffing::{ESCAPE, MARK};
 
@@ -83,8 +84,7 @@ impl Job {
         let mut frame = || {
             let nonce = chance.bytes(NONCE);
             let job = some_of(chance, &[MARK, ESCAPE, 0, b'7'], JOB);
-            let length = chance.between(1, LINE_MOST);
-            let line = trade_line(chance, length);
+            let line = line(chance);
             let own = Own {
                 nonce: &nonce,
                 job: Some(&job),
@@ -114,11 +114,21 @@ fn some_of(chance: &mut Chance, bytes: &[u8], length: usize) -> Vec<u8> {
     (0..length).map(|_| chance.one_of(bytes)).collect()
 }
 
+/// A line of the trade of any length, of layout A or B, or just not of one:
+/// `compose` and `lines` name none, so that all of them go.
+fn line(chance: &mut Chance) -> Vec<u8> {
+    let length = chance.between(1, LINE_MOST);
+    match chance.below(6) {
+        0 | 1 => layout_line(chance, NEITHER),
+        2 => near_layout(chance),
+        _ => trade_line(chance, length),
+    }
+}
+
 /// An order without its newline, good or wrong.
 fn order(chance: &mut Chance) -> Vec<u8> {
     let mut nonce = some_of(chance, DIGITS, 2 * NONCE);
-    let length = chance.between(1, LINE_MOST);
-    let mut line = trade_line(chance, length);
+    let mut line = line(chance);
     match chance.below(24) {
         0 => nonce.truncate(chance.below(2 * NONCE)),
         1 => nonce.push(b'0'),
@@ -131,7 +141,7 @@ fn order(chance: &mut Chance) -> Vec<u8> {
         8 => return Vec::new(),
         9 => return some_of(chance, &[0, 9, 32, 48, 65, 255], 60),
         10..=12 => line = near_line(chance),
-        13 => line = some_of(chance, LISTED, length),
+        13 => line = some_of(chance, LISTED, line.len()),
         _ => {}
     }
     [nonce, vec![b' '], line].concat()
