@@ -16,6 +16,13 @@ use crate::stuffing::{ESCAPE, MARK};
 const OF_A: &[u8] = b"A123456789A0123456789C";
 const OF_B: &[u8] = b"A123456789A012345678901C";
 
+/// A digit fewer or more, a blank behind, amount for on-us.
+const NINE_DIGITS: &[u8] = b"A123456789A012345678C";
+const ELEVEN_DIGITS: &[u8] = b"A123456789A01234567890C";
+const THIRTEEN_DIGITS: &[u8] = b"A123456789A0123456789012C";
+const BLANK_BEHIND: &[u8] = b"A123456789A0123456789C ";
+const AMOUNT: &[u8] = b"A123456789A0123456789B";
+
 /// Numbers that are no layout.
 const NONE: [Layout; 3] = [Layout(3), Layout(255), Layout(0xffff_ffff)];
 
@@ -25,16 +32,16 @@ const LINES: [&[u8]; 45] = [
     OF_A, b"A000000000A0000000000C", b"A999999999A9999999999C",
     OF_B, b"A000000000A000000000000C", b"A999999999A999999999999C",
     // no account digits, nine, eleven and thirteen
-    b"A123456789AC", b"A123456789A012345678C", b"A123456789A01234567890C", b"A123456789A0123456789012C",
+    b"A123456789AC", NINE_DIGITS, ELEVEN_DIGITS, THIRTEEN_DIGITS,
     // a blank before, between and behind; a digit before and behind
-    b" A123456789A0123456789C", b"A123456789A 0123456789C", b"A123456789A0123456789 C", b"A123456789A0123456789C ",
+    b" A123456789A0123456789C", b"A123456789A 0123456789C", b"A123456789A0123456789 C", BLANK_BEHIND,
     b" A123456789A012345678901C", b"A123456789A 012345678901C", b"A123456789A012345678901 C", b"A123456789A012345678901C ",
     b"7A123456789A0123456789C", b"A123456789A0123456789C7",
     // the same in 22 and in 24 bytes, with fewer digits
     b" A123456789A012345678C", b"A123456789A012345678C ", b"A123456789A 123456789C", b"A123456789A012345678 C",
     b" A123456789A01234567890C", b"A123456789A0123456789C  ", b"A123456789A0123456789 0C",
     // another symbol for on-us, or a digit
-    b"A123456789A0123456789B", b"A123456789A0123456789D", b"A123456789A01234567890",
+    AMOUNT, b"A123456789A0123456789D", b"A123456789A01234567890",
     b"A123456789A012345678901B", b"A123456789A0123456789012",
     // the account or on-us elsewhere
     b"0123456789CA123456789A", b"CA123456789A0123456789", b"A123456789AC0123456789",
@@ -124,38 +131,52 @@ fn wrong(two: bool) -> Vec<Vec<u8>> {
     ]
 }
 
-/// The calls that convert, over stretches of both editions, so that each is of
-/// the other one too.
+/// Good lines by a converter under every layout, and lines that miss.
+fn converted(converter: Call, two: bool) -> Vec<Case> {
+    let mut cases = Vec::new();
+    for line in [
+        OF_A,
+        OF_B,
+        NINE_DIGITS,
+        ELEVEN_DIGITS,
+        THIRTEEN_DIGITS,
+        BLANK_BEHIND,
+        b"7",
+    ] {
+        let stretch = between(&body(two, &told::digest(), line, 0));
+        for layout in [NEITHER, LAYOUT_A, LAYOUT_B, NONE[0], NONE[2]] {
+            cases.push(under(layout, call(converter, 6, &stretch)));
+        }
+    }
+    cases
+}
+
+/// Each refusal of a converter before 17, with a line that is not of the
+/// layout; stretches of the other edition are 16 wherever they have fields.
+fn convert_orders(converter: Call, two: bool) -> Vec<Case> {
+    let of_a = |two| between(&body(two, &told::digest(), OF_A, 0));
+    let others = vec![Vec::new(), vec![0x41; 289], of_a(!two)];
+    let mut cases = Vec::new();
+    for stretch in [wrong(two), wrong(!two), others].concat() {
+        cases.push(under(LAYOUT_B, call(converter, 6, &stretch)));
+    }
+    let right = under(LAYOUT_B, call(converter, 6, &of_a(two)));
+    cases.push(Case {
+        nonce: by_rule(NONCE - 1, |i| i),
+        ..right.clone()
+    });
+    cases.push(Case {
+        room: right.room - 1,
+        ..right
+    });
+    cases
+}
+
 fn conversions() -> Vec<Case> {
     let mut cases = Vec::new();
-    let font = told::digest();
     for (converter, two) in [(Call::ToOne, true), (Call::ToTwo, false)] {
-        for line in [OF_A, OF_B, LINES[7], LINES[8], LINES[9], LINES[13], b"7"] {
-            let stretch = between(&body(two, &font, line, 0));
-            for layout in [NEITHER, LAYOUT_A, LAYOUT_B, NONE[0], NONE[2]] {
-                cases.push(under(layout, call(converter, 6, &stretch)));
-            }
-        }
-        let stretches = [wrong(two), wrong(!two)].concat();
-        for stretch in stretches {
-            cases.push(under(LAYOUT_B, call(converter, 6, &stretch)));
-        }
-        cases.push(under(LAYOUT_B, call(converter, 6, &[])));
-        cases.push(under(LAYOUT_B, call(converter, 6, &[0x41; 289])));
-        let of_edition = between(&body(!two, &font, OF_A, 0));
-        cases.push(under(LAYOUT_B, call(converter, 6, &of_edition)));
-        let right = under(
-            LAYOUT_B,
-            call(converter, 6, &between(&body(two, &font, OF_A, 0))),
-        );
-        cases.push(Case {
-            nonce: by_rule(NONCE - 1, |i| i),
-            ..right.clone()
-        });
-        cases.push(Case {
-            room: right.room - 1,
-            ..right
-        });
+        cases.extend(converted(converter, two));
+        cases.extend(convert_orders(converter, two));
     }
     cases
 }
@@ -171,7 +192,7 @@ pub fn calls() -> Vec<Named> {
 fn stream() -> Vec<u8> {
     let mut stream = Vec::new();
     for two in [false, true] {
-        for line in [OF_A, OF_B, LINES[8], LINES[13], LINES[27], b"7"] {
+        for line in [OF_A, OF_B, ELEVEN_DIGITS, BLANK_BEHIND, AMOUNT, b"7"] {
             stream.extend(framed(&body(two, &told::digest(), line, 0)));
         }
         for stretch in &wrong(two)[1..] {
