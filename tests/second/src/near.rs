@@ -9,7 +9,7 @@ const DIGITS: &[u8] = b"0123456789";
 const NO_DIGITS: &[u8] = b"BCD ";
 const NO_TRANSITS: &[u8] = b"0123456789BCD ";
 const ON_US: u8 = b'C';
-const NO_ON_US: &[u8] = b"0123456789BD ";
+const NO_ON_US: &[u8] = b"BD 7";
 
 /// The account digits of each layout.
 const ACCOUNTS: [(Layout, usize); 2] = [(LAYOUT_A, 10), (LAYOUT_B, 12)];

@@ -233,3 +233,25 @@ pub fn streams() -> Vec<Stream> {
     }
     cases
 }
+
+#[cfg(test)]
+mod tests {
+    use super::*;
+    use crate::line::number;
+    use crate::numbers::{DONE, NOT_LISTED, NOT_TRADE, OTHER_LAYOUT};
+
+    #[test]
+    fn three_lines_of_each_layout_and_every_number() {
+        let times = |layout, expected| {
+            let its = LINES.iter().filter(|line| number(layout, line) == expected);
+            its.count()
+        };
+        assert_eq!(times(NEITHER, DONE), 40);
+        for layout in [LAYOUT_A, LAYOUT_B] {
+            assert_eq!((times(layout, DONE), times(layout, OTHER_LAYOUT)), (3, 37));
+            assert_eq!(times(layout, NOT_TRADE), 3);
+            assert_eq!(times(layout, NOT_LISTED), 2);
+        }
+        assert_eq!(times(NONE[0], OTHER_LAYOUT), 40);
+    }
+}
