@@ -8,7 +8,7 @@ use crate::stock::{line, stuffy};
 use second::chance::Chance;
 use second::convert::convert;
 use second::frame::{framed, Edition, Fields, Own};
-use second::line::{number, LAYOUT_A, LAYOUT_B, NEITHER};
+use second::line::{number, Layout, LAYOUT_A, LAYOUT_B, NEITHER};
 use second::numbers::{DIGEST, DONE, FRAME_ROOM_2, JOB, KEY, NONCE};
 use second::text::value;
 use second::told::Told;
@@ -89,9 +89,9 @@ impl Trip {
         }
     }
 
-    /// What the line has, or mostly that.
+    /// The layout named is mostly the line's own.
     fn told(&self, chance: &mut Chance) -> Told<'_> {
-        let has = |its: &second::line::Layout| its.has(&self.line);
+        let has = |its: &Layout| its.has(&self.line);
         let its_own = [LAYOUT_A, LAYOUT_B].into_iter().find(has);
         let named = layout(chance, its_own.unwrap_or(NEITHER));
         Told::of(&self.key, &self.digest).under(named)
@@ -122,13 +122,13 @@ impl Trip {
             LAYOUT_B => "B",
             _ => "neither",
         };
-        let (number, length, frame) = &once;
-        if !same || *number != u32::from(DONE) {
+        if !same || once.0 != u32::from(DONE) {
             return (outcome, false);
         }
-        let (number, length, frame) = by_library(told, &frame[1..length - 1], back);
-        let holds = number == u32::from(DONE) && frame[..length] == first[..];
-        (outcome, holds)
+        let stretch = &once.2[1..once.1 - 1];
+        let again = by_library(told, stretch, back);
+        let same = again == by_second_program(told, stretch, back);
+        (outcome, same && again.2[..again.1] == first[..])
     }
 }
 
