@@ -79,17 +79,22 @@ fn parts(chance: &mut Chance, account: usize) -> [Vec<u8>; 3] {
     [transit, some_of(chance, DIGITS, account), vec![ON_US]]
 }
 
+/// The account digits of the layout; of A or B where no line has it.
+fn account_of(chance: &mut Chance, layout: Layout) -> usize {
+    let its_own = ACCOUNTS.iter().find(|(of, _)| *of == layout);
+    its_own.unwrap_or(&chance.one_of(&ACCOUNTS)).1
+}
+
 /// A line of the layout; of A or B where no line has it.
 pub fn layout_line(chance: &mut Chance, layout: Layout) -> Vec<u8> {
-    let its_own = ACCOUNTS.iter().find(|(of, _)| *of == layout);
-    let (_, account) = *its_own.unwrap_or(&chance.one_of(&ACCOUNTS));
+    let account = account_of(chance, layout);
     parts(chance, account).concat()
 }
 
-/// A line of the trade that misses layouts A and B: a digit too many or too few,
-/// a byte too many, another symbol or another order.
-pub fn near_layout(chance: &mut Chance) -> Vec<u8> {
-    let (_, digits) = chance.one_of(&ACCOUNTS);
+/// A line of the trade that just misses the layout and the other one: a digit too
+/// many or too few, a byte too many, another symbol or another order.
+pub fn near_layout(chance: &mut Chance, layout: Layout) -> Vec<u8> {
+    let digits = account_of(chance, layout);
     let [transit, mut account, mut on_us] = parts(chance, digits);
     match chance.below(8) {
         0 => drop(account.pop()),
@@ -128,7 +133,8 @@ mod tests {
             }
             let either = layout_line(chance, NEITHER);
             assert_ne!(LAYOUT_A.has(&either), LAYOUT_B.has(&either));
-            let near = near_layout(chance);
+            let its = chance.one_of(&[LAYOUT_A, LAYOUT_B, NEITHER]);
+            let near = near_layout(chance, its);
             assert_eq!(number(NEITHER, &near), DONE);
             assert_eq!(number(LAYOUT_A, &near), OTHER_LAYOUT);
             assert_eq!(number(LAYOUT_B, &near), OTHER_LAYOUT);

@@ -213,8 +213,8 @@ impl Stock {
 pub fn line(chance: &mut Chance, layout: Layout) -> Vec<u8> {
     match chance.below(24) {
         0 | 1 => return layout_line(chance, NEITHER),
-        2..=4 => return near_layout(chance),
-        5..=17 if layout != NEITHER => return layout_line(chance, layout),
+        2..=5 => return near_layout(chance, layout),
+        6..=17 if layout != NEITHER => return layout_line(chance, layout),
         _ => {}
     }
     let length = match chance.below(12) {

@@ -120,7 +120,7 @@ fn line(chance: &mut Chance) -> Vec<u8> {
     let length = chance.between(1, LINE_MOST);
     match chance.below(6) {
         0 | 1 => layout_line(chance, NEITHER),
-        2 => near_layout(chance),
+        2 => near_layout(chance, NEITHER),
         _ => trade_line(chance, length),
     }
 }
