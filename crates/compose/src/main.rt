@@ -5,6 +5,7 @@
 use digest::DIGEST;
 use files::Heard;
 use frame::KEY_LENGTH;
+use layout::Layout;
 use libc::STDERR_FILENO;
 use libc::STDIN_FILENO;
 use libc::STDOUT_FILENO;
@@ -57,7 +58,7 @@ fn send(frame: &[u8], which: u64) -> bool {
 // One line under its nonce: its frame on standard output, or its refusal on standard error; false where the frame can't be written.
 fn seal_line(line: &[u8], nonce: &[u8], which: u64, key: &[u8], font: &[u8]) -> bool {
     let mut frame = [0u8; frame::FRAME_ROOM];
-    let written = frame::write(key, nonce, font, line, &mut frame);
+    let written = frame::write(key, nonce, font, Layout::Neither, line, &mut frame);
     let number = numbers::write_number(written);
     let length = numbers::write_length(written);
     if number != 0 {

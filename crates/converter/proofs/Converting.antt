@@ -14,13 +14,15 @@ use Rattle.body.specs.declared.Edition.{Edition}
 use Rattle.body.specs.declared.Judged.the-variants as judged-is
 use Rattle.body.specs.Fields.{digestLength, Own, Fields, fields, no-body}
 use Rattle.body.specs.Answers as body-answers
+use Rattle.layout.specs.declared.Layout.the-variants.{Neither}
 use Rattle.framing.specs.Told.{Told, keyLength}
+use Rattle.framing.specs.AnyLayout.{under}
 use Rattle.framing.specs.Frames.{sealedLine, frameOf}
 use Rattle.framing.specs.Lengths.{frameRoom}
 use Rattle.frame.specs.declared.Written.{Written}
 use Rattle.frame.specs.Answers as writing
 use Rattle.frame.specs.Answers.{WriteCall, sizesRight, framedCall, writeCall}
-use Rattle.frame.specs.Outcomes.{Accepts, write-done}
+use Rattle.frame.specs.Outcomes.{Accepts, write-done, sizes-under}
 use Rattle.judging.specs.Sizes.{Sizes}
 use Rattle.judging.specs.Editions.{only}
 use Rattle.judging.specs.Judged.{Label, Judged, line}
@@ -71,6 +73,10 @@ module _ (t : Told) (named : Edition) (s o : List ℕ) where
         rw (e, i, j, k, answer),
         q ∙ rw (e, sized z, le-ltb (length o) longest room) (ap (λ (y : Judged). lineOver y o) its),
       )
+
+-- `sizes_right` looks at no layout
+pub right-under : (t : Told) (own : Own) {b : Bool} → sizesRight (under Neither t) own ≡ b → sizesRight t own ≡ b
+right-under t own e = sym (sizes-under Neither t own) ∙ e
 
 -- the answer and the buffer, read off what a call comes to
 pub met : {x : ConvertCall} {r : Converted} {o : List ℕ} → x ≡ record { answer = r; frame = o } → (r ≡ x .answer) × (o ≡ x .frame)

@@ -17,15 +17,15 @@ use Rattle.converter.proofs.frame_length.Kinds as length-kinds
 use Rattle.converter.proofs.frame_length.Reads as length-reads
 
 pub convert-single : (κs : Lfts 6) (a : Dens κs convert-kinds.ps) (r r′ : Converted) (x x′ : AtExit (endedOf 6 convert-kinds.ps convert-kinds.r) κs)
-    → convert-reads.Post κs a r x → convert-reads.Post κs a r′ x′ → (r ≡ r′) × (x .1 .1 .1 .1 .1 .1 .0 .now ≡ x′ .1 .1 .1 .1 .1 .1 .0 .now)
+    → convert-reads.Post κs a r x → convert-reads.Post κs a r′ x′ → (r ≡ r′) × (x .1 .1 .1 .1 .1 .1 .1 .0 .now ≡ x′ .1 .1 .1 .1 .1 .1 .1 .0 .now)
 convert-single κs a r r′ x x′ p q = (p .0 ∙ sym (q .0), p .1 ∙ sym (q .1))
 
 pub to-one-single : (κs : Lfts 5) (a : Dens κs one-kinds.ps) (r r′ : Converted) (x x′ : AtExit (endedOf 5 one-kinds.ps one-kinds.r) κs)
-    → one-reads.Post κs a r x → one-reads.Post κs a r′ x′ → (r ≡ r′) × (x .1 .1 .1 .1 .0 .now ≡ x′ .1 .1 .1 .1 .0 .now)
+    → one-reads.Post κs a r x → one-reads.Post κs a r′ x′ → (r ≡ r′) × (x .1 .1 .1 .1 .1 .0 .now ≡ x′ .1 .1 .1 .1 .1 .0 .now)
 to-one-single κs a r r′ x x′ p q = (p .0 ∙ sym (q .0), p .1 ∙ sym (q .1))
 
 pub to-two-single : (κs : Lfts 6) (a : Dens κs two-kinds.ps) (r r′ : Converted) (x x′ : AtExit (endedOf 6 two-kinds.ps two-kinds.r) κs)
-    → two-reads.Post κs a r x → two-reads.Post κs a r′ x′ → (r ≡ r′) × (x .1 .1 .1 .1 .1 .0 .now ≡ x′ .1 .1 .1 .1 .1 .0 .now)
+    → two-reads.Post κs a r x → two-reads.Post κs a r′ x′ → (r ≡ r′) × (x .1 .1 .1 .1 .1 .1 .0 .now ≡ x′ .1 .1 .1 .1 .1 .1 .0 .now)
 to-two-single κs a r r′ x x′ p q = (p .0 ∙ sym (q .0), p .1 ∙ sym (q .1))
 
 pub number-single : (κs : Lfts 0) (a : Dens κs number-kinds.ps) (r r′ : ℕ) (x x′ : AtExit (endedOf 0 number-kinds.ps number-kinds.r) κs)

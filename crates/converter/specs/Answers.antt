@@ -1,5 +1,5 @@
--- What the converter answers, and what the lent buffer then holds (order W6): 2, 4, then 7 for the stretch's length, 6, 7 for its fields, 16, 8, 5,
--- 9, 13, one line each. Assumes nothing: these are definitions.
+-- What the converter answers, and what the lent buffer then holds (orders W6 and W7): 2, 4, then 7 for the stretch's length, 6, 7 for its fields, 16, 8, 5,
+-- 9, 13, 17, one line each. Assumes nothing: these are definitions.
 use mathlib.Core.Bool.{Bool, true, false, not, cond}
 use mathlib.Core.List.{List}
 use Prim.Native.Nat.{ℕ}
@@ -17,7 +17,7 @@ use Rattle.framing.specs.Told.{Told}
 use Rattle.framing.specs.Frames.{frameOf}
 use Rattle.framing.specs.Lengths.{frameRoom}
 use Rattle.frame.specs.Answers.{sizesRight}
-use Rattle.judging.specs.Judged.{Judged, shape, stuffing, font, work, seal, unlisted, trade, line}
+use Rattle.judging.specs.Judged.{Judged, shape, stuffing, font, work, seal, unlisted, trade, layout, line}
 use Rattle.judging.specs.Judging.{judgeFields}
 use Rattle.reader.specs.declared.Answer.{Answer}
 use Rattle.reader.specs.declared.Answer.the-variants as answer-is
@@ -47,7 +47,7 @@ pub data Sorted : Type 0 where
   misnamed : Sorted
   judged : Judged → Sorted
 
--- by its fields: 7, 16, then 8, 5, 9, 13
+-- by its fields: 7, 16, then 8, 5, 9, 13, 17
 abbrev pub sortFields : Told → Edition → Fields → Sorted
 sortFields t named no-body = judged shape
 sortFields t named (fields own digest cipher T) =
@@ -78,6 +78,7 @@ convertedOf answer-is.Font = converted-is.Font
 convertedOf (answer-is.Seal n) = converted-is.Seal
 convertedOf (answer-is.Unlisted n) = converted-is.Unlisted
 convertedOf (answer-is.Trade n) = converted-is.Trade
+convertedOf (answer-is.Layout n) = converted-is.Layout
 convertedOf (answer-is.Line k n) = converted-is.Done k
 
 -- its line, and the buffer that it is written to
@@ -107,6 +108,7 @@ sealedAnew t own work frame = refused converted-is.Shape frame
 sealedAnew t own (seal n) frame = refused converted-is.Seal frame
 sealedAnew t own (unlisted n) frame = refused converted-is.Unlisted frame
 sealedAnew t own (trade n) frame = refused converted-is.Trade frame
+sealedAnew t own (layout n) frame = refused converted-is.Layout frame
 sealedAnew t own (line k L n) frame = record { answer = converted-is.Done (length (frameOf t own L)); frame = over (frameOf t own L) frame }
 
 abbrev pub bySort : Told → Own → Sorted → List ℕ → ConvertCall
@@ -119,7 +121,7 @@ convertCall t own s frame =
     (cond (ltb (length frame) (frameRoom (own .edition))) (refused converted-is.NoRoom frame)
     (bySort t own (sorted t (other (own .edition)) s) frame))
 
--- the number of each answer (document 01, 'Numbers returned'; orders W2 and W6)
+-- the number of each answer (document 01, 'Numbers returned'; orders W2, W6 and W7)
 abbrev pub numberOf : Converted → ℕ
 numberOf (converted-is.Done n) = 0
 numberOf converted-is.Sizes = 2
@@ -131,6 +133,7 @@ numberOf converted-is.Font = 8
 numberOf converted-is.Seal = 5
 numberOf converted-is.Unlisted = 9
 numberOf converted-is.Trade = 13
+numberOf converted-is.Layout = 17
 
 -- the frame's length, 0 on a refusal
 abbrev pub lengthIn : Converted → ℕ
@@ -144,3 +147,4 @@ lengthIn converted-is.Font = 0
 lengthIn converted-is.Seal = 0
 lengthIn converted-is.Unlisted = 0
 lengthIn converted-is.Trade = 0
+lengthIn converted-is.Layout = 0

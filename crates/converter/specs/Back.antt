@@ -25,7 +25,7 @@ use Rattle.frame.specs.Answers.{sizesRight}
 use Rattle.frame.specs.Outcomes.{Accepts, sizes-right}
 use Rattle.judging.specs.Sizes.{Sizes}
 use Rattle.judging.specs.Editions.{allows, only, allows-only, only-allows}
-use Rattle.judging.specs.Judged.{Label, labelOf, Judged, shape, stuffing, font, work, seal, unlisted, trade, line}
+use Rattle.judging.specs.Judged.{Label, labelOf, Judged, shape, stuffing, font, work, seal, unlisted, trade, layout, line}
 use Rattle.judging.specs.Judging.{judge, held}
 use Rattle.demand.specs.Written.{marked, WrittenWith, written-given, given-made}
 use Rattle.converter.specs.declared.Converted.{Converted}
@@ -60,6 +60,7 @@ took t own s f n = by-sizes (sizesRight t own) refl (ltb (length f) (frameRoom (
         by-judged (seal m) i e = absurd (let z : _≡_ {A = ℕ} 0 1 = cc e in omega arith)
         by-judged (unlisted m) i e = absurd (let z : _≡_ {A = ℕ} 0 1 = cc e in omega arith)
         by-judged (trade m) i e = absurd (let z : _≡_ {A = ℕ} 0 1 = cc e in omega arith)
+        by-judged (layout m) i e = absurd (let z : _≡_ {A = ℕ} 0 1 = cc e in omega arith)
         by-judged (line k L m) i e = record { right = r; with = k; the-line = L; calls = m; read = sorted-line t named s k L m i }
 
     by-sizes : (x : Bool) → sizesRight t own ≡ x → (y : Bool)

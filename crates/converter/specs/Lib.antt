@@ -1,3 +1,4 @@
 pub mod Answers
 pub mod Sorting
 pub mod Back
+pub mod Narrowing

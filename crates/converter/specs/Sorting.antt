@@ -25,7 +25,7 @@ use Rattle.frame.specs.Answers.{sizesRight}
 use Rattle.frame.specs.Outcomes.{Accepts, right-sealable, length-right}
 use Rattle.judging.specs.Sizes.{Sizes}
 use Rattle.judging.specs.Editions.{allows, only, among}
-use Rattle.judging.specs.Judged.{Label, Judged, shape, stuffing, font, work, seal, unlisted, trade, line}
+use Rattle.judging.specs.Judged.{Label, Judged, shape, stuffing, font, work, seal, unlisted, trade, layout, line}
 use Rattle.judging.specs.Judging.{judgeFields, byStuffing, judge, heldBy, held}
 use Rattle.reader.specs.Answers.{answerOf, givenOf}
 use Rattle.demand.specs.Written.{given-made}
@@ -111,6 +111,7 @@ no-line t own (judged work) frame h = refl
 no-line t own (judged (seal n)) frame h = refl
 no-line t own (judged (unlisted n)) frame h = refl
 no-line t own (judged (trade n)) frame h = refl
+no-line t own (judged (layout n)) frame h = refl
 no-line t own (judged (line k L n)) frame h = absurd (h refl)
 
 -- and where one is, it is a line
@@ -123,6 +124,7 @@ some-line (judged work) h = absurd (omega (arith, h))
 some-line (judged (seal n)) h = absurd (omega (arith, h))
 some-line (judged (unlisted n)) h = absurd (omega (arith, h))
 some-line (judged (trade n)) h = absurd (omega (arith, h))
+some-line (judged (layout n)) h = absurd (omega (arith, h))
 some-line (judged (line k L n)) h = (k, L, n, refl)
 
 module _ (t : Told) (own : Own) (s frame : List ℕ) where

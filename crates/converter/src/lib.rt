@@ -1,4 +1,4 @@
-// The converter (order W6): the line of a stretch of one edition sealed anew in the other, under a nonce and where needed a job given to it.
+// The converter (orders W6 and W7): the line of a stretch of one edition sealed anew in the other, under a nonce and where needed a job given to it.
 // The promises cite specs/Answers.antt.
 ghost use mathlib.Core.Path.{_≡_};
 ghost use mathlib.Core.List.{[]};
@@ -18,6 +18,7 @@ use body::job_field_length;
 use frame::FRAME_ROOM;
 use frame::sizes_right;
 use frame::write_edition;
+use layout::Layout;
 use numbers::read_given;
 use numbers::read_length;
 use numbers::write_length;
@@ -51,6 +52,8 @@ pub enum Converted {
     Unlisted,
     // The line's bytes are listed, but it is not the trade's line.
     Trade,
+    // It is the trade's line, but not of the layout named.
+    Layout,
 }
 
 // What the line of a stretch comes to: an answer, whether a line was given (1) or not, and its length.
@@ -113,6 +116,7 @@ fn converted_of(answer: Answer) -> Converted
         Answer::Seal(_) => Converted::Seal,
         Answer::Unlisted(_) => Converted::Unlisted,
         Answer::Trade(_) => Converted::Trade,
+        Answer::Layout(_) => Converted::Layout,
         Answer::Line { length, calls: _ } => Converted::Done(length),
     }
 }
@@ -128,11 +132,18 @@ fn misnamed(stretch: &[u8], named: Edition) -> bool
 }
 
 // Finds the line of a stretch of the edition named and writes it to the start of line; where there is none, line stays.
-fn line_in(stretch: &[u8], named: Edition, key: &[u8], font: &[u8], line: &mut [u8]) -> Found
-    requires { ⌜ Sizes (told (now key) (now font)) ⌝ }
+fn line_in(
+    stretch: &[u8],
+    named: Edition,
+    key: &[u8],
+    font: &[u8],
+    layout: Layout,
+    line: &mut [u8],
+) -> Found
+    requires { ⌜ Sizes (told (now key) (now font) layout) ⌝ }
     requires { ⌜ longest ≤ length (now line) ⌝ }
-    ensures { λ r. ⌜ r ≡ foundOf (sorted (told (now (key .entry)) (now (font .entry))) named (now (stretch .entry))) ⌝ }
-    ensures { λ _. ⌜ now (line .exit) ≡ lineOut (sorted (told (now (key .entry)) (now (font .entry))) named (now (stretch .entry))) (now (line .entry)) ⌝ }
+    ensures { λ r. ⌜ r ≡ foundOf (sorted (told (now (key .entry)) (now (font .entry)) layout) named (now (stretch .entry))) ⌝ }
+    ensures { λ _. ⌜ now (line .exit) ≡ lineOut (sorted (told (now (key .entry)) (now (font .entry)) layout) named (now (stretch .entry))) (now (line .entry)) ⌝ }
 {
     if misnamed(stretch, named) {
         let answer = Converted::Edition;
@@ -145,6 +156,7 @@ fn line_in(stretch: &[u8], named: Edition, key: &[u8], font: &[u8], line: &mut [
     let asked = Asked {
         editions: only(named),
         allowed: ALL_WORK,
+        layout,
     };
     let verdict = judge(stretch, key, font, asked, line);
     let judged = verdict.answer;
@@ -163,12 +175,13 @@ pub fn convert(
     stretch: &[u8],
     key: &[u8],
     font: &[u8],
+    layout: Layout,
     nonce: &[u8],
     job: &[u8],
     frame: &mut [u8],
 ) -> Converted
-    ensures { λ r. ⌜ r ≡ convertCall (told (now (key .entry)) (now (font .entry))) (ownOf edition (now (nonce .entry)) (now (job .entry))) (now (stretch .entry)) (now (frame .entry)) .answer ⌝ }
-    ensures { λ _. ⌜ now (frame .exit) ≡ convertCall (told (now (key .entry)) (now (font .entry))) (ownOf edition (now (nonce .entry)) (now (job .entry))) (now (stretch .entry)) (now (frame .entry)) .frame ⌝ }
+    ensures { λ r. ⌜ r ≡ convertCall (told (now (key .entry)) (now (font .entry)) layout) (ownOf edition (now (nonce .entry)) (now (job .entry))) (now (stretch .entry)) (now (frame .entry)) .answer ⌝ }
+    ensures { λ _. ⌜ now (frame .exit) ≡ convertCall (told (now (key .entry)) (now (font .entry)) layout) (ownOf edition (now (nonce .entry)) (now (job .entry))) (now (stretch .entry)) (now (frame .entry)) .frame ⌝ }
 {
     if !sizes_right(edition, key, nonce, font, job) {
         return Converted::Sizes;
@@ -177,23 +190,39 @@ pub fn convert(
         return Converted::NoRoom;
     }
     let mut line = [0u8; LONGEST_LINE];
-    let found = line_in(stretch, other(edition), key, font, &mut line);
+    let found = line_in(stretch, other(edition), key, font, layout, &mut line);
     let n = found.length;
     if found.given != 1 {
         let answer = found.answer;
         return answer;
     }
-    let written = write_edition(edition, key, nonce, font, job, &line[0..n], frame);
+    let written = write_edition(edition, key, nonce, font, layout, job, &line[0..n], frame);
     Converted::Done(write_length(written))
 }
 
 // A stretch of edition two to a frame of edition one.
-pub fn to_one(stretch: &[u8], key: &[u8], font: &[u8], nonce: &[u8], frame: &mut [u8]) -> Converted
-    ensures { λ r. ⌜ r ≡ convertCall (told (now (key .entry)) (now (font .entry))) (ownOf One (now (nonce .entry)) []) (now (stretch .entry)) (now (frame .entry)) .answer ⌝ }
-    ensures { λ _. ⌜ now (frame .exit) ≡ convertCall (told (now (key .entry)) (now (font .entry))) (ownOf One (now (nonce .entry)) []) (now (stretch .entry)) (now (frame .entry)) .frame ⌝ }
+pub fn to_one(
+    stretch: &[u8],
+    key: &[u8],
+    font: &[u8],
+    layout: Layout,
+    nonce: &[u8],
+    frame: &mut [u8],
+) -> Converted
+    ensures { λ r. ⌜ r ≡ convertCall (told (now (key .entry)) (now (font .entry)) layout) (ownOf One (now (nonce .entry)) []) (now (stretch .entry)) (now (frame .entry)) .answer ⌝ }
+    ensures { λ _. ⌜ now (frame .exit) ≡ convertCall (told (now (key .entry)) (now (font .entry)) layout) (ownOf One (now (nonce .entry)) []) (now (stretch .entry)) (now (frame .entry)) .frame ⌝ }
 {
     let none = [0u8; 0];
-    convert(Edition::One, stretch, key, font, nonce, &none, frame)
+    convert(
+        Edition::One,
+        stretch,
+        key,
+        font,
+        layout,
+        nonce,
+        &none,
+        frame,
+    )
 }
 
 // A stretch of edition one to a frame of edition two, with the job.
@@ -201,14 +230,15 @@ pub fn to_two(
     stretch: &[u8],
     key: &[u8],
     font: &[u8],
+    layout: Layout,
     nonce: &[u8],
     job: &[u8],
     frame: &mut [u8],
 ) -> Converted
-    ensures { λ r. ⌜ r ≡ convertCall (told (now (key .entry)) (now (font .entry))) (ownOf Two (now (nonce .entry)) (now (job .entry))) (now (stretch .entry)) (now (frame .entry)) .answer ⌝ }
-    ensures { λ _. ⌜ now (frame .exit) ≡ convertCall (told (now (key .entry)) (now (font .entry))) (ownOf Two (now (nonce .entry)) (now (job .entry))) (now (stretch .entry)) (now (frame .entry)) .frame ⌝ }
+    ensures { λ r. ⌜ r ≡ convertCall (told (now (key .entry)) (now (font .entry)) layout) (ownOf Two (now (nonce .entry)) (now (job .entry))) (now (stretch .entry)) (now (frame .entry)) .answer ⌝ }
+    ensures { λ _. ⌜ now (frame .exit) ≡ convertCall (told (now (key .entry)) (now (font .entry)) layout) (ownOf Two (now (nonce .entry)) (now (job .entry))) (now (stretch .entry)) (now (frame .entry)) .frame ⌝ }
 {
-    convert(Edition::Two, stretch, key, font, nonce, job, frame)
+    convert(Edition::Two, stretch, key, font, layout, nonce, job, frame)
 }
 
 // The number of what the converter answers.
@@ -226,6 +256,7 @@ pub fn number(answer: Converted) -> u32
         Converted::Seal => 5,
         Converted::Unlisted => 9,
         Converted::Trade => 13,
+        Converted::Layout => 17,
     }
 }
 
@@ -244,5 +275,6 @@ pub fn frame_length(answer: Converted) -> usize
         Converted::Seal => 0,
         Converted::Unlisted => 0,
         Converted::Trade => 0,
+        Converted::Layout => 0,
     }
 }

@@ -22,15 +22,16 @@ pub read-promises : (κs : Lfts 4) (a : Dens κs read-kinds.ps) (r : Reading) (x
     → Reads (a .1 .1 .0 .now) (a .1 .1 .1 .0 .now) (a .1 .1 .1 .1 .0) (a .0 .now) (a .1 .0) (a .1 .1 .1 .1 .1 .0 .now) r (x .1 .1 .1 .1 .1 .0 .now)
 read-promises κs a r x p = p
 
--- the arguments are key, nonce, font digest, line and frame buffer
+-- the arguments are key, nonce, font digest, layout, line and frame buffer
 pub write-promises : (κs : Lfts 5) (a : Dens κs write-kinds.ps) (w : Written) (x : AtExit (endedOf 5 write-kinds.ps write-kinds.r) κs)
     → write-reads.Post κs a w x
-    → Writes (a .0 .now) (ownOf One (a .1 .0 .now) []) (a .1 .1 .0 .now) (a .1 .1 .1 .0 .now) (a .1 .1 .1 .1 .0 .now) w (x .1 .1 .1 .1 .0 .now)
+    → Writes (a .0 .now) (ownOf One (a .1 .0 .now) []) (a .1 .1 .0 .now) (a .1 .1 .1 .0) (a .1 .1 .1 .1 .0 .now) (a .1 .1 .1 .1 .1 .0 .now) w
+    (x .1 .1 .1 .1 .1 .0 .now)
 write-promises κs a w x p = p
 
--- the arguments are key, nonce, font digest, job, line and frame buffer
+-- the arguments are key, nonce, font digest, layout, job, line and frame buffer
 pub write-two-promises : (κs : Lfts 6) (a : Dens κs two-kinds.ps) (w : Written) (x : AtExit (endedOf 6 two-kinds.ps two-kinds.r) κs)
     → two-reads.Post κs a w x
-    → Writes (a .0 .now) (ownOf Two (a .1 .0 .now) (a .1 .1 .1 .0 .now)) (a .1 .1 .0 .now) (a .1 .1 .1 .1 .0 .now) (a .1 .1 .1 .1 .1 .0 .now) w
-    (x .1 .1 .1 .1 .1 .0 .now)
+    → Writes (a .0 .now) (ownOf Two (a .1 .0 .now) (a .1 .1 .1 .1 .0 .now)) (a .1 .1 .0 .now) (a .1 .1 .1 .0) (a .1 .1 .1 .1 .1 .0 .now)
+    (a .1 .1 .1 .1 .1 .1 .0 .now) w (x .1 .1 .1 .1 .1 .1 .0 .now)
 write-two-promises κs a w x p = p

@@ -29,11 +29,11 @@ pub record Ends (key font : List ℕ) (asked : Asked) (s : List ℕ) (from : ℕ
   pub run : Run key font asked s 0 from to-end
   pub ended : Ended to-end
 
-module _ (key font : List ℕ) (asked : Asked) (s : List ℕ) (z : Sizes (told key font)) (h : length s ≤ longestStream) where
+module _ (key font : List ℕ) (asked : Asked) (s : List ℕ) (z : Sizes (told key font (asked .layout))) (h : length s ≤ longestStream) where
   end-seen : (from : ℕ) → from ≤ length s → nextSpan s from ≡ span (length s) (length s)
       → (l : List ℕ) (r : Reading) (l′ : List ℕ) → longest ≤ length l → Reads key font asked s from l r l′ → isEnd (r .answer) ≡ true
   end-seen from f e l r l′ g p =
-      let t = told key font in
+      let t = told key font (asked .layout) in
       let q : found t asked s from (length l) ≡ call (length s) answer-is.End =
       sized t asked s from (length l) h g f (told-sized t (z .key-is) (z .font-is)) ∙ rw (e, eq-eqb (length s) (length s) refl) in
       ap (λ (x : Reading). isEnd (x .answer)) (p .0 ∙ ap readingOf q)

@@ -16,6 +16,7 @@ use Rattle.stream.specs.Stretches.{span, bytesAt}
 use Rattle.stream.specs.Meaning.{Stretch}
 use Rattle.frame.specs.declared.Written.{Written}
 use Rattle.frame.specs.declared.Written.the-variants as written-is
+use Rattle.layout.specs.declared.Layout.{Layout}
 use Rattle.framing.specs.Told.{told}
 use Rattle.framing.specs.Frames.{sealedBody, framed, frameOf}
 use Rattle.reader.specs.declared.Asked.{Asked}
@@ -54,7 +55,7 @@ module _ (key font : List ℕ) (asked : Asked) (s : List ℕ) (p q : ℕ) (b : L
       let y = gives l r l′ g c in
       (rest, ap (λ (v : Seen). v ∷ rest) (ap₂ (seenFrom 0) (y .0) (y .1) ∙ seen-given l))
 
-  from-start : (i : ℕ) → Sizes (told key font) → length s ≤ longestStream → Mark s i → Gives i
+  from-start : (i : ℕ) → Sizes (told key font (asked .layout)) → length s ≤ longestStream → Mark s i → Gives i
       → {seen : List Seen} → Run key font asked s 0 0 seen → Ended seen → SeenGiven p q b L k seen
   from-start i z h m gives run end =
       let u = run-reaches key font asked s z h i m 0 (omega arith) run end in
@@ -64,27 +65,27 @@ module _ (key font : List ℕ) (asked : Asked) (s : List ℕ) (p q : ℕ) (b : L
 -- every stretch that a write call makes is given as its line, where its calls are allowed
 pub every-line-given : (key font : List ℕ) (asked : Asked) (b : Label) (L : List ℕ) (k : ℕ) → k ≤ asked .allowed
     → (s : List ℕ) (p q : ℕ) → length s ≤ longestStream → Stretch s p q
-    → Made key font (asked .editions) b L k (bytesAt s (span p q)) → {seen : List Seen} → Run key font asked s 0 0 seen → Ended seen → SeenGiven p q b L k seen
+    → Made key font (asked .layout) (asked .editions) b L k (bytesAt s (span p q)) → {seen : List Seen} → Run key font asked s 0 0 seen → Ended seen → SeenGiven p q b L k seen
 every-line-given key font asked b L k enough s p q h x made run end =
-    let y = written-made key font (asked .editions) b L k (bytesAt s (span p q)) made .0 .1 .accepts .sealable in
+    let y = written-made key font (asked .layout) (asked .editions) b L k (bytesAt s (span p q)) made .0 .1 .accepts .sealable in
     from-start key font asked s p q b L k (p - 1) (record { key-is = y .key-is; font-is = y .font-is }) h
     (record { inside = omega (arith, x .some, x .ends); stands = x .opens })
     (λ l r l′ g c. written-is-given key font asked b L k enough s p q h x made l r l′ g c) run end
 
 -- and every frame that a write call makes, standing anywhere in a stream within the limit
-module _ (key : List ℕ) (own : Own) (font L f : List ℕ) (w : Written) (f′ : List ℕ) (p : Writes key own font L f w f′) (n k : ℕ) (e : w ≡ written-is.Done n k) where
+module _ (key : List ℕ) (own : Own) (font : List ℕ) (lay : Layout) (L f : List ℕ) (w : Written) (f′ : List ℕ) (p : Writes key own font lay L f w f′) (n k : ℕ) (e : w ≡ written-is.Done n k) where
   opens : (a c : List ℕ) → Mark (a ++ (take n f′ ++ c)) (length a)
   unfolding frameOf framed
   opens a c =
-      let b = stuffed (sealedBody (told key font) own L) ++ (mark ∷ []) in
-      let is : a ++ (take n f′ ++ c) ≡ a ++ (mark ∷ (b ++ c)) = ap (λ (x : List ℕ). a ++ (x ++ c)) (wrote key own font L f w f′ p n k e .frame) in
+      let b = stuffed (sealedBody (told key font lay) own L) ++ (mark ∷ []) in
+      let is : a ++ (take n f′ ++ c) ≡ a ++ (mark ∷ (b ++ c)) = ap (λ (x : List ℕ). a ++ (x ++ c)) (wrote key own font lay L f w f′ p n k e .frame) in
       rw is (record { inside = omega (arith, length-append a (mark ∷ (b ++ c))); stands = getD-append-seam a mark (b ++ c) 0 })
 
-  pub every-frame-given : (asked : Asked) → allows (asked .editions) (own .edition) ≡ true → k ≤ asked .allowed → (a c : List ℕ) → length (a ++ (take n f′ ++ c)) ≤ longestStream
+  pub every-frame-given : (asked : Asked) → asked .layout ≡ lay → allows (asked .editions) (own .edition) ≡ true → k ≤ asked .allowed → (a c : List ℕ) → length (a ++ (take n f′ ++ c)) ≤ longestStream
       → {seen : List Seen} → Run key font asked (a ++ (take n f′ ++ c)) 0 0 seen → Ended seen
       → SeenGiven (length a + 1) (length a + n - 1) (labelOf own) L k seen
-  every-frame-given asked may enough a c h run end =
-      let y = wrote key own font L f w f′ p n k e .accepts .sealable in
+  every-frame-given asked same may enough a c h run end =
+      let y = wrote key own font lay L f w f′ p n k e .accepts .sealable in
       from-start key font asked (a ++ (take n f′ ++ c)) (length a + 1) (length a + n - 1) (labelOf own) L k (length a)
       (record { key-is = y .key-is; font-is = y .font-is }) h (opens a c)
-      (λ l r l′ g q. frame-read key own font L f w f′ p n k e asked may enough a c l r l′ h g q) run end
+      (λ l r l′ g q. frame-read key own font lay L f w f′ p n k e asked same may enough a c l r l′ h g q) run end

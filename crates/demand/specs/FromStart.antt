@@ -71,7 +71,7 @@ ended-alike key font asked x y i j hx hy w {rx} {ry} p a q b =
 
 -- two streams equal from a mark on, each read from its start to its end with the same key and font and one allowance for both: both runs
 -- come to the mark, and what is seen behind it, with places counted from it, is the same
-pub resync-from-start : (key font : List ℕ) (asked : Asked) (x y : List ℕ) (i j : ℕ) → Sizes (told key font) → length x ≤ longestStream → length y ≤ longestStream
+pub resync-from-start : (key font : List ℕ) (asked : Asked) (x y : List ℕ) (i j : ℕ) → Sizes (told key font (asked .layout)) → length x ≤ longestStream → length y ≤ longestStream
     → Mark x i → Mark y j → drop i x ≡ drop j y → {sx sy : List Seen}
     → Run key font asked x 0 0 sx → Ended sx → Run key font asked y 0 0 sy → Ended sy
     → (u : Reaches key font asked x i sx) × (v : Reaches key font asked y j sy) × (map (countedFrom i) (u .after) ≡ map (countedFrom j) (v .after))

@@ -28,6 +28,7 @@ use Rattle.body.specs.Fields.{nonceLength, digestLength, jobSize, Own}
 use Rattle.body.specs.Lengths.{job-field-most}
 use Rattle.frame.specs.declared.Written.the-variants as written-is
 use Rattle.frame.specs.declared.Written as written
+use Rattle.layout.specs.declared.Layout.{Layout}
 use Rattle.framing.specs.Told.{Told, told, keyLength}
 use Rattle.framing.specs.Frames.{sealedLine, sealedBody, framed, frameOf}
 use Rattle.framing.specs.Lengths.{frameRoom, besideLine, length-framed, stretch-some, write-calls}
@@ -39,14 +40,14 @@ use Rattle.reader.specs.declared.Reading.{Reading}
 use Rattle.reader.specs.declared.Answer.the-variants as answer-is
 use Rattle.judging.specs.Sizes.{Sizes}
 use Rattle.judging.specs.Editions.{allows}
-use Rattle.judging.specs.Judged.{Label, label, labelOf, labelIn, Judged, shape, stuffing, work, seal, unlisted, trade, line}
+use Rattle.judging.specs.Judged.{Label, label, labelOf, labelIn, Judged, shape, stuffing, work, seal, unlisted, trade, layout, line}
 use Rattle.judging.specs.Judged as judged-is
 use Rattle.judging.specs.Judged.{numberIn}
 use Rattle.judging.specs.Judging.{judge}
 use Rattle.judging.specs.Ceiling.{within}
 use Rattle.judging.specs.Allowance.{enough-allowed, not-work}
 use Rattle.judging.specs.Readings.{ends}
-use Rattle.reader.specs.Answers.{longestStream, sizedTold, Found, call, stretch, judgedWithin, found, plain, readingAt, readingOf, buffer, answerOf}
+use Rattle.reader.specs.Answers.{longestStream, sizedTold, Found, call, stretch, judgedWithin, found, plain, readingAt, readingOf, buffer, answerOf, readAnswer, readOut}
 use Rattle.demand.specs.Promises.{Reads, Writes}
 use Rattle.demand.specs.Resync.{sized}
 use Rattle.demand.specs.Written.{marked, Written, written-given, given-made, made-given}
@@ -60,9 +61,9 @@ unfolding sizedTold
 told-sized t k d = rw (eq-eqb (length (t .key)) keyLength k) (eq-eqb (length (t .font)) digestLength d)
 
 -- a write call that is done
-module _ (key : List ℕ) (own : Own) (font L f : List ℕ) (w : written.Written) (f′ : List ℕ) (p : Writes key own font L f w f′) where
+module _ (key : List ℕ) (own : Own) (font : List ℕ) (lay : Layout) (L f : List ℕ) (w : written.Written) (f′ : List ℕ) (p : Writes key own font lay L f w f′) where
   abbrev t : Told
-  t = told key font
+  t = told key font lay
 
   -- was asked for what the writer accepts, and left the frame in the buffer
   pub record Wrote (n k : ℕ) : Type 0 where
@@ -96,12 +97,12 @@ module _ (t : Told) (asked : Asked) (z : Sizes t) (s : List ℕ) (from room : �
 
 -- every frame that a write call makes, standing anywhere in a stream within the limit, is read from its opening mark as its line, where
 -- its calls are allowed
-module _ (key : List ℕ) (own : Own) (font L f : List ℕ) (w : written.Written) (f′ : List ℕ) (p : Writes key own font L f w f′) (n k : ℕ) (e : w ≡ written-is.Done n k) where
-  is : Wrote key own font L f w f′ p n k
-  is = wrote key own font L f w f′ p n k e
+module _ (key : List ℕ) (own : Own) (font : List ℕ) (lay : Layout) (L f : List ℕ) (w : written.Written) (f′ : List ℕ) (p : Writes key own font lay L f w f′) (n k : ℕ) (e : w ≡ written-is.Done n k) where
+  is : Wrote key own font lay L f w f′ p n k
+  is = wrote key own font lay L f w f′ p n k e
 
   b : List ℕ
-  b = sealedBody (told key font) own L
+  b = sealedBody (told key font lay) own L
 
   -- in the words of the stream's law
   anywhere : (a c : List ℕ) → a ++ (take n f′ ++ c) ≡ a ++ (mark ∷ (stuffed b ++ mark ∷ c))
@@ -112,13 +113,14 @@ module _ (key : List ℕ) (own : Own) (font L f : List ℕ) (w : written.Written
   unfolding b frameOf
   frame-length = is .long ∙ length-framed b
 
-  pub frame-read : (asked : Asked) → allows (asked .editions) (own .edition) ≡ true → k ≤ asked .allowed
+  pub frame-read : (asked : Asked) → asked .layout ≡ lay → allows (asked .editions) (own .edition) ≡ true → k ≤ asked .allowed
       → (a c l : List ℕ) (r : Reading) (l′ : List ℕ) → length (a ++ (take n f′ ++ c)) ≤ longestStream → longest ≤ length l
       → Reads key font asked (a ++ (take n f′ ++ c)) (length a) l r l′
       → (r ≡ gives (length a + 1) (length a + n - 1) (labelOf own) (length L) k) × (l′ ≡ over L l)
   unfolding b judgedWithin
-  frame-read asked may enough a c l r l′ h g q =
-      let t = told key font in
+  frame-read asked same may enough a c l r l′ h g q =
+      let t = told key font lay in
+      let alike : told key font (asked .layout) ≡ t = ap (told key font) same in
       let y = is .accepts .sealable in
       let some : 0 < length (stuffed b) = stretch-some y in
       let s = a ++ (take n f′ ++ c) in
@@ -134,19 +136,19 @@ module _ (key : List ℕ) (own : Own) (font L f : List ℕ) (w : written.Written
       found-next t asked (record { key-is = y .key-is; font-is = y .font-is }) s (length a) (length l) h g at there sp (λ u. omega (arith, u))
       ∙ ap (stretch there) (ap (within (asked .allowed)) j ∙ enough-allowed (asked .allowed) (line (labelOf own) L k) enough) in
       let last : length a + 1 + length (stuffed b) ≡ length a + n - 1 = omega (arith, frame-length) in (
-        q .0 ∙ ap readingOf found-is ∙ ap (λ (m : ℕ). gives (length a + 1) m (labelOf own) (length L) k) last,
-        q .1 ∙ ap (λ (x : Found). buffer x l) found-is,
+        q .0 ∙ ap (λ (u : Told). readAnswer u asked s (length a) l) alike ∙ ap readingOf found-is ∙ ap (λ (m : ℕ). gives (length a + 1) m (labelOf own) (length L) k) last,
+        q .1 ∙ ap (λ (u : Told). readOut u asked s (length a) l) alike ∙ ap (λ (x : Found). buffer x l) found-is,
       )
 
--- the stretch s′ is what a write call of the line L with this key and font, and with what is the frame's own, makes between the marks, in any
+-- the stretch s′ is what a write call of the line L with this key, font and layout, and with what is the frame's own, makes between the marks, in any
 -- buffer with room
-abbrev pub MadeWith : List ℕ → List ℕ → List ℕ → ℕ → List ℕ → Own → Type 0
-MadeWith key font L k s′ own =
-    (f : List ℕ) (w : written.Written) (f′ : List ℕ) → frameRoom (own .edition) ≤ length f → Writes key own font L f w f′
+abbrev pub MadeWith : List ℕ → List ℕ → Layout → List ℕ → ℕ → List ℕ → Own → Type 0
+MadeWith key font lay L k s′ own =
+    (f : List ℕ) (w : written.Written) (f′ : List ℕ) → frameRoom (own .edition) ≤ length f → Writes key own font lay L f w f′
     → (n : ℕ) × (w ≡ written-is.Done n k) × (take n f′ ≡ marked s′)
 
 -- by some nonce of 12 bytes and in edition two some job of 4, in an edition that is allowed; b is its edition and job as numbers
-pub record Made (key font : List ℕ) (ed : ℕ) (b : Label) (L : List ℕ) (k : ℕ) (s′ : List ℕ) : Type 0 where
+pub record Made (key font : List ℕ) (lay : Layout) (ed : ℕ) (b : Label) (L : List ℕ) (k : ℕ) (s′ : List ℕ) : Type 0 where
   pub own : Own
   pub nonce-is : length (own .nonce) ≡ nonceLength
   pub job-is : length (own .job) ≡ jobSize (own .edition)
@@ -154,14 +156,14 @@ pub record Made (key font : List ℕ) (ed : ℕ) (b : Label) (L : List ℕ) (k :
   pub labelled : labelOf own ≡ b
   pub nonce-bytes : Below 256 (own .nonce)
   pub job-bytes : Below 256 (own .job)
-  pub makes : MadeWith key font L k s′ own
+  pub makes : MadeWith key font lay L k s′ own
 
 -- the definitions' word for it and the promises' are the same
-made-written : (key font : List ℕ) (ed : ℕ) (b : Label) (L s′ : List ℕ) (w : Written (told key font) ed s′ b L)
-    → Made key font ed b L (length L + besideLine (w .0 .edition)) s′
+made-written : (key font : List ℕ) (lay : Layout) (ed : ℕ) (b : Label) (L s′ : List ℕ) (w : Written (told key font lay) ed s′ b L)
+    → Made key font lay ed b L (length L + besideLine (w .0 .edition)) s′
 unfolding framedCall
-made-written key font ed b L s′ (own, v) =
-    let t = told key font in
+made-written key font lay ed b L s′ (own, v) =
+    let t = told key font lay in
     let y = v .accepts .sealable in
     record {
       own = own;
@@ -180,14 +182,14 @@ made-written key font ed b L s′ (own, v) =
           );
     }
 
-pub written-made : (key font : List ℕ) (ed : ℕ) (b : Label) (L : List ℕ) (k : ℕ) (s′ : List ℕ) (m : Made key font ed b L k s′)
-    → (w : Written (told key font) ed s′ b L) × (k ≡ length L + besideLine (w .0 .edition))
-written-made key font ed b L k s′ m =
-    let t = told key font in
+pub written-made : (key font : List ℕ) (lay : Layout) (ed : ℕ) (b : Label) (L : List ℕ) (k : ℕ) (s′ : List ℕ) (m : Made key font lay ed b L k s′)
+    → (w : Written (told key font lay) ed s′ b L) × (k ≡ length L + besideLine (w .0 .edition))
+written-made key font lay ed b L k s′ m =
+    let t = told key font lay in
     let f : List ℕ = replicate (frameRoom Two) 0 in
     let c = writeCall t (m .own) L f in
     let (n, e, u) = m .makes f (c .answer) (c .frame) (omega (arith, job-field-most (m .own .edition))) (refl, refl) in
-    let o = wrote key (m .own) font L f (c .answer) (c .frame) (refl, refl) n k e in (
+    let o = wrote key (m .own) font lay L f (c .answer) (c .frame) (refl, refl) n k e in (
       (m .own, record { accepts = o .accepts; allowed = m .allowed; labelled = m .labelled; nonce-bytes = m .nonce-bytes; job-bytes = m .job-bytes; makes = sym (o .frame) ∙ u }),
       o .calls,
     )
@@ -221,6 +223,7 @@ answer-line work n k e = absurd (let z : _≡_ {A = ℕ} 0 1 = cc e in omega ari
 answer-line (seal m) n k e = absurd (let z : _≡_ {A = ℕ} 0 1 = cc e in omega arith)
 answer-line (unlisted m) n k e = absurd (let z : _≡_ {A = ℕ} 0 1 = cc e in omega arith)
 answer-line (trade m) n k e = absurd (let z : _≡_ {A = ℕ} 0 1 = cc e in omega arith)
+answer-line (layout m) n k e = absurd (let z : _≡_ {A = ℕ} 0 1 = cc e in omega arith)
 
 gave : (t : Told) (asked : Asked) (s : List ℕ) (from room p q : ℕ) (b : Label) (n k : ℕ) → readingOf (found t asked s from room) ≡ gives p q b n k → Gave t asked s from room p q b n k
 unfolding found nextStretch judgedWithin
@@ -264,9 +267,9 @@ gave t asked s from room p q b n k =
 -- a call: its arguments, and an answer and a buffer that its promise admits
 module _ (key font : List ℕ) (asked : Asked) (s : List ℕ) (bytes : Below 256 s) (from : ℕ) (l : List ℕ) (r : Reading) (l′ : List ℕ) (c : Reads key font asked s from l r l′) where
   -- a line that is given is what a write call makes of it, with the same count, edition and job
-  pub given-is-written : (p q : ℕ) (b : Label) (n k : ℕ) → r ≡ gives p q b n k → Made key font (asked .editions) b (take n l′) k (bytesAt s (span p q))
+  pub given-is-written : (p q : ℕ) (b : Label) (n k : ℕ) → r ≡ gives p q b n k → Made key font (asked .layout) (asked .editions) b (take n l′) k (bytesAt s (span p q))
   given-is-written p q b n k e =
-      let t = told key font in
+      let t = told key font (asked .layout) in
       let ed = asked .editions in
       let g = gave t asked s from (length l) p q b n k (sym (c .0) ∙ e) in
       let L = g .the-line in
@@ -275,9 +278,9 @@ module _ (key font : List ℕ) (asked : Asked) (s : List ℕ) (bytes : Below 256
       let calls : k ≡ length L + besideLine (v .0 .edition) = cc same in
       let there : take n l′ ≡ L =
       ap (take n) (c .1 ∙ ap (λ (x : Found). buffer x l) (g .found-is)) ∙ take-over L l n (g .long) in
-      same-made there calls (made-written key font ed b L (bytesAt s (span p q)) v)
+      same-made there calls (made-written key font (asked .layout) ed b L (bytesAt s (span p q)) v)
     where
-      same-made : {ed : ℕ} {b : Label} {L L′ : List ℕ} {k k′ : ℕ} {s′ : List ℕ} → L′ ≡ L → k′ ≡ k → Made key font ed b L k s′ → Made key font ed b L′ k′ s′
+      same-made : {ed : ℕ} {b : Label} {L L′ : List ℕ} {k k′ : ℕ} {s′ : List ℕ} → L′ ≡ L → k′ ≡ k → Made key font (asked .layout) ed b L k s′ → Made key font (asked .layout) ed b L′ k′ s′
       same-made x y m = rw (x, y) m
 
       part-below : (p q : ℕ) → Below 256 (bytesAt s (span p q))
@@ -286,13 +289,13 @@ module _ (key font : List ℕ) (asked : Asked) (s : List ℕ) (bytes : Below 256
 -- and every stretch that a write call makes gives its line, read from its opening mark, where its edition and its calls are allowed
 pub written-is-given : (key font : List ℕ) (asked : Asked) (b : Label) (L : List ℕ) (k : ℕ) → k ≤ asked .allowed
     → (s : List ℕ) (p q : ℕ) → length s ≤ longestStream → Stretch s p q
-    → Made key font (asked .editions) b L k (bytesAt s (span p q)) → (l : List ℕ) (r : Reading) (l′ : List ℕ) → longest ≤ length l → Reads key font asked s (p - 1) l r l′
+    → Made key font (asked .layout) (asked .editions) b L k (bytesAt s (span p q)) → (l : List ℕ) (r : Reading) (l′ : List ℕ) → longest ≤ length l → Reads key font asked s (p - 1) l r l′
     → (r ≡ gives p q b (length L) k) × (l′ ≡ over L l)
 unfolding nextStretch judgedWithin
 written-is-given key font asked b L k enough s p q h x m l r l′ g c =
-    let t = told key font in
+    let t = told key font (asked .layout) in
     let ed = asked .editions in
-    let v = written-made key font ed b L k (bytesAt s (span p q)) m in
+    let v = written-made key font (asked .layout) ed b L k (bytesAt s (span p q)) m in
     let y = v .0 .1 .accepts .sealable in
     let sp = stretch-next s p q x in
     let at : p - 1 ≤ length s = omega (arith, x .some, x .ends) in

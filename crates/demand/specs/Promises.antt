@@ -8,6 +8,7 @@ use lib.ListN.{length, take}
 use Rattle.line.specs.Lines.{longest}
 use Rattle.body.specs.Fields.{Own}
 use Rattle.frame.specs.declared.Written.{Written}
+use Rattle.layout.specs.declared.Layout.{Layout}
 use Rattle.framing.specs.Told.{told}
 use Rattle.frame.specs.Answers.{writeCall}
 use Rattle.reader.specs.declared.Asked.{Asked}
@@ -19,11 +20,12 @@ use Rattle.reader.specs.Answers.{readAnswer, readOut, numberOf, lengthOf, calls
 -- a read call with this key and font, and what it is asked, of the stream s from a place, with the line buffer l before it, may answer r
 -- and leave l′ in it
 abbrev pub Reads : List ℕ → List ℕ → Asked → List ℕ → ℕ → List ℕ → Reading → List ℕ → Type 0
-Reads key font asked s from l r l′ = (r ≡ readAnswer (told key font) asked s from l) × (l′ ≡ readOut (told key font) asked s from l)
+Reads key font asked s from l r l′ = (r ≡ readAnswer (told key font (asked .layout)) asked s from l) × (l′ ≡ readOut (told key font (asked .layout)) asked s from l)
 
--- a write call of the line L under this key and font, and with what is the frame's own, with the buffer f before it, may answer w and leave f′ in it
-abbrev pub Writes : List ℕ → Own → List ℕ → List ℕ → List ℕ → Written → List ℕ → Type 0
-Writes key own font L f w f′ = (w ≡ writeCall (told key font) own L f .answer) × (f′ ≡ writeCall (told key font) own L f .frame)
+-- a write call of the line L under this key, font and layout, and with what is the frame's own, with the buffer f before it, may answer w and leave
+-- f′ in it
+abbrev pub Writes : List ℕ → Own → List ℕ → Layout → List ℕ → List ℕ → Written → List ℕ → Type 0
+Writes key own font lay L f w f′ = (w ≡ writeCall (told key font lay) own L f .answer) × (f′ ≡ writeCall (told key font lay) own L f .frame)
 
 -- the end of the stream is its own answer
 abbrev pub isEnd : Answer → Bool
@@ -39,6 +41,7 @@ isEnd answer-is.Work = false
 isEnd (answer-is.Seal n) = false
 isEnd (answer-is.Unlisted n) = false
 isEnd (answer-is.Trade n) = false
+isEnd (answer-is.Layout n) = false
 isEnd (answer-is.Line k n) = false
 
 -- all that a caller sees of a reading: document 01's number and values, and the line's bytes in the buffer

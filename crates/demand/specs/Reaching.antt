@@ -48,13 +48,13 @@ pub record Reaches (key font : List ℕ) (asked : Asked) (s : List ℕ) (i : ℕ
   pub run : Run key font asked s 0 i after
   pub ended : Ended after
 
-module _ (key font : List ℕ) (asked : Asked) (s : List ℕ) (z : Sizes (told key font)) (h : length s ≤ longestStream) where
+module _ (key font : List ℕ) (asked : Asked) (s : List ℕ) (z : Sizes (told key font (asked .layout))) (h : length s ≤ longestStream) where
   -- where the next stretch is the same, a call may answer the same
   same-reads : (from i : ℕ) → from ≤ length s → i ≤ length s → nextSpan s from ≡ nextSpan s i
       → (l : List ℕ) (r : Reading) (l′ : List ℕ) → longest ≤ length l → Reads key font asked s from l r l′ → Reads key font asked s i l r l′
   unfolding nextStretch
   same-reads from i f k e l r l′ g p =
-      let t = told key font in
+      let t = told key font (asked .layout) in
       let y = told-sized t (z .key-is) (z .font-is) in
       let q : found t asked s from (length l) ≡ found t asked s i (length l) =
       sized t asked s from (length l) h g f y
@@ -67,7 +67,7 @@ module _ (key font : List ℕ) (asked : Asked) (s : List ℕ) (z : Sizes (told k
       → (l : List ℕ) (r : Reading) (l′ : List ℕ) → longest ≤ length l → Reads key font asked s from l r l′
       → (r .closing ≡ nextSpan s from .closing) × (isEnd (r .answer) ≡ false)
   stretch-seen from f x l r l′ g p =
-      let t = told key font in
+      let t = told key font (asked .layout) in
       let o = nextSpan s from in
       let j = judgedWithin t asked (nextStretch s from) in
       let q : found t asked s from (length l) ≡ stretch o j = found-next t asked z s from (length l) h g f o refl (λ u. omega (arith, u, x .stretch .some)) in

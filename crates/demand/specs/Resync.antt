@@ -17,7 +17,7 @@ use Rattle.stream.specs.Shift.{Alike, moved, next-moved, next-shift}
 use Rattle.framing.specs.Told.{Told, told}
 use Rattle.reader.specs.declared.Asked.{Asked}
 use Rattle.reader.specs.declared.Answer.the-variants as answer-is
-use Rattle.judging.specs.Judged.{Judged, shape, stuffing, font, work, seal, unlisted, trade, line, numberIn, lineIn, labelIn, callsIn}
+use Rattle.judging.specs.Judged.{Judged, shape, stuffing, font, work, seal, unlisted, trade, layout, line, numberIn, lineIn, labelIn, callsIn}
 use Rattle.judging.specs.Readings.{ends, eqb-moved}
 use Rattle.judging.specs.Resync.{Mark}
 use Rattle.reader.specs.Answers.{longestStream, sizedTold, Found, call, stretch, found, readingAt, readingOf, buffer, judgedWithin, verdictOf, lineOver}
@@ -41,6 +41,7 @@ seen-at i p work l = refl
 seen-at i p (seal n) l = refl
 seen-at i p (unlisted n) l = refl
 seen-at i p (trade n) l = refl
+seen-at i p (layout n) l = refl
 seen-at i p (line k w n) l = ap (λ (x : List ℕ). record { number = 0; ended = false; first = p .first - i; closing = p .closing - i; calls = n; edition = k .edition; job = k .job; line = x }) (take-over w l (length w) refl)
 
 -- places in order
@@ -155,7 +156,7 @@ module _ (key font : List ℕ) (asked : Asked) (x y : List ℕ) (i j : ℕ) (hx 
   runs w e none (next r l l′ g p q) = absurd (omega (arith, e))
   runs w e (next r l l′ g p q) none = absurd (omega (arith, e))
   runs {a} {b} w e (next r l l′ g p q) (next o m m′ h u v) =
-      let z = step (told key font) asked x i a y j b hx hy w l m g h in
+      let z = step (told key font (asked .layout)) asked x i a y j b hx hy w l m g h in
       ap₂ _∷_
       (ap₂ (seenFrom i) (p .0) (p .1) ∙ z .0 ∙ sym (ap₂ (seenFrom j) (u .0) (u .1)))
       (runs (rw (p .0, u .0) (z .1)) (omega (arith, e)) q v)

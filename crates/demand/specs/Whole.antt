@@ -38,8 +38,8 @@ pub record Calls (key font : List ℕ) (asked : Asked) (s : List ℕ) (from n : 
 calls : (key font : List ℕ) (asked : Asked) (s : List ℕ) (n from : ℕ) → Calls key font asked s from n
 calls key font asked s zero from = record { seen = []; many = refl; run = none }
 calls key font asked s (suc n) from =
-    let r = readAnswer (told key font) asked s from buffer in
-    let l = readOut (told key font) asked s from buffer in
+    let r = readAnswer (told key font (asked .layout)) asked s from buffer in
+    let l = readOut (told key font (asked .layout)) asked s from buffer in
     let more = calls key font asked s n (r .closing) in
     record {
       seen = seenFrom 0 r l ∷ more .seen;
@@ -47,7 +47,7 @@ calls key font asked s (suc n) from =
       run = next r buffer l room (refl, refl) (more .run);
     }
 
-module _ (key font : List ℕ) (asked : Asked) (s : List ℕ) (z : Sizes (told key font)) (h : length s ≤ longestStream) where
+module _ (key font : List ℕ) (asked : Asked) (s : List ℕ) (z : Sizes (told key font (asked .layout))) (h : length s ≤ longestStream) where
   -- one call more than the stream has bytes comes to its end
   pub whole-run : WholeRun key font asked s
   whole-run =

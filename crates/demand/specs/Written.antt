@@ -13,7 +13,8 @@ use Rattle.stuffing.specs.Stuffing.{mark, stuffed, unstuffed}
 use Rattle.stuffing.specs.RoundTrip.{unstuff-stuff, stuff-unstuff}
 use Rattle.stuffing.specs.GoodStuffing.{stuff-well}
 use Rattle.stuffing.specs.Bytes.{unstuffed-below}
-use Rattle.line.specs.Lines.{lineRule, longest}
+use Rattle.line.specs.Lines.{longest}
+use Rattle.layout.specs.Layouts.{layoutRule}
 use Rattle.cipher.specs.Instances.{first, first-fits}
 use Rattle.cipher.specs.Cipher.{Work}
 use Rattle.cipher.specs.RoundTrip.{open-seal, seal-open}
@@ -81,7 +82,7 @@ module _ (t : Told) (ed : ℕ) (own : Own) (L : List ℕ) (a : Accepts t own L) 
       let C = sealedLine t own L .text in
       judge-line t ed (stuffed (sealedBody t own L)) own C
       (holds .0, holds .1 ∙ ap (λ (w : Work). fields own (t .font) C (w .seal)) (sym opened))
-      (ap (λ (w : Work). lineRule (w .text)) opened ∙ a .ruled)
+      (ap (λ (w : Work). layoutRule (t .layout) (w .text)) opened ∙ a .ruled)
       ∙ ap (λ (w : Work). line (labelOf own) (w .text) (w .calls)) opened
       ∙ ap (line (labelOf own) L) (write-calls (a .sealable))
 

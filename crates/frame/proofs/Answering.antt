@@ -6,14 +6,16 @@ use native.Mathlib.Omega.{arith}
 use lib.ListN.{length, take}
 use Rattle.lists.specs.Buffers.{over}
 use Rattle.lists.specs.Over.{take-over}
-use Rattle.line.specs.Lines.{lineRule}
+use Rattle.layout.specs.Layouts.{layoutRule}
 use Rattle.body.specs.Fields.{Own}
 use Rattle.body.specs.Lengths.{besideCipher}
-use Rattle.line.specs.declared.Judged.the-variants.{Accepted}
+use Rattle.layout.specs.declared.Judged.the-variants.{Accepted}
 use Rattle.frame.specs.Outcomes.{write-done}
 use Rattle.frame.specs.declared.Written.{Written}
 use Rattle.frame.specs.declared.Written.the-variants.{Done}
+use Rattle.layout.specs.declared.Layout.{Layout}
 use Rattle.framing.specs.Told.{Told}
+use Rattle.framing.specs.AnyLayout.{under, body-under}
 use Rattle.framing.specs.Frames.{sealedBody, framed, frameOf}
 use Rattle.framing.specs.Lengths.{Sealable, besideLine, length-sealed-body, sealed-body-lengths, write-calls, frameRoom}
 use Rattle.frame.specs.Answers.{WriteCall, framedCall, writeCall}
@@ -22,17 +24,17 @@ pub met : {x : WriteCall} {r : Written} {o : List ℕ} → x ≡ record { answer
 met e = (sym (ap (λ (x : WriteCall). x .answer) e), sym (ap (λ (x : WriteCall). x .frame) e))
 
 module _ {t : Told} {own : Own} {line : List ℕ} (z : Sealable t own line) where
-  -- the body is the first bytes of its scratch
-  pub scratch-holds : (o x : List ℕ) → x ≡ over (sealedBody t own line) o → (n : ℕ) → n ≡ besideCipher (own .edition) + length line
+  -- the body is the first bytes of its scratch, which is sealed whatever the layout
+  pub scratch-holds : (l : Layout) (o x : List ℕ) → x ≡ over (sealedBody (under l t) own line) o → (n : ℕ) → n ≡ besideCipher (own .edition) + length line
       → take (n - 0) x ≡ sealedBody t own line
-  scratch-holds o x g n e = rw g (take-over (sealedBody t own line) o (n - 0) (omega (arith, length-sealed-body z)))
+  scratch-holds l o x g n e = rw (g, body-under l t own line) (take-over (sealedBody t own line) o (n - 0) (omega (arith, length-sealed-body z)))
 
   -- a frame's room is enough for what stuffing asks and two marks
   pub frame-fits : (b : List ℕ) → b ≡ sealedBody t own line → 2 * length b + 2 ≤ frameRoom (own .edition)
   frame-fits b e = omega (arith, ap length e, sealed-body-lengths z)
 
   -- the frame of that body is the writer's
-  pub framed-met : (r : lineRule line ≡ Accepted) (o : List ℕ) → frameRoom (own .edition) ≤ length o → (b out : List ℕ) (n k : ℕ)
+  pub framed-met : (r : layoutRule (t .layout) line ≡ Accepted) (o : List ℕ) → frameRoom (own .edition) ≤ length o → (b out : List ℕ) (n k : ℕ)
       → b ≡ sealedBody t own line → n ≡ length (framed b) → k ≡ length line + besideLine (own .edition) → out ≡ over (framed b) o
       → (Done n k ≡ writeCall t own line o .answer) × (out ≡ writeCall t own line o .frame)
   unfolding framedCall frameOf

@@ -19,13 +19,13 @@ pub sizes-right-single : (κs : Lfts 4) (a : Dens κs sizes-kinds.ps) (r r′ : 
 sizes-right-single κs a r r′ x x′ p q = p ∙ sym q
 
 pub write-edition-single : (κs : Lfts 6) (a : Dens κs edition-kinds.ps) (r r′ : Written) (x x′ : AtExit (endedOf 6 edition-kinds.ps edition-kinds.r) κs)
-    → edition-reads.Post κs a r x → edition-reads.Post κs a r′ x′ → (r ≡ r′) × (x .1 .1 .1 .1 .1 .1 .0 .now ≡ x′ .1 .1 .1 .1 .1 .1 .0 .now)
+    → edition-reads.Post κs a r x → edition-reads.Post κs a r′ x′ → (r ≡ r′) × (x .1 .1 .1 .1 .1 .1 .1 .0 .now ≡ x′ .1 .1 .1 .1 .1 .1 .1 .0 .now)
 write-edition-single κs a r r′ x x′ p q = (p .0 ∙ sym (q .0), p .1 ∙ sym (q .1))
 
 pub write-single : (κs : Lfts 5) (a : Dens κs write-kinds.ps) (r r′ : Written) (x x′ : AtExit (endedOf 5 write-kinds.ps write-kinds.r) κs)
-    → write-reads.Post κs a r x → write-reads.Post κs a r′ x′ → (r ≡ r′) × (x .1 .1 .1 .1 .0 .now ≡ x′ .1 .1 .1 .1 .0 .now)
+    → write-reads.Post κs a r x → write-reads.Post κs a r′ x′ → (r ≡ r′) × (x .1 .1 .1 .1 .1 .0 .now ≡ x′ .1 .1 .1 .1 .1 .0 .now)
 write-single κs a r r′ x x′ p q = (p .0 ∙ sym (q .0), p .1 ∙ sym (q .1))
 
 pub write-two-single : (κs : Lfts 6) (a : Dens κs two-kinds.ps) (r r′ : Written) (x x′ : AtExit (endedOf 6 two-kinds.ps two-kinds.r) κs)
-    → two-reads.Post κs a r x → two-reads.Post κs a r′ x′ → (r ≡ r′) × (x .1 .1 .1 .1 .1 .0 .now ≡ x′ .1 .1 .1 .1 .1 .0 .now)
+    → two-reads.Post κs a r x → two-reads.Post κs a r′ x′ → (r ≡ r′) × (x .1 .1 .1 .1 .1 .1 .0 .now ≡ x′ .1 .1 .1 .1 .1 .1 .0 .now)
 write-two-single κs a r r′ x x′ p q = (p .0 ∙ sym (q .0), p .1 ∙ sym (q .1))

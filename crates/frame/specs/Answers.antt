@@ -1,14 +1,15 @@
--- What a writer of either edition answers, and what the lent buffer then holds: document 01's order of refusals, with order W2's behind 9
--- (2, 3, 9, 13, 4), one line each. Assumes nothing: these are definitions.
+-- What a writer of either edition answers, and what the lent buffer then holds: document 01's order of refusals, with those of orders W2
+-- and W7 behind 9 (2, 3, 9, 13, 17, 4), one line each. Assumes nothing: these are definitions.
 use mathlib.Core.Bool.{Bool, false, not, cond}
 use mathlib.Core.List.{List}
 use Prim.Native.Nat.{ℕ}
 use lib.Dec.{eqb, leb, ltb}
 use lib.ListN.{length}
 use Rattle.lists.specs.Buffers.{over}
-use Rattle.line.specs.Lines.{longest, lineRule}
-use Rattle.line.specs.declared.Judged.{Judged}
-use Rattle.line.specs.declared.Judged.the-variants as line-is
+use Rattle.line.specs.Lines.{longest}
+use Rattle.layout.specs.Layouts.{layoutRule}
+use Rattle.layout.specs.declared.Judged.{Judged}
+use Rattle.layout.specs.declared.Judged.the-variants as line-is
 use Rattle.body.specs.declared.Edition.{Edition}
 use Rattle.body.specs.Fields.{nonceLength, digestLength, shortest, jobSize, Own}
 use Rattle.frame.specs.declared.Written.{Written}
@@ -38,11 +39,12 @@ pub record WriteCall : Type 0 where
 abbrev pub refused : Written → List ℕ → WriteCall
 refused r frame = record { answer = r; frame = frame }
 
--- numbers 9 and 13, by the line's rule
+-- numbers 9, 13 and 17, by the line's rule and its layout
 abbrev pub byRule : Judged → WriteCall → List ℕ → WriteCall
 byRule line-is.Accepted go frame = go
 byRule line-is.Unlisted go frame = refused written-is.Unlisted frame
 byRule line-is.Trade go frame = refused written-is.Trade frame
+byRule line-is.Layout go frame = refused written-is.Layout frame
 
 -- number 4
 abbrev pub byRoom : Edition → List ℕ → WriteCall → WriteCall
@@ -59,15 +61,16 @@ unfoldable pub writeCall : Told → Own → List ℕ → List ℕ → WriteCall
 writeCall t own line frame =
     cond (not (sizesRight t own)) (refused written-is.Sizes frame)
     (cond (not (lengthRight line)) (refused written-is.TooLong frame)
-    (byRule (lineRule line) (byRoom (own .edition) frame (framedCall t own line frame)) frame))
+    (byRule (layoutRule (t .layout) line) (byRoom (own .edition) frame (framedCall t own line frame)) frame))
 
--- the number of each answer (document 01, 'Numbers returned'; order W2)
+-- the number of each answer (document 01, 'Numbers returned'; orders W2 and W7)
 abbrev pub numberOf : Written → ℕ
 numberOf (written-is.Done length calls) = 0
 numberOf written-is.Sizes = 2
 numberOf written-is.TooLong = 3
 numberOf written-is.Unlisted = 9
 numberOf written-is.Trade = 13
+numberOf written-is.Layout = 17
 numberOf written-is.NoRoom = 4
 
 -- the frame's length, 0 on a refusal
@@ -77,6 +80,7 @@ lengthOf written-is.Sizes = 0
 lengthOf written-is.TooLong = 0
 lengthOf written-is.Unlisted = 0
 lengthOf written-is.Trade = 0
+lengthOf written-is.Layout = 0
 lengthOf written-is.NoRoom = 0
 
 -- the count, 0 on a refusal
@@ -86,4 +90,5 @@ countOf written-is.Sizes = 0
 countOf written-is.TooLong = 0
 countOf written-is.Unlisted = 0
 countOf written-is.Trade = 0
+countOf written-is.Layout = 0
 countOf written-is.NoRoom = 0

@@ -9,12 +9,15 @@ use lib.Dec.{eqb, leb, ltb}
 use lib.ListN.{length}
 use borrow.Author.Tests.{eq-eqb, eqb-true, le-leb, leb-true, lt-ltb, le-ltb, ltb-false}
 use Rattle.lists.specs.Never.{never}
-use Rattle.line.specs.Lines.{longest, lineRule}
-use Rattle.line.specs.declared.Judged.{Judged}
-use Rattle.line.specs.declared.Judged.the-variants as line-is
+use Rattle.line.specs.Lines.{longest}
+use Rattle.layout.specs.Layouts.{layoutRule}
+use Rattle.layout.specs.declared.Judged.{Judged}
+use Rattle.layout.specs.declared.Judged.the-variants as line-is
 use Rattle.body.specs.Fields.{nonceLength, digestLength, shortest, jobSize, Own}
-use Rattle.frame.specs.declared.Written.the-variants.{Done, Sizes, TooLong, Unlisted, Trade, NoRoom}
+use Rattle.frame.specs.declared.Written.the-variants.{Done, Sizes, TooLong, Unlisted, Trade, Layout, NoRoom}
+use Rattle.layout.specs.declared.Layout as Layouts
 use Rattle.framing.specs.Told.{Told, keyLength}
+use Rattle.framing.specs.AnyLayout.{under}
 use Rattle.framing.specs.Lengths.{frameRoom, Sealable}
 use Rattle.frame.specs.Answers.{sizesRight, lengthRight, WriteCall, refused, byRule, framedCall, writeCall}
 
@@ -56,6 +59,11 @@ right-sealable t own line =
     go true p false q v s w r e f = never e
     go false p y q v s w r e f = never e
 
+-- sizes are right or not whatever the layout
+pub sizes-under : (l : Layouts.Layout) (t : Told) (own : Own) → sizesRight (under l t) own ≡ sizesRight t own
+unfolding sizesRight
+sizes-under l t own = refl
+
 module _ (t : Told) (own : Own) (line o : List ℕ) where
   pub write-sizes : sizesRight t own ≡ false → writeCall t own line o ≡ refused Sizes o
   unfolding writeCall
@@ -66,26 +74,30 @@ module _ (t : Told) (own : Own) (line o : List ℕ) where
   write-too-long h l = rw (h, l)
 
   module _ (z : Sealable t own line) where
-    pub write-unlisted : lineRule line ≡ line-is.Unlisted → writeCall t own line o ≡ refused Unlisted o
+    pub write-unlisted : layoutRule (t .layout) line ≡ line-is.Unlisted → writeCall t own line o ≡ refused Unlisted o
     unfolding writeCall
     write-unlisted r = rw (sizes-right z, length-right z, r)
 
-    pub write-trade : lineRule line ≡ line-is.Trade → writeCall t own line o ≡ refused Trade o
+    pub write-trade : layoutRule (t .layout) line ≡ line-is.Trade → writeCall t own line o ≡ refused Trade o
     unfolding writeCall
     write-trade r = rw (sizes-right z, length-right z, r)
 
-    pub write-no-room : lineRule line ≡ line-is.Accepted → length o < frameRoom (own .edition) → writeCall t own line o ≡ refused NoRoom o
+    pub write-layout : layoutRule (t .layout) line ≡ line-is.Layout → writeCall t own line o ≡ refused Layout o
+    unfolding writeCall
+    write-layout r = rw (sizes-right z, length-right z, r)
+
+    pub write-no-room : layoutRule (t .layout) line ≡ line-is.Accepted → length o < frameRoom (own .edition) → writeCall t own line o ≡ refused NoRoom o
     unfolding writeCall
     write-no-room r h = rw (sizes-right z, length-right z, r, lt-ltb (length o) (frameRoom (own .edition)) h)
 
-    pub write-done : lineRule line ≡ line-is.Accepted → frameRoom (own .edition) ≤ length o → writeCall t own line o ≡ framedCall t own line o
+    pub write-done : layoutRule (t .layout) line ≡ line-is.Accepted → frameRoom (own .edition) ≤ length o → writeCall t own line o ≡ framedCall t own line o
     unfolding writeCall
     write-done r h = rw (sizes-right z, length-right z, r, le-ltb (length o) (frameRoom (own .edition)) h)
 
 -- what the writer accepts
 pub record Accepts (t : Told) (own : Own) (line : List ℕ) : Type 0 where
   pub sealable : Sealable t own line
-  pub ruled : lineRule line ≡ line-is.Accepted
+  pub ruled : layoutRule (t .layout) line ≡ line-is.Accepted
 
 -- done only for what it accepts, and with room
 pub done-accepts : (t : Told) (own : Own) (line o : List ℕ) (n calls : ℕ) → writeCall t own line o .answer ≡ Done n calls
@@ -97,20 +109,21 @@ done-accepts t own line o n calls =
     room : Bool → WriteCall
     room x = cond x (refused NoRoom o) (framedCall t own line o)
 
-    by-room : Sealable t own line → lineRule line ≡ line-is.Accepted → (x : Bool) → ltb (length o) (frameRoom (own .edition)) ≡ x
+    by-room : Sealable t own line → layoutRule (t .layout) line ≡ line-is.Accepted → (x : Bool) → ltb (length o) (frameRoom (own .edition)) ≡ x
         → room x .answer ≡ Done n calls → Accepts t own line × (frameRoom (own .edition) ≤ length o)
     by-room z r true p e = absurd (let i : _≡_ {A = ℕ} 0 1 = cc e in omega arith)
     by-room z r false p e = (record { sealable = z; ruled = r }, ltb-false (length o) (frameRoom (own .edition)) p)
 
-    by-rule : Sealable t own line → (j : Judged) → lineRule line ≡ j
+    by-rule : Sealable t own line → (j : Judged) → layoutRule (t .layout) line ≡ j
         → byRule j (room (ltb (length o) (frameRoom (own .edition)))) o .answer ≡ Done n calls → Accepts t own line × (frameRoom (own .edition) ≤ length o)
     by-rule z line-is.Accepted r e = by-room z r (ltb (length o) (frameRoom (own .edition))) refl e
     by-rule z line-is.Unlisted r e = absurd (let i : _≡_ {A = ℕ} 0 1 = cc e in omega arith)
     by-rule z line-is.Trade r e = absurd (let i : _≡_ {A = ℕ} 0 1 = cc e in omega arith)
+    by-rule z line-is.Layout r e = absurd (let i : _≡_ {A = ℕ} 0 1 = cc e in omega arith)
 
     by-sizes : (x : Bool) → sizesRight t own ≡ x → (y : Bool) → lengthRight line ≡ y
-        → cond (not x) (refused Sizes o) (cond (not y) (refused TooLong o) (byRule (lineRule line) (room (ltb (length o) (frameRoom (own .edition)))) o)) .answer
+        → cond (not x) (refused Sizes o) (cond (not y) (refused TooLong o) (byRule (layoutRule (t .layout) line) (room (ltb (length o) (frameRoom (own .edition)))) o)) .answer
         ≡ Done n calls → Accepts t own line × (frameRoom (own .edition) ≤ length o)
-    by-sizes true p true q e = by-rule (right-sealable t own line p q) (lineRule line) refl e
+    by-sizes true p true q e = by-rule (right-sealable t own line p q) (layoutRule (t .layout) line) refl e
     by-sizes true p false q e = absurd (let i : _≡_ {A = ℕ} 0 1 = cc e in omega arith)
     by-sizes false p y q e = absurd (let i : _≡_ {A = ℕ} 0 1 = cc e in omega arith)

@@ -1,4 +1,4 @@
-// The writer (document 01, 'A frame and a stream', and order W6): a line sealed, put in a body, stuffed and set between two marks.
+// The writer (document 01, 'A frame and a stream', and orders W6 and W7): a line sealed, put in a body, stuffed and set between two marks.
 // The promise cites specs/Answers.antt; the paper's words stand in framing/specs/Frames.antt.
 ghost use mathlib.Core.Path.{_≡_};
 ghost use Prim.Native.Nat.{_+_, _*_, _≤_};
@@ -9,13 +9,16 @@ ghost use Rattle.body.specs.Fields.{ownOf};
 ghost use Rattle.body.specs.Lengths.{longestBody};
 ghost use Rattle.body.specs.declared.Edition.the-variants.{One, Two};
 ghost use Rattle.framing.specs.Told.{told};
+ghost use Rattle.layout.specs.declared.Layout.the-variants.{Neither};
 ghost use Rattle.framing.specs.Frames.{sealedBody, framed};
 ghost use Rattle.framing.specs.Lengths.{Sealable};
 ghost use Rattle.frame.specs.Answers.{sizesRight, lengthRight, writeCall};
 use body::Edition;
 use body::job_field_length;
 use body::job_size;
-use line::Judged;
+use layout::Judged;
+use layout::Layout;
+use layout::judge_line;
 use stuffing::MARK;
 use stuffing::Stuffed;
 
@@ -46,13 +49,15 @@ pub enum Written {
     Unlisted,
     // A line of listed bytes that is not the trade's.
     Trade,
+    // A line of the trade that is not of the layout named.
+    Layout,
     // A buffer with too little room for a frame.
     NoRoom,
 }
 
-// Whether key, nonce, font digest and, in edition two, job have their sizes.
+// Whether key, nonce, font digest and, in edition two, job have their sizes, whatever the layout.
 pub fn sizes_right(edition: Edition, key: &[u8], nonce: &[u8], font: &[u8], job: &[u8]) -> bool
-    ensures { λ r. ⌜ r ≡ sizesRight (told (now (key .entry)) (now (font .entry))) (ownOf edition (now (nonce .entry)) (now (job .entry))) ⌝ }
+    ensures { λ r. ⌜ r ≡ sizesRight (told (now (key .entry)) (now (font .entry)) Neither) (ownOf edition (now (nonce .entry)) (now (job .entry))) ⌝ }
 {
     if key.len() != KEY_LENGTH {
         return false;
@@ -78,7 +83,8 @@ fn length_right(line: &[u8]) -> bool
 }
 
 // The body of the sealed line, from the start of a scratch that has room for the longest.
-// With these sizes, lengths and room none of the calls refuses, so their answers say nothing that is not known.
+// With these sizes, lengths and room none of the calls refuses, so their answers say nothing that is not known. No layout is asked: a line of
+// every layout is sealed alike.
 fn sealed_body(
     edition: Edition,
     key: &[u8],
@@ -87,8 +93,8 @@ fn sealed_body(
     job: &[u8],
     line: &[u8],
 ) -> [u8; body::LONGEST_BODY]
-    requires { ⌜ Sealable (told (now key) (now font)) (ownOf edition (now nonce) (now job)) (now line) ⌝ }
-    ensures { λ r. ⌜ r ≡ over (sealedBody (told (now (key .entry)) (now (font .entry))) (ownOf edition (now (nonce .entry)) (now (job .entry))) (now (line .entry))) (replicate (longestBody Two) 0) ⌝ }
+    requires { ⌜ Sealable (told (now key) (now font) Neither) (ownOf edition (now nonce) (now job)) (now line) ⌝ }
+    ensures { λ r. ⌜ r ≡ over (sealedBody (told (now (key .entry)) (now (font .entry)) Neither) (ownOf edition (now (nonce .entry)) (now (job .entry))) (now (line .entry))) (replicate (longestBody Two) 0) ⌝ }
 {
     let mut assoc = [0u8; body::LONGEST_ASSOCIATED];
     putting::put_associated(edition, font, job, &mut assoc);
@@ -132,19 +138,20 @@ fn put_frame(body: &[u8], out: &mut [u8]) -> usize
     n + 2
 }
 
-// Seals the line under the key and the nonce, for the font and in edition two with the job, which is empty in edition one, and writes its
+// Seals a line of the layout under the key and the nonce, for the font and in edition two with the job, which is empty in edition one, and writes its
 // frame of that edition to the start of frame; the rest of it stays. A refusal writes nothing.
 pub fn write_edition(
     edition: Edition,
     key: &[u8],
     nonce: &[u8],
     font: &[u8],
+    layout: Layout,
     job: &[u8],
     line: &[u8],
     frame: &mut [u8],
 ) -> Written
-    ensures { λ r. ⌜ r ≡ writeCall (told (now (key .entry)) (now (font .entry))) (ownOf edition (now (nonce .entry)) (now (job .entry))) (now (line .entry)) (now (frame .entry)) .answer ⌝ }
-    ensures { λ _. ⌜ now (frame .exit) ≡ writeCall (told (now (key .entry)) (now (font .entry))) (ownOf edition (now (nonce .entry)) (now (job .entry))) (now (line .entry)) (now (frame .entry)) .frame ⌝ }
+    ensures { λ r. ⌜ r ≡ writeCall (told (now (key .entry)) (now (font .entry)) layout) (ownOf edition (now (nonce .entry)) (now (job .entry))) (now (line .entry)) (now (frame .entry)) .answer ⌝ }
+    ensures { λ _. ⌜ now (frame .exit) ≡ writeCall (told (now (key .entry)) (now (font .entry)) layout) (ownOf edition (now (nonce .entry)) (now (job .entry))) (now (line .entry)) (now (frame .entry)) .frame ⌝ }
 {
     if !sizes_right(edition, key, nonce, font, job) {
         return Written::Sizes;
@@ -152,9 +159,10 @@ pub fn write_edition(
     if !length_right(line) {
         return Written::TooLong;
     }
-    match line::judge_line(line) {
+    match judge_line(layout, line) {
         Judged::Unlisted => return Written::Unlisted,
         Judged::Trade => return Written::Trade,
+        Judged::Layout => return Written::Layout,
         Judged::Accepted => {}
     }
     let more = job_field_length(edition);
@@ -169,12 +177,19 @@ pub fn write_edition(
 }
 
 // The same in edition one.
-pub fn write(key: &[u8], nonce: &[u8], font: &[u8], line: &[u8], frame: &mut [u8]) -> Written
-    ensures { λ r. ⌜ r ≡ writeCall (told (now (key .entry)) (now (font .entry))) (ownOf One (now (nonce .entry)) []) (now (line .entry)) (now (frame .entry)) .answer ⌝ }
-    ensures { λ _. ⌜ now (frame .exit) ≡ writeCall (told (now (key .entry)) (now (font .entry))) (ownOf One (now (nonce .entry)) []) (now (line .entry)) (now (frame .entry)) .frame ⌝ }
+pub fn write(
+    key: &[u8],
+    nonce: &[u8],
+    font: &[u8],
+    layout: Layout,
+    line: &[u8],
+    frame: &mut [u8],
+) -> Written
+    ensures { λ r. ⌜ r ≡ writeCall (told (now (key .entry)) (now (font .entry)) layout) (ownOf One (now (nonce .entry)) []) (now (line .entry)) (now (frame .entry)) .answer ⌝ }
+    ensures { λ _. ⌜ now (frame .exit) ≡ writeCall (told (now (key .entry)) (now (font .entry)) layout) (ownOf One (now (nonce .entry)) []) (now (line .entry)) (now (frame .entry)) .frame ⌝ }
 {
     let none = [0u8; 0];
-    write_edition(Edition::One, key, nonce, font, &none, line, frame)
+    write_edition(Edition::One, key, nonce, font, layout, &none, line, frame)
 }
 
 // The same in edition two, with the job.
@@ -182,12 +197,13 @@ pub fn write_two(
     key: &[u8],
     nonce: &[u8],
     font: &[u8],
+    layout: Layout,
     job: &[u8],
     line: &[u8],
     frame: &mut [u8],
 ) -> Written
-    ensures { λ r. ⌜ r ≡ writeCall (told (now (key .entry)) (now (font .entry))) (ownOf Two (now (nonce .entry)) (now (job .entry))) (now (line .entry)) (now (frame .entry)) .answer ⌝ }
-    ensures { λ _. ⌜ now (frame .exit) ≡ writeCall (told (now (key .entry)) (now (font .entry))) (ownOf Two (now (nonce .entry)) (now (job .entry))) (now (line .entry)) (now (frame .entry)) .frame ⌝ }
+    ensures { λ r. ⌜ r ≡ writeCall (told (now (key .entry)) (now (font .entry)) layout) (ownOf Two (now (nonce .entry)) (now (job .entry))) (now (line .entry)) (now (frame .entry)) .answer ⌝ }
+    ensures { λ _. ⌜ now (frame .exit) ≡ writeCall (told (now (key .entry)) (now (font .entry)) layout) (ownOf Two (now (nonce .entry)) (now (job .entry))) (now (line .entry)) (now (frame .entry)) .frame ⌝ }
 {
-    write_edition(Edition::Two, key, nonce, font, job, line, frame)
+    write_edition(Edition::Two, key, nonce, font, layout, job, line, frame)
 }

@@ -4,3 +4,4 @@ pub mod Lengths
 pub mod Marks
 pub mod Bytes
 pub mod OneToOne
+pub mod AnyLayout

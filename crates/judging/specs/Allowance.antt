@@ -12,9 +12,10 @@ use Rattle.lists.specs.Below.{Below}
 use Rattle.lists.specs.Sameness.{same-refl}
 use Rattle.stuffing.specs.Stuffing.{unstuffed}
 use Rattle.stuffing.specs.Bytes.{unstuffed-below}
-use Rattle.line.specs.declared.Judged as line-judged
-use Rattle.line.specs.declared.Judged.the-variants.{Accepted, Unlisted, Trade}
-use Rattle.line.specs.Lines.{lineRule}
+use Rattle.layout.specs.declared.Layout as layouts
+use Rattle.layout.specs.declared.Judged as line-judged
+use Rattle.layout.specs.declared.Judged.the-variants.{Accepted, Unlisted, Trade, Layout}
+use Rattle.layout.specs.Layouts.{layoutRule}
 use Rattle.cipher.specs.Instances.{first}
 use Rattle.cipher.specs.Cipher.{Work, decrypted, accepted}
 use Rattle.body.specs.Fields.{jobSize, Own, fieldsOf, associated}
@@ -25,10 +26,10 @@ use Rattle.framing.specs.Told.{Told}
 use Rattle.framing.specs.Lengths.{besideLine}
 use Rattle.judging.specs.Sizes.{Sizes}
 use Rattle.judging.specs.Judging.{byRule, judgeSealed, judge}
-use Rattle.judging.specs.Cases.{Holds, Case, judge-holds, judge-case, too-long, bad-stuffing, no-fields, other-font, other-seal, not-listed, not-trade, given}
+use Rattle.judging.specs.Cases.{Holds, Case, judge-holds, judge-case, too-long, bad-stuffing, no-fields, other-font, other-seal, not-listed, not-trade, not-laid, given}
 use Rattle.judging.specs.Counts.{Counted, opening-calls, read-calls}
 use Rattle.judging.specs.Editions.{among-fields}
-use Rattle.judging.specs.Judged.{Label, labelOf, Judged, shape, stuffing, font, work, seal, unlisted, trade, line, numberIn, callsIn}
+use Rattle.judging.specs.Judged.{Label, labelOf, Judged, shape, stuffing, font, work, seal, unlisted, trade, layout, line, numberIn, callsIn}
 use Rattle.judging.specs.Ceiling.{within, allWork}
 
 -- where the work is no more than is allowed, the answer is the one without a ceiling
@@ -72,10 +73,10 @@ never-over a j = go (ltb a (callsIn j)) refl
     go true e = omega arith
     go false e = ltb-false a (callsIn j) e
 
--- opening takes the same work whatever it finds: 5, 9, 13 or a line
-pub sealed-work : (k : Label) (key nonce A cipher T : List ℕ) → callsIn (judgeSealed k key nonce A cipher T) ≡ decrypted first key nonce A cipher .calls
+-- opening takes the same work whatever it finds: 5, 9, 13, 17 or a line
+pub sealed-work : (l : layouts.Layout) (k : Label) (key nonce A cipher T : List ℕ) → callsIn (judgeSealed l k key nonce A cipher T) ≡ decrypted first key nonce A cipher .calls
 unfolding judgeSealed
-sealed-work k key nonce A cipher T = by-seal (accepted (w .seal) T)
+sealed-work l k key nonce A cipher T = by-seal (accepted (w .seal) T)
   where
     w : Work
     w = decrypted first key nonce A cipher
@@ -84,9 +85,10 @@ sealed-work k key nonce A cipher T = by-seal (accepted (w .seal) T)
     by-rule Accepted = refl
     by-rule Unlisted = refl
     by-rule Trade = refl
+    by-rule Layout = refl
 
-    by-seal : (b : Bool) → callsIn (cond (not b) (seal (w .calls)) (byRule (lineRule (w .text)) k w)) ≡ w .calls
-    by-seal true = by-rule (lineRule (w .text))
+    by-seal : (b : Bool) → callsIn (cond (not b) (seal (w .calls)) (byRule (layoutRule l (w .text)) k w)) ≡ w .calls
+    by-seal true = by-rule (layoutRule l (w .text))
     by-seal false = refl
 
 module _ (t : Told) (z : Sizes t) (ed : ℕ) (s : List ℕ) (a : ℕ) where
@@ -96,11 +98,11 @@ module _ (t : Told) (z : Sizes t) (ed : ℕ) (s : List ℕ) (a : ℕ) where
   -- a stretch whose fields are right and whose font is the one asked for, and more work than is allowed: 15, whatever its seal and its line
   pub over-allowed : (own : Own) (cipher T : List ℕ) → Holds ed s own (t .font) cipher T → a < length cipher + besideLine (own .edition) → within a (judge t ed s) ≡ work
   over-allowed own cipher T h l =
-      let sealed : judge t ed s ≡ judgeSealed (labelOf own) (t .key) (own .nonce) (associated (own .edition) (t .font) (own .job)) cipher T =
+      let sealed : judge t ed s ≡ judgeSealed (t .layout) (labelOf own) (t .key) (own .nonce) (associated (own .edition) (t .font) (own .job)) cipher T =
       judge-holds t ed s h ∙ rw (same-refl (t .font)) in
       let calls : callsIn (judge t ed s) ≡ length cipher + besideLine (own .edition) =
       ap callsIn sealed
-      ∙ sealed-work (labelOf own) (t .key) (own .nonce) (associated (own .edition) (t .font) (own .job)) cipher T ∙ opening-calls t z own (held h) cipher in
+      ∙ sealed-work (t .layout) (labelOf own) (t .key) (own .nonce) (associated (own .edition) (t .font) (own .job)) cipher T ∙ opening-calls t z own (held h) cipher in
       not-enough a (judge t ed s) (omega (arith, calls, l))
 
   -- and 15 for no other
@@ -117,6 +119,7 @@ module _ (t : Told) (z : Sizes t) (ed : ℕ) (s : List ℕ) (a : ℕ) where
       by-count (seal n) (own, cipher, T, h, q) l = (own, cipher, T, h, omega (arith, q, l))
       by-count (unlisted n) (own, cipher, T, h, q) l = (own, cipher, T, h, omega (arith, q, l))
       by-count (trade n) (own, cipher, T, h, q) l = (own, cipher, T, h, omega (arith, q, l))
+      by-count (layout n) (own, cipher, T, h, q) l = (own, cipher, T, h, omega (arith, q, l))
       by-count (line k x n) (own, cipher, T, h, q) l = (own, cipher, T, h, omega (arith, q, l))
 
       -- without a ceiling no stretch is found to be 15
@@ -131,6 +134,7 @@ module _ (t : Told) (z : Sizes t) (ed : ℕ) (s : List ℕ) (a : ℕ) where
           by-case _ (other-seal own cipher T h m) n = omega (arith, n)
           by-case _ (not-listed own cipher h m) n = omega (arith, n)
           by-case _ (not-trade own cipher h m) n = omega (arith, n)
+          by-case _ (not-laid own cipher h m) n = omega (arith, n)
           by-case _ (given own cipher h m) n = omega (arith, n)
 
       by-calls : (b : Bool) → ltb a (callsIn (judge t ed s)) ≡ b

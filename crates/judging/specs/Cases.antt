@@ -13,15 +13,15 @@ use Rattle.lists.specs.Sameness.{same-refl, same-eq}
 use Rattle.stuffing.specs.Stuffing.{longestStretch, unstuffed, WellStuffed}
 use Rattle.stuffing.specs.GoodStuffing.{well-or-not}
 use Rattle.stuffing.specs.Outcomes.{length-too-long, length-bad, length-good}
-use Rattle.line.specs.declared.Judged as line-judged
-use Rattle.line.specs.declared.Judged.the-variants.{Accepted, Unlisted, Trade}
-use Rattle.line.specs.Lines.{lineRule}
+use Rattle.layout.specs.declared.Judged as line-judged
+use Rattle.layout.specs.declared.Judged.the-variants.{Accepted, Unlisted, Trade, Layout}
+use Rattle.layout.specs.Layouts.{layoutRule}
 use Rattle.cipher.specs.Instances.{first}
 use Rattle.cipher.specs.Cipher.{Work, decrypted}
 use Rattle.body.specs.Fields.{Own, Fields, fields, no-body, fieldsOf, associated}
 use Rattle.framing.specs.Told.{Told}
 use Rattle.judging.specs.Editions.{among}
-use Rattle.judging.specs.Judged.{labelOf, Judged, shape, stuffing, font, seal, unlisted, trade, line}
+use Rattle.judging.specs.Judged.{labelOf, Judged, shape, stuffing, font, seal, unlisted, trade, layout, line}
 use Rattle.judging.specs.Judging.{byRule, judgeSealed, judgeFields, judge}
 
 same-differs : (a b : List ℕ) → same a b ≡ false → a ≡ b → ⊥
@@ -52,11 +52,13 @@ pub data Case (t : Told) (ed : ℕ) (s : List ℕ) : Judged → Type 0 where
   other-seal : (own : Own) (cipher T : List ℕ) → Holds ed s own (t .font) cipher T → (opening t own (t .font) cipher .seal ≡ T → ⊥)
       → Case t ed s (seal (opening t own (t .font) cipher .calls))
   not-listed : (own : Own) (cipher : List ℕ) → Holds ed s own (t .font) cipher (opening t own (t .font) cipher .seal)
-      → lineRule (opening t own (t .font) cipher .text) ≡ Unlisted → Case t ed s (unlisted (opening t own (t .font) cipher .calls))
+      → layoutRule (t .layout) (opening t own (t .font) cipher .text) ≡ Unlisted → Case t ed s (unlisted (opening t own (t .font) cipher .calls))
   not-trade : (own : Own) (cipher : List ℕ) → Holds ed s own (t .font) cipher (opening t own (t .font) cipher .seal)
-      → lineRule (opening t own (t .font) cipher .text) ≡ Trade → Case t ed s (trade (opening t own (t .font) cipher .calls))
+      → layoutRule (t .layout) (opening t own (t .font) cipher .text) ≡ Trade → Case t ed s (trade (opening t own (t .font) cipher .calls))
+  not-laid : (own : Own) (cipher : List ℕ) → Holds ed s own (t .font) cipher (opening t own (t .font) cipher .seal)
+      → layoutRule (t .layout) (opening t own (t .font) cipher .text) ≡ Layout → Case t ed s (layout (opening t own (t .font) cipher .calls))
   given : (own : Own) (cipher : List ℕ) → Holds ed s own (t .font) cipher (opening t own (t .font) cipher .seal)
-      → lineRule (opening t own (t .font) cipher .text) ≡ Accepted
+      → layoutRule (t .layout) (opening t own (t .font) cipher .text) ≡ Accepted
       → Case t ed s (line (labelOf own) (opening t own (t .font) cipher .text) (opening t own (t .font) cipher .calls))
 
 module _ (t : Told) (ed : ℕ) (s : List ℕ) where
@@ -78,7 +80,7 @@ module _ (t : Told) (ed : ℕ) (s : List ℕ) where
   judge-holds h = judge-fields (h .0) ∙ ap (judgeFields t) (h .1)
 
 pub judge-line : (t : Told) (ed : ℕ) (s : List ℕ) (own : Own) (cipher : List ℕ) → Holds ed s own (t .font) cipher (opening t own (t .font) cipher .seal)
-    → lineRule (opening t own (t .font) cipher .text) ≡ Accepted
+    → layoutRule (t .layout) (opening t own (t .font) cipher .text) ≡ Accepted
     → judge t ed s ≡ line (labelOf own) (opening t own (t .font) cipher .text) (opening t own (t .font) cipher .calls)
 unfolding judgeSealed
 judge-line t ed s own cipher h a =
@@ -86,26 +88,27 @@ judge-line t ed s own cipher h a =
 
 module _ (t : Told) (ed : ℕ) (s : List ℕ) where
   line-case : (own : Own) (cipher : List ℕ) → Holds ed s own (t .font) cipher (opening t own (t .font) cipher .seal)
-      → (r : line-judged.Judged) → lineRule (opening t own (t .font) cipher .text) ≡ r
+      → (r : line-judged.Judged) → layoutRule (t .layout) (opening t own (t .font) cipher .text) ≡ r
       → Case t ed s (byRule r (labelOf own) (opening t own (t .font) cipher))
   line-case own cipher h Accepted e = given own cipher h e
   line-case own cipher h Unlisted e = not-listed own cipher h e
   line-case own cipher h Trade e = not-trade own cipher h e
+  line-case own cipher h Layout e = not-laid own cipher h e
 
   seal-case : (own : Own) (cipher T : List ℕ) → Holds ed s own (t .font) cipher T
       → (b : Bool) → same (opening t own (t .font) cipher .seal) T ≡ b
       → Case t ed s (cond (not b) (seal (opening t own (t .font) cipher .calls))
-      (byRule (lineRule (opening t own (t .font) cipher .text)) (labelOf own) (opening t own (t .font) cipher)))
+      (byRule (layoutRule (t .layout) (opening t own (t .font) cipher .text)) (labelOf own) (opening t own (t .font) cipher)))
   seal-case own cipher T h true e =
       let w = opening t own (t .font) cipher in
-      line-case own cipher (h .0, h .1 ∙ ap (fields own (t .font) cipher) (sym (same-eq (w .seal) T e))) (lineRule (w .text)) refl
+      line-case own cipher (h .0, h .1 ∙ ap (fields own (t .font) cipher) (sym (same-eq (w .seal) T e))) (layoutRule (t .layout) (w .text)) refl
   seal-case own cipher T h false e = other-seal own cipher T h (same-differs (opening t own (t .font) cipher .seal) T e)
 
   font-case : (own : Own) (digest cipher T : List ℕ) → Holds ed s own digest cipher T → (b : Bool) → same digest (t .font) ≡ b
-      → Case t ed s (cond (not b) font (judgeSealed (labelOf own) (t .key) (own .nonce) (associated (own .edition) digest (own .job)) cipher T))
+      → Case t ed s (cond (not b) font (judgeSealed (t .layout) (labelOf own) (t .key) (own .nonce) (associated (own .edition) digest (own .job)) cipher T))
   unfolding judgeSealed
   font-case own digest cipher T h true e =
-      subst (λ (d : List ℕ). Holds ed s own d cipher T → Case t ed s (judgeSealed (labelOf own) (t .key) (own .nonce) (associated (own .edition) d (own .job)) cipher T))
+      subst (λ (d : List ℕ). Holds ed s own d cipher T → Case t ed s (judgeSealed (t .layout) (labelOf own) (t .key) (own .nonce) (associated (own .edition) d (own .job)) cipher T))
       (sym (same-eq digest (t .font) e))
       (λ g. seal-case own cipher T g (same (opening t own (t .font) cipher .seal) T) refl) h
   font-case own digest cipher T h false e = other-font own digest cipher T h (same-differs digest (t .font) e)

@@ -1,5 +1,5 @@
--- The count of a reading (document 01, 'Numbers returned'; order W2): 0 for 7, 6 and 8; for 5, 9, 13 and a line n + 39 (in edition two n + 46, order W6), n being the length
--- of the line's ciphertext. Assumes nothing.
+-- The count of a reading (document 01, 'Numbers returned'; orders W2 and W7): 0 for 7, 6 and 8; for 5, 9, 13, 17 and a line n + 39 (in edition two n + 46, order
+-- W6), n being the length of the line's ciphertext. Assumes nothing.
 use mathlib.Core.Path.{_≡_, refl}
 use mathlib.Core.List.{List}
 use Prim.Native.Nat.{ℕ, _+_}
@@ -14,15 +14,15 @@ use Rattle.framing.specs.Told.{Told}
 use Rattle.framing.specs.Lengths.{besideLine}
 use Rattle.judging.specs.Sizes.{Sizes}
 use Rattle.judging.specs.Editions.{among-fields}
-use Rattle.judging.specs.Judged.{Judged, shape, stuffing, font, work, seal, unlisted, trade, line, callsIn}
+use Rattle.judging.specs.Judged.{Judged, shape, stuffing, font, work, seal, unlisted, trade, layout, line, callsIn}
 use Rattle.judging.specs.Judging.{judge}
-use Rattle.judging.specs.Cases.{Holds, Case, opening, judge-case, too-long, bad-stuffing, no-fields, other-font, other-seal, not-listed, not-trade, given}
+use Rattle.judging.specs.Cases.{Holds, Case, opening, judge-case, too-long, bad-stuffing, no-fields, other-font, other-seal, not-listed, not-trade, not-laid, given}
 
 -- the stretch's fields hold a ciphertext, and the count is that of opening one of its length
 abbrev pub OpenedWith : Told → ℕ → List ℕ → ℕ → Type 0
 OpenedWith t ed s calls = (own : Own) × (cipher T : List ℕ) × Holds ed s own (t .font) cipher T × (calls ≡ length cipher + besideLine (own .edition))
 
--- case by case, in the order of the numbers: 7, 6, 8, 5, 9, 13, a line
+-- case by case, in the order of the numbers: 7, 6, 8, 5, 9, 13, 17, a line
 abbrev pub Counted : Told → ℕ → List ℕ → Judged → Type 0
 Counted t ed s shape = callsIn shape ≡ 0
 Counted t ed s stuffing = callsIn stuffing ≡ 0
@@ -31,6 +31,7 @@ Counted t ed s work = callsIn work ≡ 0
 Counted t ed s (seal n) = OpenedWith t ed s (callsIn (seal n))
 Counted t ed s (unlisted n) = OpenedWith t ed s (callsIn (unlisted n))
 Counted t ed s (trade n) = OpenedWith t ed s (callsIn (trade n))
+Counted t ed s (layout n) = OpenedWith t ed s (callsIn (layout n))
 Counted t ed s (line k l n) = OpenedWith t ed s (callsIn (line k l n))
 
 pub opening-calls : (t : Told) → Sizes t → (own : Own) → length (own .job) ≡ jobSize (own .edition) → (cipher : List ℕ)
@@ -56,4 +57,5 @@ read-calls t z ed s = by-case (judge t ed s) (judge-case t ed s)
     by-case _ (other-seal own cipher T h n) = (own, cipher, T, h, opening-calls t z own (held h) cipher)
     by-case _ (not-listed own cipher h e) = (own, cipher, _, h, opening-calls t z own (held h) cipher)
     by-case _ (not-trade own cipher h e) = (own, cipher, _, h, opening-calls t z own (held h) cipher)
+    by-case _ (not-laid own cipher h e) = (own, cipher, _, h, opening-calls t z own (held h) cipher)
     by-case _ (given own cipher h e) = (own, cipher, _, h, opening-calls t z own (held h) cipher)

@@ -1,4 +1,4 @@
--- What one stretch is found to be, with the number, line and count for each case (document 01, 'Numbers returned'; order W2).
+-- What one stretch is found to be, with the number, line and count for each case (document 01, 'Numbers returned'; orders W2 and W7).
 -- Assumes nothing: these are definitions.
 use mathlib.Core.List.{List, []}
 use Prim.Native.Nat.{ℕ}
@@ -21,7 +21,7 @@ noLabel = label 0 0
 abbrev pub labelOf : Own → Label
 labelOf own = label (editionNumber (own .edition)) (jobNumber (own .job))
 
--- 7, 6, 8, 15; 5, 9 and 13 with the calls of the permutation made; a line with its label and them
+-- 7, 6, 8, 15; 5, 9, 13 and 17 with the calls of the permutation made; a line with its label and them
 pub data Judged : Type 0 where
   shape : Judged
   stuffing : Judged
@@ -30,6 +30,7 @@ pub data Judged : Type 0 where
   seal : ℕ → Judged
   unlisted : ℕ → Judged
   trade : ℕ → Judged
+  layout : ℕ → Judged
   line : Label → List ℕ → ℕ → Judged
 
 abbrev pub numberIn : Judged → ℕ
@@ -40,6 +41,7 @@ numberIn work = 15
 numberIn (seal n) = 5
 numberIn (unlisted n) = 9
 numberIn (trade n) = 13
+numberIn (layout n) = 17
 numberIn (line k l n) = 0
 
 -- the line given, empty where none is
@@ -51,6 +53,7 @@ lineIn work = []
 lineIn (seal n) = []
 lineIn (unlisted n) = []
 lineIn (trade n) = []
+lineIn (layout n) = []
 lineIn (line k l n) = l
 
 -- the label that it is given with
@@ -62,9 +65,10 @@ labelIn work = noLabel
 labelIn (seal n) = noLabel
 labelIn (unlisted n) = noLabel
 labelIn (trade n) = noLabel
+labelIn (layout n) = noLabel
 labelIn (line k l n) = k
 
--- the count: 0 on every refusal but 5, 9 and 13
+-- the count: 0 on every refusal but 5, 9, 13 and 17
 abbrev pub callsIn : Judged → ℕ
 callsIn shape = 0
 callsIn stuffing = 0
@@ -73,4 +77,5 @@ callsIn work = 0
 callsIn (seal n) = n
 callsIn (unlisted n) = n
 callsIn (trade n) = n
+callsIn (layout n) = n
 callsIn (line k l n) = n

@@ -1,5 +1,5 @@
--- What a stretch's bytes are found to be (document 01, 'Numbers returned', order of a stretch; orders W2 and W6): 7 for its length, 6, 7 for
--- its fields or their edition, 8, 5, 9, 13, else its line. Assumes nothing: these are definitions.
+-- What a stretch's bytes are found to be (document 01, 'Numbers returned', order of a stretch; orders W2, W6 and W7): 7 for its length, 6, 7 for
+-- its fields or their edition, 8, 5, 9, 13, 17, else its line. Assumes nothing: these are definitions.
 use mathlib.Core.Bool.{not, cond}
 use mathlib.Core.List.{List}
 use Prim.Native.Nat.{ℕ}
@@ -8,38 +8,40 @@ use Rattle.stuffing.specs.declared.Unstuffed.{Unstuffed}
 use Rattle.stuffing.specs.declared.Unstuffed.the-variants as unstuffed-is
 use Rattle.stuffing.specs.Stuffing.{unstuffed}
 use Rattle.stuffing.specs.Answers.{lengthAnswer}
-use Rattle.line.specs.declared.Judged as line-judged
-use Rattle.line.specs.declared.Judged.the-variants.{Accepted, Unlisted, Trade}
-use Rattle.line.specs.Lines.{lineRule}
+use Rattle.layout.specs.declared.Layout as layouts
+use Rattle.layout.specs.declared.Judged as line-judged
+use Rattle.layout.specs.declared.Judged.the-variants.{Accepted, Unlisted, Trade, Layout}
+use Rattle.layout.specs.Layouts.{layoutRule}
 use Rattle.cipher.specs.Instances.{first}
 use Rattle.cipher.specs.Cipher.{Work, decrypted, accepted}
 use Rattle.body.specs.Fields.{Fields, fields, no-body, fieldsOf, associated}
 use Rattle.framing.specs.Told.{Told}
 use Rattle.judging.specs.Editions.{among}
-use Rattle.judging.specs.Judged.{Label, labelOf, Judged, shape, stuffing, font, seal, unlisted, trade, line}
+use Rattle.judging.specs.Judged.{Label, labelOf, Judged, shape, stuffing, font, seal, unlisted, trade, layout, line}
 
--- by the rule of a line: 9, 13
+-- by the rule of a line and its layout: 9, 13, 17
 abbrev pub byRule : line-judged.Judged → Label → Work → Judged
 byRule Unlisted k w = unlisted (w .calls)
 byRule Trade k w = trade (w .calls)
+byRule Layout k w = layout (w .calls)
 byRule Accepted k w = line k (w .text) (w .calls)
 
--- what opening finds under the seal T: 5, then 9 and 13
-abbrev pub judgeWork : Label → Work → List ℕ → Judged
-judgeWork k w T =
+-- what opening finds under the seal T: 5, then 9, 13 and 17
+abbrev pub judgeWork : layouts.Layout → Label → Work → List ℕ → Judged
+judgeWork l k w T =
     cond (not (accepted (w .seal) T)) (seal (w .calls))
-    (byRule (lineRule (w .text)) k w)
+    (byRule (layoutRule l (w .text)) k w)
 
 -- sealed fields are opened under the first instance
-unfoldable pub judgeSealed : Label → List ℕ → List ℕ → List ℕ → List ℕ → List ℕ → Judged
-judgeSealed k key nonce A cipher T = judgeWork k (decrypted first key nonce A cipher) T
+unfoldable pub judgeSealed : layouts.Layout → Label → List ℕ → List ℕ → List ℕ → List ℕ → List ℕ → Judged
+judgeSealed l k key nonce A cipher T = judgeWork l k (decrypted first key nonce A cipher) T
 
 -- what a body's fields hold: 7, then 8
 abbrev pub judgeFields : Told → Fields → Judged
 judgeFields t no-body = shape
 judgeFields t (fields own digest cipher T) =
     cond (not (same digest (t .font))) font
-    (judgeSealed (labelOf own) (t .key) (own .nonce) (associated (own .edition) digest (own .job)) cipher T)
+    (judgeSealed (t .layout) (labelOf own) (t .key) (own .nonce) (associated (own .edition) digest (own .job)) cipher T)
 
 -- what the unstuffed length is found to be: 7 for the stretch's length, then 6 (there is no buffer, so room never lacks)
 abbrev pub byStuffing : Unstuffed → Judged → Judged

@@ -13,3 +13,4 @@ pub mod Reaching
 pub mod Joining
 pub mod OtherFont
 pub mod EditionOne
+pub mod Narrowing

@@ -7,10 +7,10 @@ use Rattle.lists.specs.Sameness.{same-refl}
 use Rattle.stuffing.specs.Stuffing.{unstuffed}
 use Rattle.stuffing.specs.Answers.{lengthAnswer, unstuffNumber}
 use Rattle.stuffing.specs.Outcomes.{length-too-long, length-bad, length-good}
-use Rattle.line.specs.declared.Judged as line-judged
-use Rattle.line.specs.declared.Judged.the-variants.{Accepted, Unlisted, Trade}
-use Rattle.line.specs.Lines as lines
-use Rattle.line.specs.Lines.{lineRule}
+use Rattle.layout.specs.declared.Judged as line-judged
+use Rattle.layout.specs.declared.Judged.the-variants.{Accepted, Unlisted, Trade, Layout}
+use Rattle.layout.specs.Layouts as lines
+use Rattle.layout.specs.Layouts.{layoutRule}
 use Rattle.cipher.specs.Cipher.{Work}
 use Rattle.body.specs.Fields.{Own, Fields, fields, no-body, fieldsOf}
 use Rattle.body.specs.Answers.{judged, judgeNumber}
@@ -18,7 +18,7 @@ use Rattle.framing.specs.Told.{Told}
 use Rattle.judging.specs.Editions.{among}
 use Rattle.judging.specs.Judged.{Label, labelOf, Judged, numberIn}
 use Rattle.judging.specs.Judging.{byRule, judgeSealed, judgeFields, judge}
-use Rattle.judging.specs.Cases.{Stuffed, Holds, Case, opening, judge-case, judge-fields, judge-holds, too-long, bad-stuffing, no-fields, other-font, other-seal, not-listed, not-trade, given}
+use Rattle.judging.specs.Cases.{Stuffed, Holds, Case, opening, judge-case, judge-fields, judge-holds, too-long, bad-stuffing, no-fields, other-font, other-seal, not-listed, not-trade, not-laid, given}
 
 module _ (t : Told) (ed : ℕ) (s : List ℕ) where
   -- a stretch that is too long or badly stuffed: 7, 6
@@ -36,6 +36,7 @@ module _ (t : Told) (ed : ℕ) (s : List ℕ) where
       by-case _ (other-seal own cipher T h m) = good (h .0)
       by-case _ (not-listed own cipher h e) = good (h .0)
       by-case _ (not-trade own cipher h e) = good (h .0)
+      by-case _ (not-laid own cipher h e) = good (h .0)
       by-case _ (given own cipher h e) = good (h .0)
 
   -- a stretch that holds no body: 7
@@ -47,15 +48,16 @@ module _ (t : Told) (ed : ℕ) (s : List ℕ) where
       by-fields no-body m = refl
       by-fields (fields own digest cipher T) m = absurd (m refl)
 
-  -- a stretch whose font and seal are right: 9, 13, or a line
+  -- a stretch whose font and seal are right: 9, 13, 17, or a line
   pub line-number : (own : Own) (cipher : List ℕ) → Holds ed s own (t .font) cipher (opening t own (t .font) cipher .seal)
-      → numberIn (judge t ed s) ≡ lines.numberOf (lineRule (opening t own (t .font) cipher .text))
+      → numberIn (judge t ed s) ≡ lines.numberOf (layoutRule (t .layout) (opening t own (t .font) cipher .text))
   unfolding judgeSealed
   line-number own cipher h =
       let w = opening t own (t .font) cipher in
-      ap numberIn (judge-holds t ed s h) ∙ rw (same-refl (t .font), same-refl (w .seal)) (by-rule (lineRule (w .text)) (labelOf own) w)
+      ap numberIn (judge-holds t ed s h) ∙ rw (same-refl (t .font), same-refl (w .seal)) (by-rule (layoutRule (t .layout) (w .text)) (labelOf own) w)
     where
       by-rule : (r : line-judged.Judged) (k : Label) (w : Work) → numberIn (byRule r k w) ≡ lines.numberOf r
       by-rule Accepted k w = refl
       by-rule Unlisted k w = refl
       by-rule Trade k w = refl
+      by-rule Layout k w = refl

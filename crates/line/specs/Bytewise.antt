@@ -35,6 +35,10 @@ pub is-transit : (b : ℕ) → isTransit b ≡ true → b ≡ transit
 unfolding isTransit
 is-transit b e = eqb-true b transit e
 
+pub transit-is : (b : ℕ) → b ≡ transit → isTransit b ≡ true
+unfolding isTransit
+transit-is b e = rw e
+
 pub not-transit : (b : ℕ) → isTransit b ≡ false → b ≡ transit → ⊥
 unfolding isTransit
 not-transit b e = eqb-false b transit e

@@ -23,6 +23,9 @@ lastDigit = 0x39
 abbrev pub transit : ℕ
 transit = 0x41
 
+abbrev pub onUs : ℕ
+onUs = 0x43
+
 abbrev pub dash : ℕ
 dash = 0x44
 

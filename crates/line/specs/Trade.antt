@@ -11,7 +11,7 @@ use borrow.Author.Tests.{eqb-true}
 use Rattle.lists.specs.Never.{never}
 use Rattle.lists.specs.Free.{Free}
 use Rattle.line.specs.Lines.{firstDigit, lastDigit, transit, isDigit, isTransit, anyDigit, allDigits, transits, before, behind, between, nine, transitsRight, isTrade}
-use Rattle.line.specs.Bytewise.{is-digit, digit-is, is-transit, not-transit, transit-apart, digit-apart, transits-more, before-none, behind-all, transits-same, before-more, behind-same}
+use Rattle.line.specs.Bytewise.{is-digit, digit-is, is-transit, transit-is, not-transit, transit-apart, digit-apart, transits-more, before-none, behind-all, transits-same, before-more, behind-same}
 
 abbrev pub Digit : ℕ → Type 0
 Digit b = (firstDigit ≤ b) × (b ≤ lastDigit)
@@ -33,8 +33,7 @@ pub data TradeLine (s : List ℕ) : Type 0 where
       → length middle ≡ nine → Digits middle → TradeLine s
 
 the-transit : isTransit transit ≡ true
-unfolding isTransit
-the-transit = refl
+the-transit = transit-is transit refl
 
 -- the tests of digits say what the statements say
 has-digit : (s : List ℕ) → anyDigit s ≡ true → HasDigit s
@@ -55,7 +54,7 @@ digit-has (b ∷ s) (later h) = go (isDigit b) (digit-has s h)
     go true e = refl
     go false e = e
 
-are-digits : (s : List ℕ) → allDigits s ≡ true → Digits s
+pub are-digits : (s : List ℕ) → allDigits s ≡ true → Digits s
 unfolding allDigits
 are-digits [] e = tt
 are-digits (b ∷ s) e = go (isDigit b) refl (are-digits s) e
@@ -64,13 +63,13 @@ are-digits (b ∷ s) e = go (isDigit b) refl (are-digits s) e
     go true p h e = (is-digit b p, h e)
     go false p h e = never e
 
-digits-are : (s : List ℕ) → Digits s → allDigits s ≡ true
+pub digits-are : (s : List ℕ) → Digits s → allDigits s ≡ true
 unfolding allDigits
 digits-are [] d = refl
 digits-are (b ∷ s) d = rw (digit-is b (d .0 .0) (d .0 .1)) (digits-are s (d .1))
 
 -- digits hold no transit symbol
-digits-free : (s : List ℕ) → Digits s → Free transit s
+pub digits-free : (s : List ℕ) → Digits s → Free transit s
 digits-free [] d = tt
 digits-free (b ∷ s) d = (not-transit b (digit-apart b (digit-is b (d .0 .0) (d .0 .1))), digits-free s (d .1))
 

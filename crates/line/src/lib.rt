@@ -9,13 +9,16 @@ ghost use Rattle.line.specs.Passing.{atTransit, atDigit, atOther, passin
 pub const LONGEST: usize = 65;
 
 // The digits run from 0x30 (document 01).
-const FIRST_DIGIT: u8 = 0x30;
+pub const FIRST_DIGIT: u8 = 0x30;
 
 // They run to 0x39 (document 01).
-const LAST_DIGIT: u8 = 0x39;
+pub const LAST_DIGIT: u8 = 0x39;
 
 // The first of the four symbols: A transit, B amount, C on-us, D dash (document 01).
-const TRANSIT: u8 = b'A';
+pub const TRANSIT: u8 = b'A';
+
+// The third, by itself (order W7).
+pub const ON_US: u8 = b'C';
 
 // The last of them.
 const DASH: u8 = b'D';
@@ -24,7 +27,7 @@ const DASH: u8 = b'D';
 const BLANK: u8 = 0x20;
 
 // How many digits stand between two transit symbols (order W2).
-const BETWEEN: usize = 9;
+pub const BETWEEN: usize = 9;
 
 // What a line is found to be.
 pub enum Judged {

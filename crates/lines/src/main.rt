@@ -3,6 +3,7 @@
 use digest::DIGEST;
 use files::Loaded;
 use frame::KEY_LENGTH;
+use layout::Layout;
 use libc::STDERR_FILENO;
 use libc::STDIN_FILENO;
 use libc::STDOUT_FILENO;
@@ -101,11 +102,12 @@ fn stopped(t: Tally, failed: bool) -> Tally {
     }
 }
 
-// One reading and its row, of edition one and with all the work allowed. The two places of a stretch differ; those of the end, and of a call that is refused, do not.
+// One reading and its row, of edition one, with all the work allowed and no layout named. The two places of a stretch differ; those of the end, and of a call that is refused, do not.
 fn one(stream: &[u8], key: &[u8], font: &[u8], line: &mut [u8], t: Tally) -> Tally {
     let everything = Asked {
         editions: EDITION_ONE,
         allowed: ALL_WORK,
+        layout: Layout::Neither,
     };
     let reading = reader::read(stream, t.next, key, font, everything, line);
     if reading.first == reading.closing {

@@ -96,14 +96,14 @@ lubdhvani-open-single κs a r r′ x x′ p q = (p .0 ∙ sym (q .0), p .1 .0 �
 pub lubdhvani-write-single : (κs : Lfts 7) (a : Dens κs write-kinds.ps) (r r′ : ℕ)
     (x x′ : AtExit (endedOf 7 write-kinds.ps write-kinds.r) κs)
     → write-reads.Post κs a r x → write-reads.Post κs a r′ x′
-    → (r ≡ r′) × (x .1 .1 .1 .1 .0 .now ≡ x′ .1 .1 .1 .1 .0 .now) × (x .1 .1 .1 .1 .1 .0 .now ≡ x′ .1 .1 .1 .1 .1 .0 .now) × (x .1 .1 .1 .1 .1 .1 .0 .now ≡ x′ .1 .1 .1 .1 .1 .1 .0 .now)
+    → (r ≡ r′) × (x .1 .1 .1 .1 .1 .0 .now ≡ x′ .1 .1 .1 .1 .1 .0 .now) × (x .1 .1 .1 .1 .1 .1 .0 .now ≡ x′ .1 .1 .1 .1 .1 .1 .0 .now) × (x .1 .1 .1 .1 .1 .1 .1 .0 .now ≡ x′ .1 .1 .1 .1 .1 .1 .1 .0 .now)
 lubdhvani-write-single κs a r r′ x x′ p q =
     (p .0 ∙ sym (q .0), p .1 .0 ∙ sym (q .1 .0), p .1 .1 .0 ∙ sym (q .1 .1 .0), p .1 .1 .1 ∙ sym (q .1 .1 .1))
 
 pub lubdhvani-write-two-single : (κs : Lfts 8) (a : Dens κs two-kinds.ps) (r r′ : ℕ)
     (x x′ : AtExit (endedOf 8 two-kinds.ps two-kinds.r) κs)
     → two-reads.Post κs a r x → two-reads.Post κs a r′ x′
-    → (r ≡ r′) × (x .1 .1 .1 .1 .1 .0 .now ≡ x′ .1 .1 .1 .1 .1 .0 .now) × (x .1 .1 .1 .1 .1 .1 .0 .now ≡ x′ .1 .1 .1 .1 .1 .1 .0 .now) × (x .1 .1 .1 .1 .1 .1 .1 .0 .now ≡ x′ .1 .1 .1 .1 .1 .1 .1 .0 .now)
+    → (r ≡ r′) × (x .1 .1 .1 .1 .1 .1 .0 .now ≡ x′ .1 .1 .1 .1 .1 .1 .0 .now) × (x .1 .1 .1 .1 .1 .1 .1 .0 .now ≡ x′ .1 .1 .1 .1 .1 .1 .1 .0 .now) × (x .1 .1 .1 .1 .1 .1 .1 .1 .0 .now ≡ x′ .1 .1 .1 .1 .1 .1 .1 .1 .0 .now)
 lubdhvani-write-two-single κs a r r′ x x′ p q =
     (p .0 ∙ sym (q .0), p .1 .0 ∙ sym (q .1 .0), p .1 .1 .0 ∙ sym (q .1 .1 .0), p .1 .1 .1 ∙ sym (q .1 .1 .1))
 
@@ -184,10 +184,10 @@ lubdhvani-finish-single κs a r r′ x x′ p q = (p .0 ∙ sym (q .0), p .1 ∙
 
 pub lubdhvani-to-one-single : (κs : Lfts 6) (a : Dens κs to-one-kinds.ps) (r r′ : ℕ)
     (x x′ : AtExit (endedOf 6 to-one-kinds.ps to-one-kinds.r) κs)
-    → to-one-reads.Post κs a r x → to-one-reads.Post κs a r′ x′ → (r ≡ r′) × (x .1 .1 .1 .1 .0 .now ≡ x′ .1 .1 .1 .1 .0 .now) × (x .1 .1 .1 .1 .1 .0 .now ≡ x′ .1 .1 .1 .1 .1 .0 .now)
+    → to-one-reads.Post κs a r x → to-one-reads.Post κs a r′ x′ → (r ≡ r′) × (x .1 .1 .1 .1 .1 .0 .now ≡ x′ .1 .1 .1 .1 .1 .0 .now) × (x .1 .1 .1 .1 .1 .1 .0 .now ≡ x′ .1 .1 .1 .1 .1 .1 .0 .now)
 lubdhvani-to-one-single κs a r r′ x x′ p q = (p .0 ∙ sym (q .0), p .1 .0 ∙ sym (q .1 .0), p .1 .1 ∙ sym (q .1 .1))
 
 pub lubdhvani-to-two-single : (κs : Lfts 7) (a : Dens κs to-two-kinds.ps) (r r′ : ℕ)
     (x x′ : AtExit (endedOf 7 to-two-kinds.ps to-two-kinds.r) κs)
-    → to-two-reads.Post κs a r x → to-two-reads.Post κs a r′ x′ → (r ≡ r′) × (x .1 .1 .1 .1 .1 .0 .now ≡ x′ .1 .1 .1 .1 .1 .0 .now) × (x .1 .1 .1 .1 .1 .1 .0 .now ≡ x′ .1 .1 .1 .1 .1 .1 .0 .now)
+    → to-two-reads.Post κs a r x → to-two-reads.Post κs a r′ x′ → (r ≡ r′) × (x .1 .1 .1 .1 .1 .1 .0 .now ≡ x′ .1 .1 .1 .1 .1 .1 .0 .now) × (x .1 .1 .1 .1 .1 .1 .1 .0 .now ≡ x′ .1 .1 .1 .1 .1 .1 .1 .0 .now)
 lubdhvani-to-two-single κs a r r′ x x′ p q = (p .0 ∙ sym (q .0), p .1 .0 ∙ sym (q .1 .0), p .1 .1 ∙ sym (q .1 .1))

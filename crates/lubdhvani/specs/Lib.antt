@@ -1,3 +1,4 @@
 pub mod Calls
 pub mod InPlace
 pub mod Readings
+pub mod Named

@@ -2,6 +2,7 @@
 -- Assumes nothing.
 use mathlib.Core.Path.{_≡_, ap}
 use Prim.Native.Nat.{ℕ}
+use Rattle.layout.specs.Layouts.{layoutOf}
 use Rattle.reader.specs.Answers.{numberOf, lengthOf, callsOf, givenOf}
 use Rattle.reader.specs.declared.Asked as told-anew
 use Rattle.reader.specs.declared.Reading as reading
@@ -9,7 +10,7 @@ use Rattle.lubdhvani.specs.declared.Asked.{Asked}
 use Rattle.lubdhvani.specs.declared.Reading.{Reading}
 
 abbrev pub askedOf : Asked → told-anew.Asked
-askedOf a = record { editions = a .editions; allowed = a .allowed }
+askedOf a = record { editions = a .editions; allowed = a .allowed; layout = layoutOf (a .layout) }
 
 abbrev pub readingOut : reading.Reading → Reading
 readingOut r = record {

@@ -17,6 +17,7 @@ ghost use Rattle.body.specs.declared.Edition.the-variants.{One, Two};
 ghost use Rattle.body.specs.Fields.{ownOf};
 ghost use Rattle.converter.specs.Answers as converting;
 ghost use Rattle.converter.specs.Answers.{convertCall};
+ghost use Rattle.layout.specs.Layouts.{layoutOf};
 ghost use Rattle.framing.specs.Told.{told};
 ghost use Rattle.reader.specs.Answers.{readAnswer, readOut};
 ghost use Rattle.stream.specs.Stretches.{nextSpan};
@@ -27,6 +28,7 @@ ghost use Rattle.lubdhvani.specs.Calls.{permuteNumber, permuteState};
 ghost use Rattle.lubdhvani.specs.Readings.{askedOf, readingOut};
 use gage::Answer;
 use gage::LARGEST;
+use layout::layout_of;
 use numbers::digest_count;
 use numbers::digest_number;
 use numbers::open_count;
@@ -191,17 +193,18 @@ pub extern "C" fn lubdhvani_write(
     key: &[u8],
     nonce: &[u8],
     font: &[u8],
+    layout: usize,
     line: &[u8],
     frame: &mut [u8],
     length: &mut usize,
     calls: &mut usize,
 ) -> u32
-    ensures { λ r. ⌜ r ≡ writing.numberOf (writeCall (told (now (key .entry)) (now (font .entry))) (ownOf One (now (nonce .entry)) []) (now (line .entry)) (now (frame .entry)) .answer) ⌝ }
-    ensures { λ _. ⌜ now (frame .exit) ≡ writeCall (told (now (key .entry)) (now (font .entry))) (ownOf One (now (nonce .entry)) []) (now (line .entry)) (now (frame .entry)) .frame ⌝ }
-    ensures { λ _. ⌜ now (length .exit) ≡ writing.lengthOf (writeCall (told (now (key .entry)) (now (font .entry))) (ownOf One (now (nonce .entry)) []) (now (line .entry)) (now (frame .entry)) .answer) ⌝ }
-    ensures { λ _. ⌜ now (calls .exit) ≡ writing.countOf (writeCall (told (now (key .entry)) (now (font .entry))) (ownOf One (now (nonce .entry)) []) (now (line .entry)) (now (frame .entry)) .answer) ⌝ }
+    ensures { λ r. ⌜ r ≡ writing.numberOf (writeCall (told (now (key .entry)) (now (font .entry)) (layoutOf layout)) (ownOf One (now (nonce .entry)) []) (now (line .entry)) (now (frame .entry)) .answer) ⌝ }
+    ensures { λ _. ⌜ now (frame .exit) ≡ writeCall (told (now (key .entry)) (now (font .entry)) (layoutOf layout)) (ownOf One (now (nonce .entry)) []) (now (line .entry)) (now (frame .entry)) .frame ⌝ }
+    ensures { λ _. ⌜ now (length .exit) ≡ writing.lengthOf (writeCall (told (now (key .entry)) (now (font .entry)) (layoutOf layout)) (ownOf One (now (nonce .entry)) []) (now (line .entry)) (now (frame .entry)) .answer) ⌝ }
+    ensures { λ _. ⌜ now (calls .exit) ≡ writing.countOf (writeCall (told (now (key .entry)) (now (font .entry)) (layoutOf layout)) (ownOf One (now (nonce .entry)) []) (now (line .entry)) (now (frame .entry)) .answer) ⌝ }
 {
-    let answer = frame::write(key, nonce, font, line, frame);
+    let answer = frame::write(key, nonce, font, layout_of(layout), line, frame);
     *length = write_length(answer);
     *calls = write_count(answer);
     write_number(answer)
@@ -213,18 +216,19 @@ pub extern "C" fn lubdhvani_write_two(
     key: &[u8],
     nonce: &[u8],
     font: &[u8],
+    layout: usize,
     job: &[u8],
     line: &[u8],
     frame: &mut [u8],
     length: &mut usize,
     calls: &mut usize,
 ) -> u32
-    ensures { λ r. ⌜ r ≡ writing.numberOf (writeCall (told (now (key .entry)) (now (font .entry))) (ownOf Two (now (nonce .entry)) (now (job .entry))) (now (line .entry)) (now (frame .entry)) .answer) ⌝ }
-    ensures { λ _. ⌜ now (frame .exit) ≡ writeCall (told (now (key .entry)) (now (font .entry))) (ownOf Two (now (nonce .entry)) (now (job .entry))) (now (line .entry)) (now (frame .entry)) .frame ⌝ }
-    ensures { λ _. ⌜ now (length .exit) ≡ writing.lengthOf (writeCall (told (now (key .entry)) (now (font .entry))) (ownOf Two (now (nonce .entry)) (now (job .entry))) (now (line .entry)) (now (frame .entry)) .answer) ⌝ }
-    ensures { λ _. ⌜ now (calls .exit) ≡ writing.countOf (writeCall (told (now (key .entry)) (now (font .entry))) (ownOf Two (now (nonce .entry)) (now (job .entry))) (now (line .entry)) (now (frame .entry)) .answer) ⌝ }
+    ensures { λ r. ⌜ r ≡ writing.numberOf (writeCall (told (now (key .entry)) (now (font .entry)) (layoutOf layout)) (ownOf Two (now (nonce .entry)) (now (job .entry))) (now (line .entry)) (now (frame .entry)) .answer) ⌝ }
+    ensures { λ _. ⌜ now (frame .exit) ≡ writeCall (told (now (key .entry)) (now (font .entry)) (layoutOf layout)) (ownOf Two (now (nonce .entry)) (now (job .entry))) (now (line .entry)) (now (frame .entry)) .frame ⌝ }
+    ensures { λ _. ⌜ now (length .exit) ≡ writing.lengthOf (writeCall (told (now (key .entry)) (now (font .entry)) (layoutOf layout)) (ownOf Two (now (nonce .entry)) (now (job .entry))) (now (line .entry)) (now (frame .entry)) .answer) ⌝ }
+    ensures { λ _. ⌜ now (calls .exit) ≡ writing.countOf (writeCall (told (now (key .entry)) (now (font .entry)) (layoutOf layout)) (ownOf Two (now (nonce .entry)) (now (job .entry))) (now (line .entry)) (now (frame .entry)) .answer) ⌝ }
 {
-    let answer = frame::write_two(key, nonce, font, job, line, frame);
+    let answer = frame::write_two(key, nonce, font, layout_of(layout), job, line, frame);
     *length = write_length(answer);
     *calls = write_count(answer);
     write_number(answer)
@@ -236,15 +240,16 @@ pub extern "C" fn lubdhvani_to_one(
     stretch: &[u8],
     key: &[u8],
     font: &[u8],
+    layout: usize,
     nonce: &[u8],
     frame: &mut [u8],
     length: &mut usize,
 ) -> u32
-    ensures { λ r. ⌜ r ≡ converting.numberOf (convertCall (told (now (key .entry)) (now (font .entry))) (ownOf One (now (nonce .entry)) []) (now (stretch .entry)) (now (frame .entry)) .answer) ⌝ }
-    ensures { λ _. ⌜ now (frame .exit) ≡ convertCall (told (now (key .entry)) (now (font .entry))) (ownOf One (now (nonce .entry)) []) (now (stretch .entry)) (now (frame .entry)) .frame ⌝ }
-    ensures { λ _. ⌜ now (length .exit) ≡ converting.lengthIn (convertCall (told (now (key .entry)) (now (font .entry))) (ownOf One (now (nonce .entry)) []) (now (stretch .entry)) (now (frame .entry)) .answer) ⌝ }
+    ensures { λ r. ⌜ r ≡ converting.numberOf (convertCall (told (now (key .entry)) (now (font .entry)) (layoutOf layout)) (ownOf One (now (nonce .entry)) []) (now (stretch .entry)) (now (frame .entry)) .answer) ⌝ }
+    ensures { λ _. ⌜ now (frame .exit) ≡ convertCall (told (now (key .entry)) (now (font .entry)) (layoutOf layout)) (ownOf One (now (nonce .entry)) []) (now (stretch .entry)) (now (frame .entry)) .frame ⌝ }
+    ensures { λ _. ⌜ now (length .exit) ≡ converting.lengthIn (convertCall (told (now (key .entry)) (now (font .entry)) (layoutOf layout)) (ownOf One (now (nonce .entry)) []) (now (stretch .entry)) (now (frame .entry)) .answer) ⌝ }
 {
-    let answer = converter::to_one(stretch, key, font, nonce, frame);
+    let answer = converter::to_one(stretch, key, font, layout_of(layout), nonce, frame);
     *length = converter::frame_length(answer);
     converter::number(answer)
 }
@@ -255,16 +260,17 @@ pub extern "C" fn lubdhvani_to_two(
     stretch: &[u8],
     key: &[u8],
     font: &[u8],
+    layout: usize,
     nonce: &[u8],
     job: &[u8],
     frame: &mut [u8],
     length: &mut usize,
 ) -> u32
-    ensures { λ r. ⌜ r ≡ converting.numberOf (convertCall (told (now (key .entry)) (now (font .entry))) (ownOf Two (now (nonce .entry)) (now (job .entry))) (now (stretch .entry)) (now (frame .entry)) .answer) ⌝ }
-    ensures { λ _. ⌜ now (frame .exit) ≡ convertCall (told (now (key .entry)) (now (font .entry))) (ownOf Two (now (nonce .entry)) (now (job .entry))) (now (stretch .entry)) (now (frame .entry)) .frame ⌝ }
-    ensures { λ _. ⌜ now (length .exit) ≡ converting.lengthIn (convertCall (told (now (key .entry)) (now (font .entry))) (ownOf Two (now (nonce .entry)) (now (job .entry))) (now (stretch .entry)) (now (frame .entry)) .answer) ⌝ }
+    ensures { λ r. ⌜ r ≡ converting.numberOf (convertCall (told (now (key .entry)) (now (font .entry)) (layoutOf layout)) (ownOf Two (now (nonce .entry)) (now (job .entry))) (now (stretch .entry)) (now (frame .entry)) .answer) ⌝ }
+    ensures { λ _. ⌜ now (frame .exit) ≡ convertCall (told (now (key .entry)) (now (font .entry)) (layoutOf layout)) (ownOf Two (now (nonce .entry)) (now (job .entry))) (now (stretch .entry)) (now (frame .entry)) .frame ⌝ }
+    ensures { λ _. ⌜ now (length .exit) ≡ converting.lengthIn (convertCall (told (now (key .entry)) (now (font .entry)) (layoutOf layout)) (ownOf Two (now (nonce .entry)) (now (job .entry))) (now (stretch .entry)) (now (frame .entry)) .answer) ⌝ }
 {
-    let answer = converter::to_two(stretch, key, font, nonce, job, frame);
+    let answer = converter::to_two(stretch, key, font, layout_of(layout), nonce, job, frame);
     *length = converter::frame_length(answer);
     converter::number(answer)
 }
@@ -290,6 +296,7 @@ pub extern "C" fn lubdhvani_next_stretch(
 pub struct Asked {
     pub editions: usize,
     pub allowed: usize,
+    pub layout: usize,
 }
 
 // What a reading comes to, as a C struct without padding.
@@ -315,12 +322,13 @@ pub extern "C" fn lubdhvani_read(
     asked: Asked,
     line: &mut [u8],
 ) -> Reading
-    ensures { λ r. ⌜ r ≡ readingOut (readAnswer (told (now (key .entry)) (now (font .entry))) (askedOf asked) (now (stream .entry)) from (now (line .entry))) ⌝ }
-    ensures { λ _. ⌜ now (line .exit) ≡ readOut (told (now (key .entry)) (now (font .entry))) (askedOf asked) (now (stream .entry)) from (now (line .entry)) ⌝ }
+    ensures { λ r. ⌜ r ≡ readingOut (readAnswer (told (now (key .entry)) (now (font .entry)) (layoutOf (asked .layout))) (askedOf asked) (now (stream .entry)) from (now (line .entry))) ⌝ }
+    ensures { λ _. ⌜ now (line .exit) ≡ readOut (told (now (key .entry)) (now (font .entry)) (layoutOf (asked .layout))) (askedOf asked) (now (stream .entry)) from (now (line .entry)) ⌝ }
 {
     let told_anew = reader::Asked {
         editions: asked.editions,
         allowed: asked.allowed,
+        layout: layout_of(asked.layout),
     };
     let reading = reader::read(stream, from, key, font, told_anew, line);
     let answer = reading.answer;

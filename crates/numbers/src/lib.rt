@@ -105,6 +105,7 @@ pub fn write_number(answer: Written) -> u32
         Written::TooLong => 3,
         Written::Unlisted => 9,
         Written::Trade => 13,
+        Written::Layout => 17,
         Written::NoRoom => 4,
     }
 }
@@ -119,6 +120,7 @@ pub fn write_length(answer: Written) -> usize
         Written::TooLong => 0,
         Written::Unlisted => 0,
         Written::Trade => 0,
+        Written::Layout => 0,
         Written::NoRoom => 0,
     }
 }
@@ -133,6 +135,7 @@ pub fn write_count(answer: Written) -> usize
         Written::TooLong => NO_CALLS,
         Written::Unlisted => NO_CALLS,
         Written::Trade => NO_CALLS,
+        Written::Layout => NO_CALLS,
         Written::NoRoom => NO_CALLS,
     }
 }
@@ -154,6 +157,7 @@ pub fn read_number(answer: Answer) -> u32
         Answer::Seal(_) => 5,
         Answer::Unlisted(_) => 9,
         Answer::Trade(_) => 13,
+        Answer::Layout(_) => 17,
         Answer::Line {
             length: _,
             calls: _,
@@ -178,6 +182,7 @@ pub fn read_length(answer: Answer) -> usize
         Answer::Seal(_) => 0,
         Answer::Unlisted(_) => 0,
         Answer::Trade(_) => 0,
+        Answer::Layout(_) => 0,
         Answer::Line { length, calls: _ } => length,
     }
 }
@@ -199,6 +204,7 @@ pub fn read_count(answer: Answer) -> usize
         Answer::Seal(calls) => calls,
         Answer::Unlisted(calls) => calls,
         Answer::Trade(calls) => calls,
+        Answer::Layout(calls) => calls,
         Answer::Line { length: _, calls } => calls,
     }
 }
@@ -224,5 +230,6 @@ pub fn read_given(answer: Answer) -> u32
         Answer::Seal(_) => 0,
         Answer::Unlisted(_) => 0,
         Answer::Trade(_) => 0,
+        Answer::Layout(_) => 0,
     }
 }

@@ -25,7 +25,7 @@ within s from p e = rw e (next-within s from)
 
 module _ (key font : List ℕ) (b : Asked) (s : List ℕ) (from : ℕ) (o : List ℕ) where
   abbrev t : Told
-  t = told key font
+  t = told key font (b .layout)
 
   -- what a return has to show
   abbrev pub Met : Reading → List ℕ → Type 0

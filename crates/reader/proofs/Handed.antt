@@ -68,7 +68,7 @@ module _ (s o : List ℕ) where
 
 module _ (key font : List ℕ) (a : Asked) (s o : List ℕ) where
   abbrev t : Told
-  t = told key font
+  t = told key font (a .layout)
 
   -- what a return of `judge` has to show
   abbrev Met : Verdict → List ℕ → Type 0

@@ -10,9 +10,11 @@ use lib.Seq.{take-at, take-all}
 use denote.Enum.Declared.{tagOf}
 use types.Run.{OneOf}
 use Rattle.lists.specs.Buffers.{over, copied, cleared, same}
-use Rattle.line.specs.declared.Judged as line-judged
-use Rattle.line.specs.declared.Judged.the-variants.{Accepted, Unlisted, Trade}
-use Rattle.line.specs.Lines.{lineRule}
+use Rattle.layout.specs.declared.Judged as line-judged
+use Rattle.layout.specs.declared.Judged.the-variants.{Accepted, Unlisted, Trade}
+use Rattle.layout.specs.declared.Judged.the-variants as found-to-be
+use Rattle.layout.specs.declared.Layout.{Layout}
+use Rattle.layout.specs.Layouts.{layoutRule}
 use Rattle.ingage.specs.declared.Opened.{Opened}
 use Rattle.ingage.specs.declared.Opened.the-variants as opened
 use Rattle.cipher.specs.Instances.{named, FIRST, first, first-fits}
@@ -25,14 +27,14 @@ use Rattle.ingage.proofs.Opened as opened-type
 use Rattle.reader.specs.declared.Answer.{Answer}
 use Rattle.reader.specs.declared.Answer.the-variants as answer-is
 use Rattle.reader.specs.declared.Verdict.{Verdict}
-use Rattle.judging.specs.Judged.{Label, Judged, seal, unlisted, trade, line}
+use Rattle.judging.specs.Judged.{Label, Judged, seal, unlisted, trade, layout, line}
 use Rattle.judging.specs.Judging.{judgeWork, judgeSealed}
 use Rattle.reader.proofs.Shown.{Shows, shown}
 
 abbrev verdict : Answer → Label → Verdict
 verdict a k = record { answer = a; edition = k .edition; job = k .job }
 
-module _ (k : Label) (key nonce A C T : List ℕ) {room : List ℕ} (w : Within first key nonce A C T room) where
+module _ (f : Layout) (k : Label) (key nonce A C T : List ℕ) {room : List ℕ} (w : Within first key nonce A C T room) where
   abbrev work : Work
   work = decrypted first key nonce A C
 
@@ -53,11 +55,11 @@ module _ (k : Label) (key nonce A C T : List ℕ) {room : List ℕ} (w : Within 
     answers t p = q ∙ ap (λ (x : OpenCall). x .answer) is ∙ ap (λ (b : Bool). either b .answer) p
 
     -- another seal
-    pub told-seal : (n : ℕ) → r ≡ opened.Seal n → judgeSealed k key nonce A C T ≡ seal n
+    pub told-seal : (n : ℕ) → r ≡ opened.Seal n → judgeSealed f k key nonce A C T ≡ seal n
     unfolding judgeSealed
     told-seal n e = go (same (work .seal) T) refl
       where
-        go : (t : Bool) → same (work .seal) T ≡ t → judgeWork k work T ≡ seal n
+        go : (t : Bool) → same (work .seal) T ≡ t → judgeWork f k work T ≡ seal n
         go true p = absurd (let z : _≡_ {A = ℕ} 0 1 = cc (e, answers true p) in omega arith)
         go false p = let k : work .calls ≡ n = cc (e, answers false p) in rw (p, k)
 
@@ -106,31 +108,37 @@ module _ (k : Label) (key nonce A C T : List ℕ) {room : List ℕ} (w : Within 
           let z : length C - 0 ≡ length (work .text) = omega (arith, long) in
           rw (opens .out, z) (take-at (work .text) (drop (length (work .text)) room) (length (work .text)) refl)
 
-      pub told-unlisted : (j : line-judged.Judged) → j ≡ lineRule lent → j ≡ Unlisted → judgeSealed k key nonce A C T ≡ unlisted n
+      pub told-unlisted : (j : line-judged.Judged) → j ≡ layoutRule f lent → j ≡ Unlisted → judgeSealed f k key nonce A C T ≡ unlisted n
       unfolding judgeSealed
       told-unlisted j x y =
-          let u : lineRule (work .text) ≡ Unlisted = ap lineRule (sym found-is) ∙ sym x ∙ y in
+          let u : layoutRule f (work .text) ≡ Unlisted = ap (layoutRule f) (sym found-is) ∙ sym x ∙ y in
           rw (opens .sealed, u) (ap unlisted (opens .calls))
 
-      pub told-trade : (j : line-judged.Judged) → j ≡ lineRule lent → j ≡ Trade → judgeSealed k key nonce A C T ≡ trade n
+      pub told-trade : (j : line-judged.Judged) → j ≡ layoutRule f lent → j ≡ Trade → judgeSealed f k key nonce A C T ≡ trade n
       unfolding judgeSealed
       told-trade j x y =
-          let u : lineRule (work .text) ≡ Trade = ap lineRule (sym found-is) ∙ sym x ∙ y in
+          let u : layoutRule f (work .text) ≡ Trade = ap (layoutRule f) (sym found-is) ∙ sym x ∙ y in
           rw (opens .sealed, u) (ap trade (opens .calls))
 
-      told-line : (j : line-judged.Judged) → j ≡ lineRule lent → j ≡ Accepted → judgeSealed k key nonce A C T ≡ line k (work .text) n
+      pub told-layout : (j : line-judged.Judged) → j ≡ layoutRule f lent → j ≡ found-to-be.Layout → judgeSealed f k key nonce A C T ≡ layout n
+      unfolding judgeSealed
+      told-layout j x v =
+          let u : layoutRule f (work .text) ≡ found-to-be.Layout = ap (layoutRule f) (sym found-is) ∙ sym x ∙ v in
+          rw (opens .sealed, u) (ap layout (opens .calls))
+
+      told-line : (j : line-judged.Judged) → j ≡ layoutRule f lent → j ≡ Accepted → judgeSealed f k key nonce A C T ≡ line k (work .text) n
       unfolding judgeSealed
       told-line j x y =
-          let u : lineRule (work .text) ≡ Accepted = ap lineRule (sym found-is) ∙ sym x ∙ y in
+          let u : layoutRule f (work .text) ≡ Accepted = ap (layoutRule f) (sym found-is) ∙ sym x ∙ y in
           rw (opens .sealed, u) (ap (line k (work .text)) (opens .calls))
 
       -- the line is as long as the ciphertext, and copied whole
-      pub gives : (j : line-judged.Judged) → j ≡ lineRule lent → j ≡ Accepted
+      pub gives : (j : line-judged.Judged) → j ≡ layoutRule f lent → j ≡ Accepted
           → (l l′ : List ℕ) → length room ≤ length l → l′ ≡ copied lent l
-          → Shows (judgeSealed k key nonce A C T) l (verdict (answer-is.Line (length C) n) k) l′
+          → Shows (judgeSealed f k key nonce A C T) l (verdict (answer-is.Line (length C) n) k) l′
       gives j x y l l′ h c =
           let m =
-          shown (judgeSealed k key nonce A C T) l (line k (work .text) n) (told-line j x y)
+          shown (judgeSealed f k key nonce A C T) l (line k (work .text) n) (told-line j x y)
           (verdict (answer-is.Line (length C) n) k)
           (ap (λ (i : ℕ). verdict (answer-is.Line i n) k) (sym long)) in
           let fits : length (work .text) ≤ length l = omega (arith, long, w .room) in (

@@ -12,6 +12,7 @@ use Rattle.line.specs.Lines.{longest}
 use Rattle.cipher.specs.Instances.{first}
 use Rattle.cipher.specs.Results.{open-calls-first}
 use Rattle.ingage.specs.Exactly.{Within}
+use Rattle.layout.specs.declared.Layout.{Layout}
 use Rattle.body.specs.declared.Edition.{Edition}
 use Rattle.body.specs.declared.Edition.the-variants.{One, Two}
 use Rattle.body.specs.declared.Judged.the-variants as judged-is
@@ -94,7 +95,7 @@ module _ (t : Told) (ed a : ℕ) (b : List ℕ) (e : Edition) (n : ℕ) (p : Par
     pub other-font : same (digestIn b) (t .font) ≡ false → ceiling.within a (judgeFields t (among ed (fieldsOf b))) ≡ font
     other-font d = no-ceiling a font (ap (judgeFields t) its-fields ∙ rw d) refl
 
-    its-font : same (digestIn b) (t .font) ≡ true → judgeFields t (among ed (fieldsOf b)) ≡ judgeParts e n (t .key) b
+    its-font : same (digestIn b) (t .font) ≡ true → judgeFields t (among ed (fieldsOf b)) ≡ judgeParts (t .layout) e n (t .key) b
     its-font d = ap (judgeFields t) its-fields ∙ rw (d, p .associated-is)
 
     -- opening it takes n + 39 calls of the permutation, in edition two n + 46, whatever is found
@@ -104,7 +105,7 @@ module _ (t : Told) (ed a : ℕ) (b : List ℕ) (e : Edition) (n : ℕ) (p : Par
         let long : length (cipherIn more n b) ≡ n =
         length-take-le (cipherAt One + more + n - (cipherAt One + more)) (drop (cipherAt One + more) b) (omega (arith, length-drop (cipherAt One + more) b, p .length-is)) ∙ omega arith in
         ap callsIn (its-font d)
-        ∙ sealed-work (label (editionNumber e) (jobNumber (jobIn e b))) (t .key) (nonceIn b) (associatedIn more b) (cipherIn more n b) (sealIn more n b)
+        ∙ sealed-work (t .layout) (label (editionNumber e) (jobNumber (jobIn e b))) (t .key) (nonceIn b) (associatedIn more b) (cipherIn more n b) (sealIn more n b)
         ∙ omega (
           arith,
           open-calls-first (t .key) (nonceIn b) (associatedIn more b) (cipherIn more n b),
@@ -117,11 +118,11 @@ module _ (t : Told) (ed a : ℕ) (b : List ℕ) (e : Edition) (n : ℕ) (p : Par
     over-work d l = not-enough a (judgeFields t (among ed (fieldsOf b))) (omega (arith, its-work d, l))
 
     pub in-work : same (digestIn b) (t .font) ≡ true → n + besideLine e ≤ a
-        → ceiling.within a (judgeFields t (among ed (fieldsOf b))) ≡ judgeParts e n (t .key) b
+        → ceiling.within a (judgeFields t (among ed (fieldsOf b))) ≡ judgeParts (t .layout) e n (t .key) b
     in-work d l = enough-allowed a (judgeFields t (among ed (fieldsOf b))) (omega (arith, its-work d, l)) ∙ its-font d
 
 -- the parts as they are cut, with what was measured and numbered
-module _ (b key : List ℕ) (e : Edition) (n : ℕ) (p : Parts b e n) (more : ℕ) (m : more ≡ jobFieldLength e) where
+module _ (f : Layout) (b key : List ℕ) (e : Edition) (n : ℕ) (p : Parts b e n) (more : ℕ) (m : more ≡ jobFieldLength e) where
   -- what `open` asks of them
   pub within : length key ≡ keyLength → (o : List ℕ) → length o ≡ longest → Within first key (nonceIn b) (associatedIn more b) (cipherIn more n b) (sealIn more n b) o
   within z o l =
@@ -136,5 +137,5 @@ module _ (b key : List ℕ) (e : Edition) (n : ℕ) (p : Parts b e n) (more : �
       })
 
   pub found-by-parts : (i j : ℕ) → i ≡ editionNumber e → j ≡ jobNumber (jobIn e b)
-      → judgeParts e n key b ≡ judgeSealed (label i j) key (nonceIn b) (associatedIn more b) (cipherIn more n b) (sealIn more n b)
+      → judgeParts f e n key b ≡ judgeSealed f (label i j) key (nonceIn b) (associatedIn more b) (cipherIn more n b) (sealIn more n b)
   found-by-parts i j x y = rw (m, x, y)

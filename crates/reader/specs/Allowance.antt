@@ -12,7 +12,7 @@ use Rattle.stream.specs.Stretches.{nextSpan, nextStretch}
 use Rattle.line.specs.Lines.{longest}
 use Rattle.framing.specs.Told.{Told}
 use Rattle.judging.specs.Sizes.{Sizes}
-use Rattle.judging.specs.Judged.{Judged, shape, stuffing, font, work, seal, unlisted, trade, line, callsIn}
+use Rattle.judging.specs.Judged.{Judged, shape, stuffing, font, work, seal, unlisted, trade, layout, line, callsIn}
 use Rattle.judging.specs.Judging.{judge}
 use Rattle.judging.specs.Readings.{ends}
 use Rattle.judging.specs.Ceiling.{within, allWork}
@@ -30,6 +30,7 @@ calls-of work = refl
 calls-of (seal n) = refl
 calls-of (unlisted n) = refl
 calls-of (trade n) = refl
+calls-of (layout n) = refl
 calls-of (line k l n) = refl
 
 module _ (t : Told) (s : List ℕ) (from room : ℕ) where

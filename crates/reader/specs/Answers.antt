@@ -16,7 +16,7 @@ use Rattle.reader.specs.declared.Answer.{Answer}
 use Rattle.reader.specs.declared.Reading.{Reading}
 use Rattle.reader.specs.declared.Verdict.{Verdict}
 use Rattle.reader.specs.declared.Answer.the-variants as answer-is
-use Rattle.judging.specs.Judged.{Judged, shape, stuffing, font, work, seal, unlisted, trade, line, labelIn}
+use Rattle.judging.specs.Judged.{Judged, shape, stuffing, font, work, seal, unlisted, trade, layout, line, labelIn}
 use Rattle.judging.specs.Readings.{ends}
 use Rattle.judging.specs.Judging.{judge}
 use Rattle.judging.specs.Ceiling.{within}
@@ -57,6 +57,7 @@ answerOf work = answer-is.Work
 answerOf (seal n) = answer-is.Seal n
 answerOf (unlisted n) = answer-is.Unlisted n
 answerOf (trade n) = answer-is.Trade n
+answerOf (layout n) = answer-is.Layout n
 answerOf (line k l n) = answer-is.Line (length l) n
 
 -- a line is written over the buffer's start; nothing else is written
@@ -68,6 +69,7 @@ lineOver work o = o
 lineOver (seal n) o = o
 lineOver (unlisted n) o = o
 lineOver (trade n) o = o
+lineOver (layout n) o = o
 lineOver (line k l n) o = over l o
 
 -- an answer with no edition and no job
@@ -109,7 +111,7 @@ readAnswer t a s from o = readingOf (found t a s from (length o))
 abbrev pub readOut : Told → Asked → List ℕ → ℕ → List ℕ → List ℕ
 readOut t a s from o = buffer (found t a s from (length o)) o
 
--- the number of each answer (document 01, 'Numbers returned'; order W2)
+-- the number of each answer (document 01, 'Numbers returned'; orders W2, W5 and W7)
 abbrev pub numberOf : Answer → ℕ
 numberOf answer-is.Sizes = 2
 numberOf answer-is.TooLong = 3
@@ -123,6 +125,7 @@ numberOf answer-is.Work = 15
 numberOf (answer-is.Seal n) = 5
 numberOf (answer-is.Unlisted n) = 9
 numberOf (answer-is.Trade n) = 13
+numberOf (answer-is.Layout n) = 17
 numberOf (answer-is.Line k n) = 0
 
 -- the line's length, 0 where none is given
@@ -139,6 +142,7 @@ lengthOf answer-is.Work = 0
 lengthOf (answer-is.Seal n) = 0
 lengthOf (answer-is.Unlisted n) = 0
 lengthOf (answer-is.Trade n) = 0
+lengthOf (answer-is.Layout n) = 0
 lengthOf (answer-is.Line k n) = k
 
 -- the count of the calls of the permutation
@@ -155,6 +159,7 @@ callsOf answer-is.Work = 0
 callsOf (answer-is.Seal n) = n
 callsOf (answer-is.Unlisted n) = n
 callsOf (answer-is.Trade n) = n
+callsOf (answer-is.Layout n) = n
 callsOf (answer-is.Line k n) = n
 
 -- 1 where a line is given, else 0: it tells a line from the end of the stream, which has the number 0 too
@@ -171,4 +176,5 @@ givenOf answer-is.Work = 0
 givenOf (answer-is.Seal n) = 0
 givenOf (answer-is.Unlisted n) = 0
 givenOf (answer-is.Trade n) = 0
+givenOf (answer-is.Layout n) = 0
 givenOf (answer-is.Line k n) = 1

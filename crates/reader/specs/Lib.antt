@@ -1,3 +1,4 @@
 pub mod Answers
 pub mod Parts
 pub mod Allowance
+pub mod Narrowing

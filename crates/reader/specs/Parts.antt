@@ -3,6 +3,7 @@ use mathlib.Core.Path.{_≡_}
 use mathlib.Core.List.{List, []}
 use Prim.Native.Nat.{ℕ, _+_, _-_}
 use lib.ListN.{length, take, drop}
+use Rattle.layout.specs.declared.Layout.{Layout}
 use Rattle.body.specs.declared.Edition.{Edition}
 use Rattle.body.specs.declared.Edition.the-variants.{One, Two}
 use Rattle.body.specs.Fields.{nonceLength, digestLength, sealLength, jobLength, headLength, Own, ownOf, fields, fieldsOf, associated}
@@ -47,7 +48,7 @@ pub record Parts (b : List ℕ) (e : Edition) (n : ℕ) : Type 0 where
   pub length-is : length b ≡ besideCipher e + n
 
 -- what opening them finds
-abbrev pub judgeParts : Edition → ℕ → List ℕ → List ℕ → Judged
-judgeParts e n key b =
-    judgeSealed (label (editionNumber e) (jobNumber (jobIn e b))) key (nonceIn b) (associatedIn (jobFieldLength e) b) (cipherIn (jobFieldLength e) n b)
+abbrev pub judgeParts : Layout → Edition → ℕ → List ℕ → List ℕ → Judged
+judgeParts l e n key b =
+    judgeSealed l (label (editionNumber e) (jobNumber (jobIn e b))) key (nonceIn b) (associatedIn (jobFieldLength e) b) (cipherIn (jobFieldLength e) n b)
     (sealIn (jobFieldLength e) n b)

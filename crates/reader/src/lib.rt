@@ -1,4 +1,4 @@
-// The reader (document 01, 'A frame and a stream', and order W6): judging a stretch and the read call.
+// The reader (document 01, 'A frame and a stream', and orders W6 and W7): judging a stretch and the read call.
 // The promises cite specs/Answers.antt; the order in which a stretch is judged stands in judging/specs/Judging.antt.
 ghost use mathlib.Core.Path.{_≡_};
 ghost use Prim.Native.Nat.{_+_, _≤_};
@@ -40,7 +40,8 @@ use frame::BESIDE_LINE;
 use frame::KEY_LENGTH;
 use ingage::Opened;
 use ingage::open;
-use line::judge_line;
+use layout::Layout;
+use layout::judge_line;
 use lists::compare;
 use lists::copy;
 use stream::next_span;
@@ -54,11 +55,13 @@ pub const LONGEST_STREAM: usize = 65536;
 // All the work that a stretch can take, in calls of the permutation: that of the longest line, in edition two.
 pub const ALL_WORK: usize = LONGEST_LINE + BESIDE_LINE + HEAD_LENGTH + JOB_LENGTH;
 
-// What a reader is told anew at each call: which editions it allows, and how many calls of the permutation one stretch is allowed.
+// What a reader is told anew at each call: which editions it allows, how many calls of the permutation one stretch is allowed, and which layout
+// a line must have.
 pub struct Asked {
     // Two bits, 1 for edition one and 2 for edition two; other bits say nothing.
     pub editions: usize,
     pub allowed: usize,
+    pub layout: Layout,
 }
 
 // The editions that a reader can allow.
@@ -102,12 +105,14 @@ pub enum Answer {
     Font,
     // Opening it takes more calls of the permutation than are allowed; none was made.
     Work,
-    // The seal is not the one worked out; with the calls of the permutation made, as the next three.
+    // The seal is not the one worked out; with the calls of the permutation made, as the next four.
     Seal(usize),
     // The line holds a byte that is not listed.
     Unlisted(usize),
     // The line's bytes are listed, but it is not the trade's line.
     Trade(usize),
+    // It is the trade's line, but not of the layout named.
+    Layout(usize),
     // A line of that length is given.
     Line { length: usize, calls: usize },
 }
@@ -165,9 +170,10 @@ fn refused(answer: Answer) -> Verdict
     }
 }
 
-// Opens sealed fields and judges the line found, which is given with this edition and job. They are opened into a buffer beside the caller's,
+// Opens sealed fields and judges the line found by its rule and the layout; it is given with this edition and job. They are opened into a buffer beside the caller's,
 // which is written only where a line is given.
 fn judge_sealed(
+    layout: Layout,
     edition: usize,
     job: usize,
     key: &[u8],
@@ -180,18 +186,19 @@ fn judge_sealed(
 ) -> Verdict
     requires { ⌜ Within firstInstance (now key) (now nonce) (now assoc) (now cipher) (now seal) (now text) ⌝ }
     requires { ⌜ (length (now text) ≡ longest) × (longest ≤ length (now line)) ⌝ }
-    ensures { λ r. ⌜ r ≡ verdictOf (judgeSealed (label edition job) (now (key .entry)) (now (nonce .entry)) (now (assoc .entry)) (now (cipher .entry)) (now (seal .entry))) ⌝ }
-    ensures { λ _. ⌜ now (line .exit) ≡ lineOver (judgeSealed (label edition job) (now (key .entry)) (now (nonce .entry)) (now (assoc .entry)) (now (cipher .entry)) (now (seal .entry))) (now (line .entry)) ⌝ }
+    ensures { λ r. ⌜ r ≡ verdictOf (judgeSealed layout (label edition job) (now (key .entry)) (now (nonce .entry)) (now (assoc .entry)) (now (cipher .entry)) (now (seal .entry))) ⌝ }
+    ensures { λ _. ⌜ now (line .exit) ≡ lineOver (judgeSealed layout (label edition job) (now (key .entry)) (now (nonce .entry)) (now (assoc .entry)) (now (cipher .entry)) (now (seal .entry))) (now (line .entry)) ⌝ }
 {
     let length = cipher.len();
     match open(frame::INSTANCE, key, nonce, assoc, cipher, seal, text) {
         Opened::Seal(calls) => return refused(Answer::Seal(calls)),
         Opened::Done(calls) => {
             let found = &text[0..length];
-            match judge_line(found) {
-                line::Judged::Unlisted => return refused(Answer::Unlisted(calls)),
-                line::Judged::Trade => return refused(Answer::Trade(calls)),
-                line::Judged::Accepted => {
+            match judge_line(layout, found) {
+                layout::Judged::Unlisted => return refused(Answer::Unlisted(calls)),
+                layout::Judged::Trade => return refused(Answer::Trade(calls)),
+                layout::Judged::Layout => return refused(Answer::Layout(calls)),
+                layout::Judged::Accepted => {
                     hand_out(found, line);
                     let answer = Answer::Line { length, calls };
                     return Verdict {
@@ -208,11 +215,18 @@ fn judge_sealed(
 }
 
 // Opens the fields of a body of this edition, whose line ciphertext has n bytes, and judges the line found.
-fn open_fields(body: &[u8], edition: Edition, n: usize, key: &[u8], line: &mut [u8]) -> Verdict
+fn open_fields(
+    body: &[u8],
+    edition: Edition,
+    n: usize,
+    key: &[u8],
+    layout: Layout,
+    line: &mut [u8],
+) -> Verdict
     requires { ⌜ Parts (now body) edition n ⌝ }
     requires { ⌜ (length (now key) ≡ keyLength) × (longest ≤ length (now line)) ⌝ }
-    ensures { λ r. ⌜ r ≡ verdictOf (judgeParts edition n (now (key .entry)) (now (body .entry))) ⌝ }
-    ensures { λ _. ⌜ now (line .exit) ≡ lineOver (judgeParts edition n (now (key .entry)) (now (body .entry))) (now (line .entry)) ⌝ }
+    ensures { λ r. ⌜ r ≡ verdictOf (judgeParts layout edition n (now (key .entry)) (now (body .entry))) ⌝ }
+    ensures { λ _. ⌜ now (line .exit) ≡ lineOver (judgeParts layout edition n (now (key .entry)) (now (body .entry))) (now (line .entry)) ⌝ }
 {
     let more = job_field_length(edition);
     let nonce = &body[NONCE_AT..NONCE_AT + NONCE_LENGTH];
@@ -225,6 +239,7 @@ fn open_fields(body: &[u8], edition: Edition, n: usize, key: &[u8], line: &mut [
     let job = job_of(body, edition);
     let mut text = [0u8; LONGEST_LINE];
     judge_sealed(
+        layout,
         number,
         job,
         key,
@@ -249,10 +264,10 @@ fn judge_edition(
     line: &mut [u8],
 ) -> Verdict
     requires { ⌜ Parts (now body) edition n ⌝ }
-    requires { ⌜ Sizes (told (now key) (now font)) ⌝ }
+    requires { ⌜ Sizes (told (now key) (now font) (asked .layout)) ⌝ }
     requires { ⌜ longest ≤ length (now line) ⌝ }
-    ensures { λ r. ⌜ r ≡ verdictOf (within (asked .allowed) (judgeFields (told (now (key .entry)) (now (font .entry))) (among (asked .editions) (fieldsOf (now (body .entry)))))) ⌝ }
-    ensures { λ _. ⌜ now (line .exit) ≡ lineOver (within (asked .allowed) (judgeFields (told (now (key .entry)) (now (font .entry))) (among (asked .editions) (fieldsOf (now (body .entry)))))) (now (line .entry)) ⌝ }
+    ensures { λ r. ⌜ r ≡ verdictOf (within (asked .allowed) (judgeFields (told (now (key .entry)) (now (font .entry)) (asked .layout)) (among (asked .editions) (fieldsOf (now (body .entry)))))) ⌝ }
+    ensures { λ _. ⌜ now (line .exit) ≡ lineOver (within (asked .allowed) (judgeFields (told (now (key .entry)) (now (font .entry)) (asked .layout)) (among (asked .editions) (fieldsOf (now (body .entry)))))) (now (line .entry)) ⌝ }
 {
     if !allows(asked.editions, edition) {
         return refused(Answer::Shape);
@@ -264,15 +279,16 @@ fn judge_edition(
     if asked.allowed < n + BESIDE_LINE + job_field_length(edition) {
         return refused(Answer::Work);
     }
-    open_fields(body, edition, n, key, line)
+    let layout = asked.layout;
+    open_fields(body, edition, n, key, layout, line)
 }
 
 // Judges a body by its fields.
 fn judge_fields(body: &[u8], key: &[u8], font: &[u8], asked: Asked, line: &mut [u8]) -> Verdict
-    requires { ⌜ Sizes (told (now key) (now font)) ⌝ }
+    requires { ⌜ Sizes (told (now key) (now font) (asked .layout)) ⌝ }
     requires { ⌜ longest ≤ length (now line) ⌝ }
-    ensures { λ r. ⌜ r ≡ verdictOf (within (asked .allowed) (judgeFields (told (now (key .entry)) (now (font .entry))) (among (asked .editions) (fieldsOf (now (body .entry)))))) ⌝ }
-    ensures { λ _. ⌜ now (line .exit) ≡ lineOver (within (asked .allowed) (judgeFields (told (now (key .entry)) (now (font .entry))) (among (asked .editions) (fieldsOf (now (body .entry)))))) (now (line .entry)) ⌝ }
+    ensures { λ r. ⌜ r ≡ verdictOf (within (asked .allowed) (judgeFields (told (now (key .entry)) (now (font .entry)) (asked .layout)) (among (asked .editions) (fieldsOf (now (body .entry)))))) ⌝ }
+    ensures { λ _. ⌜ now (line .exit) ≡ lineOver (within (asked .allowed) (judgeFields (told (now (key .entry)) (now (font .entry)) (asked .layout)) (among (asked .editions) (fieldsOf (now (body .entry)))))) (now (line .entry)) ⌝ }
 {
     match judge_body(body) {
         body::Judged::Shape => return refused(Answer::Shape),
@@ -284,10 +300,10 @@ fn judge_fields(body: &[u8], key: &[u8], font: &[u8], asked: Asked, line: &mut [
 
 // Judges the bytes of a stretch.
 fn judge_stretch(stretch: &[u8], key: &[u8], font: &[u8], asked: Asked, line: &mut [u8]) -> Verdict
-    requires { ⌜ Sizes (told (now key) (now font)) ⌝ }
+    requires { ⌜ Sizes (told (now key) (now font) (asked .layout)) ⌝ }
     requires { ⌜ longest ≤ length (now line) ⌝ }
-    ensures { λ r. ⌜ r ≡ verdictOf (judgedWithin (told (now (key .entry)) (now (font .entry))) asked (now (stretch .entry))) ⌝ }
-    ensures { λ _. ⌜ now (line .exit) ≡ lineOver (judgedWithin (told (now (key .entry)) (now (font .entry))) asked (now (stretch .entry))) (now (line .entry)) ⌝ }
+    ensures { λ r. ⌜ r ≡ verdictOf (judgedWithin (told (now (key .entry)) (now (font .entry)) (asked .layout)) asked (now (stretch .entry))) ⌝ }
+    ensures { λ _. ⌜ now (line .exit) ≡ lineOver (judgedWithin (told (now (key .entry)) (now (font .entry)) (asked .layout)) asked (now (stretch .entry))) (now (line .entry)) ⌝ }
 {
     let mut body = [0u8; LONGEST_STRETCH];
     let n = match unstuff(stretch, &mut body) {
@@ -303,8 +319,8 @@ fn judge_stretch(stretch: &[u8], key: &[u8], font: &[u8], asked: Asked, line: &m
 // Judges the bytes of a stretch that is handed in, what stands between two marks. A line that is given is written to the start of line; nothing
 // else is written.
 pub fn judge(stretch: &[u8], key: &[u8], font: &[u8], asked: Asked, line: &mut [u8]) -> Verdict
-    ensures { λ r. ⌜ r ≡ judgeAnswer (told (now (key .entry)) (now (font .entry))) asked (now (stretch .entry)) (now (line .entry)) ⌝ }
-    ensures { λ _. ⌜ now (line .exit) ≡ judgeOut (told (now (key .entry)) (now (font .entry))) asked (now (stretch .entry)) (now (line .entry)) ⌝ }
+    ensures { λ r. ⌜ r ≡ judgeAnswer (told (now (key .entry)) (now (font .entry)) (asked .layout)) asked (now (stretch .entry)) (now (line .entry)) ⌝ }
+    ensures { λ _. ⌜ now (line .exit) ≡ judgeOut (told (now (key .entry)) (now (font .entry)) (asked .layout)) asked (now (stretch .entry)) (now (line .entry)) ⌝ }
 {
     if key.len() != KEY_LENGTH {
         return refused(Answer::Sizes);
@@ -355,8 +371,8 @@ pub fn read(
     asked: Asked,
     line: &mut [u8],
 ) -> Reading
-    ensures { λ r. ⌜ r ≡ readAnswer (told (now (key .entry)) (now (font .entry))) asked (now (stream .entry)) from (now (line .entry)) ⌝ }
-    ensures { λ _. ⌜ now (line .exit) ≡ readOut (told (now (key .entry)) (now (font .entry))) asked (now (stream .entry)) from (now (line .entry)) ⌝ }
+    ensures { λ r. ⌜ r ≡ readAnswer (told (now (key .entry)) (now (font .entry)) (asked .layout)) asked (now (stream .entry)) from (now (line .entry)) ⌝ }
+    ensures { λ _. ⌜ now (line .exit) ≡ readOut (told (now (key .entry)) (now (font .entry)) (asked .layout)) asked (now (stream .entry)) from (now (line .entry)) ⌝ }
 {
     if key.len() != KEY_LENGTH {
         return at(from, Answer::Sizes);

@@ -1,12 +1,14 @@
 // Prints the rows that the second program makes of its own seals and frames (tests/second, src/rows/call.rs): what sealing, opening,
 // writing or converting gives for each case on standard input. A case is its head, its name and the call's five parts: key, nonce, associated
 // data (of a frame the font digest), text (or line, or stretch), seal (of a frame the job). The head has the lengths of those, the room for
-// what comes out, which call, and the cipher's instance: four bytes each, the high byte first.
+// what comes out, which call, the cipher's instance and a frame's layout: four bytes each, the high byte first.
 use converter::Converted;
 use digest::DIGEST;
 use frame::Written;
 use ingage::Opened;
 use ingage::Sealed;
+use layout::Layout;
+use layout::layout_of;
 use libc::STDIN_FILENO;
 use libc::STDOUT_FILENO;
 ghost use Prim.Native.Nat.{_<_};
@@ -15,7 +17,7 @@ ghost use Prim.Native.Nat.{_<_};
 const MOST_CASES: usize = 10000;
 
 // The head of a case has so many numbers and bytes; and the longest name with parts, room and seal that a case has.
-const NUMBERS: usize = 9;
+const NUMBERS: usize = 10;
 
 const HEAD: usize = 4 * NUMBERS;
 
@@ -41,7 +43,7 @@ const TO_ONE: usize = 4;
 
 const TO_TWO: usize = 5;
 
-// Where the name and the parts of a case end in its bytes, its room, its call and its instance.
+// Where the name and the parts of a case end in its bytes, its room, its call, its instance and its layout.
 struct Case {
     name: usize,
     key: usize,
@@ -52,6 +54,7 @@ struct Case {
     room: usize,
     call: usize,
     instance: usize,
+    layout: usize,
 }
 
 // The number of a call, the length of a frame, and the count.
@@ -140,6 +143,7 @@ fn part(all: &[u8], from: usize, to: usize) -> &[u8] {
 // The calls of a frame; text is the line, or the stretch to convert.
 fn framed(
     call: usize,
+    layout: Layout,
     key: &[u8],
     nonce: &[u8],
     font: &[u8],
@@ -148,20 +152,21 @@ fn framed(
     out: &mut [u8],
 ) -> Outcome {
     if call == TO_ONE {
-        return of_convert(converter::to_one(text, key, font, nonce, out));
+        return of_convert(converter::to_one(text, key, font, layout, nonce, out));
     }
     if call == TO_TWO {
-        return of_convert(converter::to_two(text, key, font, nonce, job, out));
+        return of_convert(converter::to_two(text, key, font, layout, nonce, job, out));
     }
     if call == WRITES_TWO {
-        return of_write(frame::write_two(key, nonce, font, job, text, out));
+        return of_write(frame::write_two(key, nonce, font, layout, job, text, out));
     }
-    of_write(frame::write(key, nonce, font, text, out))
+    of_write(frame::write(key, nonce, font, layout, text, out))
 }
 
 fn called(
     call: usize,
     instance: usize,
+    layout: Layout,
     key: &[u8],
     nonce: &[u8],
     associated: &[u8],
@@ -173,7 +178,7 @@ fn called(
         return of_open(ingage::open(instance, key, nonce, associated, text, seal, out));
     }
     if call >= WRITES {
-        return framed(call, key, nonce, associated, seal, text, out);
+        return framed(call, layout, key, nonce, associated, seal, text, out);
     }
     of_seal(ingage::seal(instance, key, nonce, associated, text, out, seal))
 }
@@ -183,6 +188,7 @@ fn parted(c: Case, all: &[u8], out: &mut [u8], seal: &mut [u8]) -> Outcome {
     called(
         c.call,
         c.instance,
+        layout_of(c.layout),
         part(all, c.name, c.key),
         part(all, c.key, c.nonce),
         part(all, c.nonce, c.associated),
@@ -258,6 +264,7 @@ fn case_of(h: [u8; HEAD]) -> Case {
         room: number_in(h, 6),
         call: number_in(h, 7),
         instance: number_in(h, 8),
+        layout: number_in(h, 9),
     }
 }
 

@@ -2,6 +2,7 @@
 // standard input, good, damaged or at a limit, as a walker reads it from the case's place to the end of its stream. A case is its head, its
 // name, and the first and the last bytes of its stream, with one byte again and again between them. The head is numbers of four bytes each,
 // the high byte first.
+use layout::layout_of;
 use libc::STDIN_FILENO;
 use libc::STDOUT_FILENO;
 use reader::Answer;
@@ -16,7 +17,7 @@ ghost use lib.ListN.{length};
 const MOST_CASES: usize = 10000;
 
 // The head of a case has so many numbers and bytes; and the longest name, stream, line buffer, key and font digest that a case has.
-const NUMBERS: usize = 11;
+const NUMBERS: usize = 12;
 
 const HEAD: usize = 4 * NUMBERS;
 
@@ -34,7 +35,7 @@ const LONGEST_FONT: usize = 33;
 const MOST_TURNS: usize = LONGEST_CASE + 1;
 
 // The lengths of name, stream, its first and its last bytes, the byte between them, the place to read from, and the lengths of line
-// buffer, key and font digest, the work allowed and the editions.
+// buffer, key and font digest, the work allowed, the editions and the layout.
 struct Case {
     name: usize,
     length: usize,
@@ -47,6 +48,7 @@ struct Case {
     font: usize,
     allowed: usize,
     editions: usize,
+    layout: usize,
 }
 
 fn say(text: &[u8]) {
@@ -167,6 +169,7 @@ fn told_rows(c: Case, name: &[u8], stream: &[u8]) {
         Asked {
             editions: c.editions,
             allowed: c.allowed,
+            layout: layout_of(c.layout),
         },
         &mut line[0..l],
     );
@@ -222,6 +225,7 @@ fn case_of(h: [u8; HEAD]) -> Case {
         font: number_in(h, 8),
         allowed: number_in(h, 9),
         editions: number_in(h, 10),
+        layout: number_in(h, 11),
     }
 }
 

@@ -36,8 +36,8 @@ abbrev pub Next : (κs : Lfts 5) → Args next.signature κs → Reading → AtE
 Next κs a r x = Nexts (now (a .1 .0)) (now (a .1 .1 .0)) (a .1 .1 .1 .0) (now (a .0)) (now (a .1 .1 .1 .1 .0)) r (now (x .0)) (now (x .1 .1 .1 .1 .0))
 
 abbrev pub Walked : (κs : Lfts 4) → Args walked.signature κs → Step → AtExit walked.ended κs → Type 0
-Walked κs a r x = (r ≡ stepOf (told (now (a .1 .1 .0)) (now (a .1 .1 .1 .0))) (a .1 .1 .1 .1 .0) (now (a .0)) (a .1 .0) (now (a .1 .1 .1 .1 .1 .0)))
-    × (now (x .1 .1 .1 .1 .1 .0) ≡ readOut (told (now (a .1 .1 .0)) (now (a .1 .1 .1 .0))) (a .1 .1 .1 .1 .0) (now (a .0)) (a .1 .0) (now (a .1 .1 .1 .1 .1 .0)))
+Walked κs a r x = (r ≡ stepOf (told (now (a .1 .1 .0)) (now (a .1 .1 .1 .0)) (a .1 .1 .1 .1 .0 .layout)) (a .1 .1 .1 .1 .0) (now (a .0)) (a .1 .0) (now (a .1 .1 .1 .1 .1 .0)))
+    × (now (x .1 .1 .1 .1 .1 .0) ≡ readOut (told (now (a .1 .1 .0)) (now (a .1 .1 .1 .0)) (a .1 .1 .1 .1 .0 .layout)) (a .1 .1 .1 .1 .0) (now (a .0)) (a .1 .0) (now (a .1 .1 .1 .1 .1 .0)))
 
 module _ {M : Type 1} (𝓤 : URA M) (H : Heap 𝓤) (A : Atoms 𝓤) (mem : Memory → SProp 𝓤) (run : Routine → Fun 𝓤) where
   pub new-says : (κs : Lfts 1) (a : Args new.signature κs) (r : Walker) (x : AtExit new.ended κs) → new.clauses 𝓤 H A mem run κs a .ensures tt r x ≡ fact 𝓤 (New κs a r)

@@ -26,7 +26,7 @@ placeOf w = w .at
 -- w′ and l′: it is a read call from the place reached, and w′ is w at the place where that reading ends
 abbrev pub Nexts : List ℕ → List ℕ → Asked → Walker → List ℕ → Reading → Walker → List ℕ → Type 0
 Nexts key font asked w l r w′ l′ =
-    (r ≡ readAnswer (told key font) asked (streamOf w) (placeOf w) l)
-    × (l′ ≡ readOut (told key font) asked (streamOf w) (placeOf w) l)
+    (r ≡ readAnswer (told key font (asked .layout)) asked (streamOf w) (placeOf w) l)
+    × (l′ ≡ readOut (told key font (asked .layout)) asked (streamOf w) (placeOf w) l)
     × (w′ .stream ≡ w .stream)
     × (w′ .at ≡ r .closing)

@@ -40,6 +40,9 @@ enum-told-11 c = search needs
 enum-told-12 : tie.Need-enum-told-12
 enum-told-12 c = search needs
 
+enum-told-13 : tie.Need-enum-told-13
+enum-told-13 c = search needs
+
 enum-known-answer : tie.Need-enum-known-answer
 enum-known-answer c = search needs
 
@@ -80,7 +83,10 @@ returns-12 : tie.Need-returns-12
 returns-12 c = search needs
 
 returns-13 : tie.Need-returns-13
-returns-13 c = rw (c .before .answer .given .1)
+returns-13 c = search needs
+
+returns-14 : tie.Need-returns-14
+returns-14 c = rw (c .before .answer .given .1)
 
 pub converted-of-spec : {M : Type 1} → statement M
 converted-of-spec =
@@ -98,6 +104,7 @@ converted-of-spec =
     enum-told-10
     enum-told-11
     enum-told-12
+    enum-told-13
     enum-known-answer
     returns
     returns-2
@@ -111,4 +118,5 @@ converted-of-spec =
     returns-10
     returns-11
     returns-12
-    returns-13)
+    returns-13
+    returns-14)

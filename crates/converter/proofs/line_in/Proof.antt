@@ -14,7 +14,7 @@ misnamed-requires c κs = search needs
 returns : tie.Need-returns
 returns c =
     let a = c .before .before .before .before .before .before .args in
-    at-misnamed (told (a .key .now) (a .font .now)) (a .named) (a .stretch .now) (a .line .now) (sym (c .before .misnamed .ensures) ∙ c .if1 .taken)
+    at-misnamed (told (a .key .now) (a .font .now) (a .layout)) (a .named) (a .stretch .now) (a .line .now) (sym (c .before .misnamed .ensures) ∙ c .if1 .taken)
 
 only-requires : tie.Need-only-requires
 only-requires c κs = search needs
@@ -39,7 +39,7 @@ returns-2 c =
     let s = c .before .before .before .before .before .before .before .before .before .before .before .before .before .before in
     let a = s .args in
     let j = c .before .before .before .before .before .judge in
-    at-judged (told (a .key .now) (a .font .now)) (a .named) (a .stretch .now) (a .line .now)
+    at-judged (told (a .key .now) (a .font .now) (a .layout)) (a .named) (a .stretch .now) (a .line .now)
     (sym (c .before .before .before .before .before .before .before .before .before .misnamed .ensures) ∙ c .before .before .before .before .before .before .before .before .if1 .left) (s .pre .0)
     (below-all 256 (a .stretch .now) (λ k h. omega (arith, c .before .before .before .before .before .before .before .before .before .before .before .before .before .shared-slice-known .given k))) (s .pre .1) _ (c .before .before .before .before .before .before .before .only .ensures) (omega arith)
     _ _ (j .ensures .0) (j .ensures .1) _ _ _ (c .before .before .converted-of .ensures) (c .before .read-given .ensures) (c .read-length .ensures)

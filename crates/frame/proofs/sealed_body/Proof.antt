@@ -12,6 +12,7 @@ use Rattle.cipher.specs.Cipher.{Work}
 use Rattle.body.specs.declared.Edition.the-variants.{One, Two}
 use Rattle.body.specs.Fields.{sealLength, Own, ownOf, associated}
 use Rattle.body.specs.Lengths.{associatedLength, longestBody, job-field-most}
+use Rattle.layout.specs.declared.Layout.the-variants.{Neither}
 use Rattle.framing.specs.Told.{Told, told}
 use Rattle.framing.specs.Frames.{sealedBody, sealedLine}
 use Rattle.frame.proofs.Sealing.{associated-put, sealed-text, sealed-seal, body-put}
@@ -23,7 +24,7 @@ abbrev start : tie.After-put-associated → tie.Start
 start c = c .before .before .before .before .before .before .before
 
 abbrev asked : tie.Start → Told
-asked s = told (s .args .key .now) (s .args .font .now)
+asked s = told (s .args .key .now) (s .args .font .now) Neither
 
 abbrev own : tie.Start → Own
 own s = ownOf (s .args .edition) (s .args .nonce .now) (s .args .job .now)

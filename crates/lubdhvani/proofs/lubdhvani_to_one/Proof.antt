@@ -1,9 +1,16 @@
 -- `lubdhvani_to_one` meets its promise: the converter's answer, read off as number and length. Assumes nothing.
 use Rattle.converter.specs.Answers as converting
 use mathlib.Core.Path.{_∙_, ap}
+use mathlib.Core.List.{[]}
+use Rattle.body.specs.declared.Edition.the-variants.{One}
+use Rattle.body.specs.Fields.{ownOf}
+use Rattle.lubdhvani.specs.Named.{converted-named}
 use borrow.Author.Needs.{needs}
 use Rattle.lubdhvani.proofs.lubdhvani_to_one.Statement.{statement}
 use Rattle.lubdhvani.proofs.lubdhvani_to_one.Tie as tie
+
+layout-of-requires : tie.Need-layout-of-requires
+layout-of-requires c κs = search needs
 
 to-one-requires : tie.Need-to-one-requires
 to-one-requires c κs = search needs
@@ -19,13 +26,15 @@ same-length c = search needs
 
 returns : tie.Need-returns
 returns c =
-    let done = c .before .before .before .before .to-one .ensures in
+    let a = c .before .before .before .before .before .before .before .before .before .before .before .before .args in
+    let done = converted-named (a .key .now) (a .font .now) (c .before .before .before .before .before .before .layout-of .ensures) (ownOf One (a .nonce .now) []) (a .stretch .now) (a .frame .now) (c .before .before .before .before .to-one .ensures) in
     (c .number .ensures ∙ ap converting.numberOf (done .0), (done .1, c .before .frame-length .ensures ∙ ap converting.lengthIn (done .0)))
 
 pub lubdhvani-to-one-spec : {M : Type 1} → statement M
 lubdhvani-to-one-spec =
     tie.close
     (tie.spec
+    layout-of-requires
     to-one-requires
     frame-length-requires
     number-requires

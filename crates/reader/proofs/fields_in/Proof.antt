@@ -3,6 +3,7 @@ use mathlib.Core.Path.{sym, ap, _∙_}
 use native.Mathlib.Omega.{arith}
 use borrow.Author.Needs.{needs}
 use Rattle.body.specs.Answers.{judged}
+use Rattle.layout.specs.declared.Layout.the-variants.{Neither}
 use Rattle.framing.specs.Told.{told}
 use Rattle.reader.proofs.Handed.{held-long, held-bad, held-fits, held-body}
 use Rattle.reader.proofs.Unstuffing.{told-small}
@@ -35,7 +36,7 @@ enum-told-3 c = search needs
 
 returns-3 : tie.Need-returns-3
 returns-3 c =
-    absurd (told-small (told [] []) 0 (c .before .before .before .before .before .before .args .stretch .now) _ (omega arith) (sym (c .before .before .before .unstuff .ensures .0) ∙ c .enum-told3 .given .1))
+    absurd (told-small (told [] [] Neither) 0 (c .before .before .before .before .before .before .args .stretch .now) _ (omega arith) (sym (c .before .before .before .unstuff .ensures .0) ∙ c .enum-told3 .given .1))
 
 enum-known-n : tie.Need-enum-known-n
 enum-known-n c = search needs

@@ -24,7 +24,7 @@ returns : tie.Need-returns
 returns c =
     let s = c .before .before .before .before .before .before .before in
     let a = s .args in
-    shown (ceiling.within (a .asked .allowed) (judgeFields (told (a .key .now) (a .font .now)) (among (a .asked .editions) (fieldsOf (a .body .now))))) (a .line .now) shape (not-allowed (told (a .key .now) (a .font .now)) (a .asked .editions) (a .asked .allowed) (a .body .now) (a .edition) (a .n) (s .pre .0) (sym (c .before .before .allows .ensures) ∙ not-true _ (c .before .if1 .taken))) _ (c .refused .ensures)
+    shown (ceiling.within (a .asked .allowed) (judgeFields (told (a .key .now) (a .font .now) (a .asked .layout)) (among (a .asked .editions) (fieldsOf (a .body .now))))) (a .line .now) shape (not-allowed (told (a .key .now) (a .font .now) (a .asked .layout)) (a .asked .editions) (a .asked .allowed) (a .body .now) (a .edition) (a .n) (s .pre .0) (sym (c .before .before .allows .ensures) ∙ not-true _ (c .before .if1 .taken))) _ (c .refused .ensures)
 
 add-digest : tie.Need-add-digest
 add-digest c = search needs
@@ -48,8 +48,8 @@ returns-2 : tie.Need-returns-2
 returns-2 c =
     let s = c .before .before .before .before .before .before .before .before .before .before in
     let a = s .args in
-    shown (ceiling.within (a .asked .allowed) (judgeFields (told (a .key .now) (a .font .now)) (among (a .asked .editions) (fieldsOf (a .body .now))))) (a .line .now) font
-    (other-font (told (a .key .now) (a .font .now)) (a .asked .editions) (a .asked .allowed) (a .body .now) (a .edition) (a .n) (s .pre .0) (sym (c .before .before .before .before .before .allows .ensures) ∙ not-false _ (c .before .before .before .before .if1 .left)) (sym (c .before .before .compare .ensures) ∙ not-true _ (c .before .if2 .taken))) _ (c .refused2 .ensures)
+    shown (ceiling.within (a .asked .allowed) (judgeFields (told (a .key .now) (a .font .now) (a .asked .layout)) (among (a .asked .editions) (fieldsOf (a .body .now))))) (a .line .now) font
+    (other-font (told (a .key .now) (a .font .now) (a .asked .layout)) (a .asked .editions) (a .asked .allowed) (a .body .now) (a .edition) (a .n) (s .pre .0) (sym (c .before .before .before .before .before .allows .ensures) ∙ not-false _ (c .before .before .before .before .if1 .left)) (sym (c .before .before .compare .ensures) ∙ not-true _ (c .before .if2 .taken))) _ (c .refused2 .ensures)
 
 add-if3 : tie.Need-add-if3
 add-if3 c = search needs
@@ -67,8 +67,8 @@ returns-3 : tie.Need-returns-3
 returns-3 c =
     let s = c .before .before .before .before .before .before .before .before .before .before .before .before .before in
     let a = s .args in
-    shown (ceiling.within (a .asked .allowed) (judgeFields (told (a .key .now) (a .font .now)) (among (a .asked .editions) (fieldsOf (a .body .now))))) (a .line .now) work
-    (over-work (told (a .key .now) (a .font .now)) (a .asked .editions) (a .asked .allowed) (a .body .now) (a .edition) (a .n) (s .pre .0) (sym (c .before .before .before .before .before .before .before .before .allows .ensures) ∙ not-false _ (c .before .before .before .before .before .before .before .if1 .left)) (sym (c .before .before .before .before .before .compare .ensures) ∙ not-false _ (c .before .before .before .before .if2 .left)) (omega (arith, c .before .if3 .taken, c .before .before .before .job-field-length .ensures))) _ (c .refused3 .ensures)
+    shown (ceiling.within (a .asked .allowed) (judgeFields (told (a .key .now) (a .font .now) (a .asked .layout)) (among (a .asked .editions) (fieldsOf (a .body .now))))) (a .line .now) work
+    (over-work (told (a .key .now) (a .font .now) (a .asked .layout)) (a .asked .editions) (a .asked .allowed) (a .body .now) (a .edition) (a .n) (s .pre .0) (sym (c .before .before .before .before .before .before .before .before .allows .ensures) ∙ not-false _ (c .before .before .before .before .before .before .before .if1 .left)) (sym (c .before .before .before .before .before .compare .ensures) ∙ not-false _ (c .before .before .before .before .if2 .left)) (omega (arith, c .before .if3 .taken, c .before .before .before .job-field-length .ensures))) _ (c .refused3 .ensures)
 
 open-fields-requires : tie.Need-open-fields-requires
 open-fields-requires c κs = search needs
@@ -80,8 +80,8 @@ returns-4 : tie.Need-returns-4
 returns-4 c =
     let s = c .before .before .before .before .before .before .before .before .before .before .before .before .before .before .before .before in
     let a = s .args in
-    passed (ceiling.within (a .asked .allowed) (judgeFields (told (a .key .now) (a .font .now)) (among (a .asked .editions) (fieldsOf (a .body .now))))) _ (a .line .now) _ _
-    (in-work (told (a .key .now) (a .font .now)) (a .asked .editions) (a .asked .allowed) (a .body .now) (a .edition) (a .n) (s .pre .0) (sym (c .before .before .before .before .before .before .before .before .before .before .before .allows .ensures) ∙ not-false _ (c .before .before .before .before .before .before .before .before .before .before .if1 .left)) (sym (c .before .before .before .before .before .before .before .before .compare .ensures) ∙ not-false _ (c .before .before .before .before .before .before .before .if2 .left)) (omega (arith, c .before .before .before .before .if3 .left, c .before .before .before .before .before .before .job-field-length .ensures)))
+    passed (ceiling.within (a .asked .allowed) (judgeFields (told (a .key .now) (a .font .now) (a .asked .layout)) (among (a .asked .editions) (fieldsOf (a .body .now))))) _ (a .line .now) _ _
+    (in-work (told (a .key .now) (a .font .now) (a .asked .layout)) (a .asked .editions) (a .asked .allowed) (a .body .now) (a .edition) (a .n) (s .pre .0) (sym (c .before .before .before .before .before .before .before .before .before .before .before .allows .ensures) ∙ not-false _ (c .before .before .before .before .before .before .before .before .before .before .if1 .left)) (sym (c .before .before .before .before .before .before .before .before .compare .ensures) ∙ not-false _ (c .before .before .before .before .before .before .before .if2 .left)) (omega (arith, c .before .before .before .before .if3 .left, c .before .before .before .before .before .before .job-field-length .ensures)))
     (c .before .before .open-fields .ensures)
 
 pub judge-edition-spec : {M : Type 1} → statement M

@@ -2,9 +2,9 @@
 -- the buffer beside the caller's and is copied whole. Assumes nothing.
 use native.Mathlib.Omega.{arith}
 use borrow.Author.Needs.{needs}
-use Rattle.judging.specs.Judged.{label, seal, unlisted, trade}
+use Rattle.judging.specs.Judged.{label, seal, unlisted, trade, layout}
 use Rattle.judging.specs.Judging.{judgeSealed}
-use Rattle.reader.proofs.Opening.{told-seal, told-other, told-unlisted, told-trade, gives}
+use Rattle.reader.proofs.Opening.{told-seal, told-other, told-unlisted, told-trade, told-layout, gives}
 use Rattle.reader.proofs.Shown.{shown}
 use Rattle.reader.proofs.judge_sealed.Statement.{statement}
 use Rattle.reader.proofs.judge_sealed.Tie as tie
@@ -26,8 +26,8 @@ returns c =
     let s = c .before .before .before .before .before .before .before .before .before .before .before .before .before .before .before in
     let a = s .args in
     let o = c .before .before .before .before .before .before .«open» in
-    shown (judgeSealed (label (a .edition) (a .job)) (a .key .now) (a .nonce .now) (a .assoc .now) (a .cipher .now) (a .seal .now)) (a .line .now) (seal _)
-    (told-seal (label (a .edition) (a .job)) (a .key .now) (a .nonce .now) (a .assoc .now) (a .cipher .now) (a .seal .now) (s .pre .0) (o .result) (o .ensures .0) _ (c .before .before .calls .given .1)) _ (c .refused .ensures)
+    shown (judgeSealed (a .layout) (label (a .edition) (a .job)) (a .key .now) (a .nonce .now) (a .assoc .now) (a .cipher .now) (a .seal .now)) (a .line .now) (seal _)
+    (told-seal (a .layout) (label (a .edition) (a .job)) (a .key .now) (a .nonce .now) (a .assoc .now) (a .cipher .now) (a .seal .now) (s .pre .0) (o .result) (o .ensures .0) _ (c .before .before .calls .given .1)) _ (c .refused .ensures)
 
 enum-known-calls-2 : tie.Need-enum-known-calls-2
 enum-known-calls-2 c = search needs
@@ -58,8 +58,8 @@ returns-2 c =
     let s = c .before .before .before .before .before .before .before .before .before .before .before .before .before .before .before .before .before .before .before .before in
     let a = s .args in
     let o = c .before .before .before .before .before .before .before .before .before .before .before .«open» in
-    shown (judgeSealed (label (a .edition) (a .job)) (a .key .now) (a .nonce .now) (a .assoc .now) (a .cipher .now) (a .seal .now)) (a .line .now) (unlisted _)
-    (told-unlisted (label (a .edition) (a .job)) (a .key .now) (a .nonce .now) (a .assoc .now) (a .cipher .now) (a .seal .now) (s .pre .0) (o .result) (o .ensures .0) _ (c .before .before .before .before .before .before .before .calls2 .given .1) _ (o .ensures .1) _ (c .before .before .before .judge-line .ensures) (c .before .enum-told .given .1)) _ (c .refused2 .ensures)
+    shown (judgeSealed (a .layout) (label (a .edition) (a .job)) (a .key .now) (a .nonce .now) (a .assoc .now) (a .cipher .now) (a .seal .now)) (a .line .now) (unlisted _)
+    (told-unlisted (a .layout) (label (a .edition) (a .job)) (a .key .now) (a .nonce .now) (a .assoc .now) (a .cipher .now) (a .seal .now) (s .pre .0) (o .result) (o .ensures .0) _ (c .before .before .before .before .before .before .before .calls2 .given .1) _ (o .ensures .1) _ (c .before .before .before .judge-line .ensures) (c .before .enum-told .given .1)) _ (c .refused2 .ensures)
 
 enum-told-2 : tie.Need-enum-told-2
 enum-told-2 c = search needs
@@ -75,41 +75,58 @@ returns-3 c =
     let s = c .before .before .before .before .before .before .before .before .before .before .before .before .before .before .before .before .before .before .before .before in
     let a = s .args in
     let o = c .before .before .before .before .before .before .before .before .before .before .before .«open» in
-    shown (judgeSealed (label (a .edition) (a .job)) (a .key .now) (a .nonce .now) (a .assoc .now) (a .cipher .now) (a .seal .now)) (a .line .now) (trade _)
-    (told-trade (label (a .edition) (a .job)) (a .key .now) (a .nonce .now) (a .assoc .now) (a .cipher .now) (a .seal .now) (s .pre .0) (o .result) (o .ensures .0) _ (c .before .before .before .before .before .before .before .calls2 .given .1) _ (o .ensures .1) _ (c .before .before .before .judge-line .ensures) (c .before .enum-told2 .given .1)) _ (c .refused3 .ensures)
+    shown (judgeSealed (a .layout) (label (a .edition) (a .job)) (a .key .now) (a .nonce .now) (a .assoc .now) (a .cipher .now) (a .seal .now)) (a .line .now) (trade _)
+    (told-trade (a .layout) (label (a .edition) (a .job)) (a .key .now) (a .nonce .now) (a .assoc .now) (a .cipher .now) (a .seal .now) (s .pre .0) (o .result) (o .ensures .0) _ (c .before .before .before .before .before .before .before .calls2 .given .1) _ (o .ensures .1) _ (c .before .before .before .judge-line .ensures) (c .before .enum-told2 .given .1)) _ (c .refused3 .ensures)
 
 enum-told-3 : tie.Need-enum-told-3
 enum-told-3 c = search needs
 
-hand-out-requires : tie.Need-hand-out-requires
-hand-out-requires c κs = search needs
+refused-requires-4 : tie.Need-refused-requires-4
+refused-requires-4 c κs = search needs
 
 same-length-4 : tie.Need-same-length-4
 same-length-4 c = search needs
 
-same-length-5 : tie.Need-same-length-5
-same-length-5 c = search needs
-
 returns-4 : tie.Need-returns-4
 returns-4 c =
-    let s = c .before .before .before .before .before .before .before .before .before .before .before .before .before .before .before .before .before .before .before .before .before .before .before in
+    let s = c .before .before .before .before .before .before .before .before .before .before .before .before .before .before .before .before .before .before .before .before in
     let a = s .args in
-    let o = c .before .before .before .before .before .before .before .before .before .before .before .before .before .before .«open» in
-    gives (label (a .edition) (a .job)) (a .key .now) (a .nonce .now) (a .assoc .now) (a .cipher .now) (a .seal .now) (s .pre .0) (o .result) (o .ensures .0) _ (c .before .before .before .before .before .before .before .before .before .before .calls2 .given .1) _ (o .ensures .1)
-    _ (c .before .before .before .before .before .before .judge-line .ensures) (c .before .before .before .before .enum-told3 .given .1) (a .line .now) _ (omega (arith, s .pre .1 .0, s .pre .1 .1)) (c .before .before .hand-out .ensures)
+    let o = c .before .before .before .before .before .before .before .before .before .before .before .«open» in
+    shown (judgeSealed (a .layout) (label (a .edition) (a .job)) (a .key .now) (a .nonce .now) (a .assoc .now) (a .cipher .now) (a .seal .now)) (a .line .now) (layout _)
+    (told-layout (a .layout) (label (a .edition) (a .job)) (a .key .now) (a .nonce .now) (a .assoc .now) (a .cipher .now) (a .seal .now) (s .pre .0) (o .result) (o .ensures .0) _ (c .before .before .before .before .before .before .before .calls2 .given .1) _ (o .ensures .1) _ (c .before .before .before .judge-line .ensures) (c .before .enum-told3 .given .1)) _ (c .refused4 .ensures)
 
-refused-requires-4 : tie.Need-refused-requires-4
-refused-requires-4 c κs = search needs
+enum-told-4 : tie.Need-enum-told-4
+enum-told-4 c = search needs
+
+hand-out-requires : tie.Need-hand-out-requires
+hand-out-requires c κs = search needs
+
+same-length-5 : tie.Need-same-length-5
+same-length-5 c = search needs
 
 same-length-6 : tie.Need-same-length-6
 same-length-6 c = search needs
 
 returns-5 : tie.Need-returns-5
 returns-5 c =
+    let s = c .before .before .before .before .before .before .before .before .before .before .before .before .before .before .before .before .before .before .before .before .before .before .before in
+    let a = s .args in
+    let o = c .before .before .before .before .before .before .before .before .before .before .before .before .before .before .«open» in
+    gives (a .layout) (label (a .edition) (a .job)) (a .key .now) (a .nonce .now) (a .assoc .now) (a .cipher .now) (a .seal .now) (s .pre .0) (o .result) (o .ensures .0) _ (c .before .before .before .before .before .before .before .before .before .before .calls2 .given .1) _ (o .ensures .1)
+    _ (c .before .before .before .before .before .before .judge-line .ensures) (c .before .before .before .before .enum-told4 .given .1) (a .line .now) _ (omega (arith, s .pre .1 .0, s .pre .1 .1)) (c .before .before .hand-out .ensures)
+
+refused-requires-5 : tie.Need-refused-requires-5
+refused-requires-5 c κs = search needs
+
+same-length-7 : tie.Need-same-length-7
+same-length-7 c = search needs
+
+returns-6 : tie.Need-returns-6
+returns-6 c =
     let s = c .before .before .before .before .before .before .before .before .before .before .before .before .before in
     let a = s .args in
     let o = c .before .before .before .before .«open» in
-    told-other (label (a .edition) (a .job)) (a .key .now) (a .nonce .now) (a .assoc .now) (a .cipher .now) (a .seal .now) (s .pre .0) (o .result) (o .ensures .0) (c .before .match .keys3)
+    told-other (a .layout) (label (a .edition) (a .job)) (a .key .now) (a .nonce .now) (a .assoc .now) (a .cipher .now) (a .seal .now) (s .pre .0) (o .result) (o .ensures .0) (c .before .match .keys3)
 
 pub judge-sealed-spec : {M : Type 1} → statement M
 judge-sealed-spec =
@@ -134,10 +151,14 @@ judge-sealed-spec =
     same-length-3
     returns-3
     enum-told-3
-    hand-out-requires
-    same-length-4
-    same-length-5
-    returns-4
     refused-requires-4
+    same-length-4
+    returns-4
+    enum-told-4
+    hand-out-requires
+    same-length-5
     same-length-6
-    returns-5)
+    returns-5
+    refused-requires-5
+    same-length-7
+    returns-6)

@@ -84,7 +84,7 @@ judge-sealed-requires : tie.Need-judge-sealed-requires
 judge-sealed-requires c κs =
     let s = c .before .before .before .before .before .before .before .before .before .before .before .before in
     let a = s .args in (
-      within (a .body .now) (a .key .now) (a .edition) (a .n) (s .pre .0) _ (c .before .before .before .before .before .before .before .before .job-field-length .ensures) (s .pre .1 .0) _ refl,
+      within (a .layout) (a .body .now) (a .key .now) (a .edition) (a .n) (s .pre .0) _ (c .before .before .before .before .before .before .before .before .job-field-length .ensures) (s .pre .1 .0) _ refl,
       (refl, s .pre .1 .1),
     )
 
@@ -95,8 +95,8 @@ returns : tie.Need-returns
 returns c =
     let s = c .before .before .before .before .before .before .before .before .before .before .before .before .before .before .before .before in
     let a = s .args in
-    passed (judgeParts (a .edition) (a .n) (a .key .now) (a .body .now)) _ (a .line .now) _ _
-    (found-by-parts (a .body .now) (a .key .now) (a .edition) (a .n) (s .pre .0) _ (c .before .before .before .before .before .before .before .before .before .before .before .before .job-field-length .ensures) _ _ (c .before .before .before .before .before .before .before .number-of .ensures) (c .before .before .before .before .before .before .job-of .ensures))
+    passed (judgeParts (a .layout) (a .edition) (a .n) (a .key .now) (a .body .now)) _ (a .line .now) _ _
+    (found-by-parts (a .layout) (a .body .now) (a .key .now) (a .edition) (a .n) (s .pre .0) _ (c .before .before .before .before .before .before .before .before .before .before .before .before .job-field-length .ensures) _ _ (c .before .before .before .before .before .before .before .number-of .ensures) (c .before .before .before .before .before .before .job-of .ensures))
     (c .before .before .before .judge-sealed .ensures)
 
 pub open-fields-spec : {M : Type 1} → statement M

@@ -174,10 +174,10 @@ module _ {M : Type 1} (𝓤 : URA M) (H : Heap 𝓤) (A : Atoms 𝓤) (W : Given
 
   -- what is said of a step, and of the buffer's last list
   abbrev Stepped : Step → Type 0
-  Stepped r = r ≡ stepOf (told (now key) (now font)) asked (now (h .stream)) (h .at) ys
+  Stepped r = r ≡ stepOf (told (now key) (now font) (asked .layout)) asked (now (h .stream)) (h .at) ys
 
   abbrev Left : List ℕ → Type 0
-  Left zs = zs ≡ readOut (told (now key) (now font)) asked (now (h .stream)) (h .at) ys
+  Left zs = zs ≡ readOut (told (now key) (now font) (asked .layout)) asked (now (h .stream)) (h .at) ys
 
   abbrev tokens : Item 𝓤
   tokens = ‵ (flft κ₁ q₁) ⊛ ‵ (flft κ₂ q₂) ⊛ ‵ (flft κ₃ q₃) ⊛ ‵ (flft κ₄ q₄) ⊛ ‵ ftrue

@@ -189,7 +189,7 @@ module _ {M : Type 1} (𝓤 : URA M) (H : Heap 𝓤) (A : Atoms 𝓤) (W : Given
 
   -- what `next` says of its reading, of the walker that it leaves and of the buffer's last list
   abbrev t : Told
-  t = told (now key) (now font)
+  t = told (now key) (now font) (asked .layout)
 
   abbrev Said : Reading → Walker → List ℕ → Type 0
   Said r w zs = (r ≡ readAnswer t asked (now stream) n ys) × (zs ≡ readOut t asked (now stream) n ys) × (w .stream ≡ stream) × (w .at ≡ r .closing)

@@ -1,0 +1,4 @@
+pub mod Layouts
+pub mod Rule
+pub mod Tests
+pub mod Laid

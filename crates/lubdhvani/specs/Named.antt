@@ -1,0 +1,39 @@
+-- What a call comes to under the layout that was made of a number is what it comes to under the layout that the number names. Assumes nothing.
+use mathlib.Core.Path.{_≡_, ap, _∙_}
+use mathlib.Core.List.{List}
+use Prim.Native.Nat.{ℕ}
+use Rattle.layout.specs.declared.Layout.{Layout}
+use Rattle.body.specs.Fields.{Own}
+use Rattle.framing.specs.Told.{told}
+use Rattle.frame.specs.declared.Written.{Written}
+use Rattle.frame.specs.Answers.{writeCall}
+use Rattle.converter.specs.declared.Converted.{Converted}
+use Rattle.converter.specs.Answers.{convertCall}
+use Rattle.reader.specs.declared.Asked.{Asked}
+use Rattle.reader.specs.declared.Reading.{Reading}
+use Rattle.reader.specs.Answers.{readAnswer, readOut}
+
+module _ (key font : List ℕ) {l m : Layout} (e : l ≡ m) where
+  pub written-named : (own : Own) (L f : List ℕ) {w : Written} {o : List ℕ}
+      → (w ≡ writeCall (told key font l) own L f .answer) × (o ≡ writeCall (told key font l) own L f .frame)
+      → (w ≡ writeCall (told key font m) own L f .answer) × (o ≡ writeCall (told key font m) own L f .frame)
+  written-named own L f p =
+      (p .0 ∙ ap (λ (n : Layout). writeCall (told key font n) own L f .answer) e, p .1 ∙ ap (λ (n : Layout). writeCall (told key font n) own L f .frame) e)
+
+  pub converted-named : (own : Own) (s f : List ℕ) {w : Converted} {o : List ℕ}
+      → (w ≡ convertCall (told key font l) own s f .answer) × (o ≡ convertCall (told key font l) own s f .frame)
+      → (w ≡ convertCall (told key font m) own s f .answer) × (o ≡ convertCall (told key font m) own s f .frame)
+  converted-named own s f p =
+      (p .0 ∙ ap (λ (n : Layout). convertCall (told key font n) own s f .answer) e, p .1 ∙ ap (λ (n : Layout). convertCall (told key font n) own s f .frame) e)
+
+  -- what a reader is told anew, with a layout
+  abbrev asks : ℕ → ℕ → Layout → Asked
+  asks editions allowed n = record { editions = editions; allowed = allowed; layout = n }
+
+  pub read-named : (editions allowed : ℕ) (s : List ℕ) (from : ℕ) (o : List ℕ) {r : Reading} {w : List ℕ}
+      → (r ≡ readAnswer (told key font l) (asks editions allowed l) s from o) × (w ≡ readOut (told key font l) (asks editions allowed l) s from o)
+      → (r ≡ readAnswer (told key font m) (asks editions allowed m) s from o) × (w ≡ readOut (told key font m) (asks editions allowed m) s from o)
+  read-named editions allowed s from o p = (
+    p .0 ∙ ap (λ (n : Layout). readAnswer (told key font n) (asks editions allowed n) s from o) e,
+    p .1 ∙ ap (λ (n : Layout). readOut (told key font n) (asks editions allowed n) s from o) e,
+  )
