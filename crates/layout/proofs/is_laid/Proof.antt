@@ -15,7 +15,7 @@ add-if1 : tie.Need-add-if1
 add-if1 c = search needs
 
 returns : tie.Need-returns
-returns c = sym (other-length _ _ (λ e. c .if1 .taken (omega (arith, e))))
+returns c = sym (other-length _ _ (λ e. omega (arith, e, c .if1 .taken)))
 
 shared-slice-read-if2 : tie.Need-shared-slice-read-if2
 shared-slice-read-if2 c = search needs
