@@ -11,6 +11,7 @@ mod frame;
 mod layout;
 mod limit;
 pub mod permute;
+mod running;
 mod seal;
 mod sound;
 pub mod stream;
@@ -50,12 +51,14 @@ impl Rows {
 pub fn all() -> Vec<Rows> {
     let (bundles, bundle_rows) = bundle::stdin_and_rows();
     let (digests, digest_rows) = digest::stdin_and_rows();
+    let (runnings, running_rows) = running::stdin_and_rows();
     let (sealings, seal_rows) = call::stdin_and_rows();
     let (readings, stream_rows) = stream::stdin_and_rows();
     vec![
         Rows::of_cases("bundle_rows", bundles, bundle_rows),
         Rows::of_cases("digest_rows", digests, digest_rows),
         Rows::printed("permute_rows", permute::rows()),
+        Rows::of_cases("running_rows", runnings, running_rows),
         Rows::of_cases("seal_rows", sealings, seal_rows),
         Rows::of_cases("stream_rows", readings, stream_rows),
     ]
