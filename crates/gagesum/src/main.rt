@@ -1,5 +1,5 @@
 // The GAGE digest of standard input, read through a small window: `gagesum` for instance 1, `gagesum I` for instance I. Only bytes are moved
-// here; what the word and each read mean is decided by `sums`, and the digest is that of `running`.
+// here; what the word and each read mean is decided by `sums`, and the digest is that of `feeding`.
 use digest::DIGEST;
 use libc::STDERR_FILENO;
 use libc::STDIN_FILENO;
@@ -49,7 +49,7 @@ fn print(digest: &[u8]) {
 // The digest of what was fed.
 fn give(running: Record) {
     let mut digest = [0u8; DIGEST];
-    match running::give(running, &mut digest) {
+    match feeding::give(running, &mut digest) {
         Finished::Done(_) => print(&digest),
         // Never: the record was started and only fed, and there is room.
         _ => complain(b"gagesum: no digest\n"),

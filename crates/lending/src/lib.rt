@@ -1,17 +1,17 @@
-// The running digest (order W4) on a record that the caller lends: it is updated where it stands. Thin over the steps by value of `running`,
-// whose definitions the promises cite.
+// The running digest (order W4) on a record that the caller lends: it is updated where it stands. Thin over the steps by value of `feeding`;
+// the promises cite the definitions of `running`.
 ghost use mathlib.Core.Path.{_≡_};
 ghost use Rattle.running.specs.Running.{startAnswer, startRecord, feedAnswer, feedRecord, finishAnswer, finishRecord, finishOut};
+use feeding::after_feed;
+use feeding::after_finish;
+use feeding::after_start;
+use feeding::feed_answer;
+use feeding::give;
+use feeding::start_answer;
 use running::Fed;
 use running::Finished;
 use running::Record;
 use running::Started;
-use running::after_feed;
-use running::after_finish;
-use running::after_start;
-use running::feed_answer;
-use running::give;
-use running::start_answer;
 
 // Starts a digest, whatever the record held; refused, it leaves the record.
 pub fn start(running: &mut Record, instance: usize) -> Started

@@ -26,6 +26,10 @@ ghost use Rattle.bundling.specs.Answers as bundles;
 ghost use Rattle.running.specs.Running.{startAnswer, startRecord, startNumber, feedAnswer, feedRecord, feedNumber, finishAnswer, finishRecord, finishOut, finishNumber, finishCount};
 ghost use Rattle.lubdhvani.specs.Calls.{permuteNumber, permuteState};
 ghost use Rattle.lubdhvani.specs.Readings.{askedOf, readingOut};
+use feeding::feed_number;
+use feeding::finish_count;
+use feeding::finish_number;
+use feeding::start_number;
 use gage::Answer;
 use gage::LARGEST;
 use layout::layout_of;
@@ -44,10 +48,6 @@ use numbers::write_length;
 use numbers::write_number;
 use running::Finished;
 use running::Record;
-use running::feed_number;
-use running::finish_count;
-use running::finish_number;
-use running::start_number;
 
 // A state of at most LARGEST bytes at the start of a whole one.
 fn widened(state: &[u8]) -> [u8; LARGEST]

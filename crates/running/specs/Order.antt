@@ -1,4 +1,5 @@
--- The order's refusals of feed and finish, read backwards: what a record that passed a test has, and what a call that passed them all does.
+-- The order's refusals of feed and finish: which comes first, and what a refused feed leaves; then read backwards, what a record that passed a
+-- test has, and what a call that passed them all does.
 -- Assumes nothing.
 use mathlib.Core.Path.{_≡_, refl, sym, ap, _∙_}
 use mathlib.Core.Bool.{Bool, true, false, cond}
@@ -12,8 +13,9 @@ use Rattle.lists.specs.Never.{never}
 use Rattle.lists.specs.Buffers.{over}
 use Rattle.digest.specs.Instances.{DIGEST, unknown}
 use Rattle.digest.specs.Answers.{LONGEST-MESSAGE}
-use Rattle.running.specs.Running.{unfinished, unfed, grown, concluded, feedAnswer, feedRecord, finishAnswer, finishOut, finishRecord, onFinish, ended}
+use Rattle.running.specs.Running.{unfinished, unfed, isFinished, grown, concluded, onFeed, feedAnswer, feedRecord, finishAnswer, finishOut, finishRecord, onFinish, ended}
 use Rattle.running.specs.declared.Record.{Record}
+use Rattle.running.specs.declared.Fed.{Fed}
 use Rattle.running.specs.declared.Fed.the-variants as fed-is
 use Rattle.running.specs.declared.Finished.{Finished}
 use Rattle.running.specs.declared.Finished.the-variants as finished-is
@@ -27,6 +29,23 @@ known-of r e = decided (unknown (r .instance)) refl e
         → (unknown (r .instance) ≡ false) × (r .total ≤ LONGEST-MESSAGE)
     decided true h g = never (sym g)
     decided false h g = (h, ltb-false LONGEST-MESSAGE (r .total) g)
+
+-- 14 is asked first: after a finish nothing else of the record or of the call counts
+pub finished-first : (r : Record) (b o : List ℕ) → isFinished r ≡ true
+    → (feedAnswer r b ≡ fed-is.AfterFinish) × (finishAnswer r o ≡ finished-is.AfterFinish)
+unfolding feedAnswer finishAnswer
+finished-first r b o f = (rw f, rw f)
+
+-- a feed that is refused leaves the record
+pub refused-leaves : (r : Record) (b : List ℕ) → (fed-is.Done ≡ feedAnswer r b → ⊥) → feedRecord r b ≡ r
+unfolding feedRecord
+refused-leaves r b n = left (feedAnswer r b) n
+  where
+    left : (a : Fed) → (fed-is.Done ≡ a → ⊥) → onFeed a (grown r (r .total + length b) (unfinished r ++ b)) r ≡ r
+    left fed-is.Done n = absurd (n refl)
+    left fed-is.AfterFinish n = refl
+    left fed-is.Unknown n = refl
+    left fed-is.TooLong n = refl
 
 -- what a feed that is done was tested for
 pub record Tested (r : Record) (b : List ℕ) : Type 0 where

@@ -75,25 +75,25 @@ fn record(running: Record) {
 }
 
 fn started(running: Record, instance: usize) -> Record {
-    cell(running::start_number(running::start_answer(instance)) as usize);
+    cell(feeding::start_number(feeding::start_answer(instance)) as usize);
     cell(0);
     hex(b"");
-    running::after_start(running, instance)
+    feeding::after_start(running, instance)
 }
 
 fn fed(running: Record, bytes: &[u8]) -> Record {
-    cell(running::feed_number(running::feed_answer(running, bytes)) as usize);
+    cell(feeding::feed_number(feeding::feed_answer(running, bytes)) as usize);
     cell(0);
     hex(b"");
-    running::after_feed(running, bytes)
+    feeding::after_feed(running, bytes)
 }
 
 fn finished(running: Record, out: &mut [u8]) -> Record {
-    let answer = running::give(running, out);
-    cell(running::finish_number(answer) as usize);
-    cell(running::finish_count(answer));
+    let answer = feeding::give(running, out);
+    cell(feeding::finish_number(answer) as usize);
+    cell(feeding::finish_count(answer));
     hex(out);
-    running::after_finish(running, answer)
+    feeding::after_finish(running, answer)
 }
 
 // A record as no call may have left it.

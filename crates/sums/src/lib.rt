@@ -67,7 +67,7 @@ pub fn begin(instance: usize) -> Record
         state,
         block,
     };
-    running::after_start(zero, instance)
+    feeding::after_start(zero, instance)
 }
 
 // What a feed's answer says of the input.
@@ -91,7 +91,7 @@ pub fn judge_part(running: Record, heard: Heard, window: &[u8]) -> Sum
             if n > window.len() {
                 return Sum::Unread;
             }
-            fed_sum(running::feed_answer(running, &window[0..n]))
+            fed_sum(feeding::feed_answer(running, &window[0..n]))
         }
         Heard::Again => Sum::On,
         Heard::End => Sum::End,
@@ -108,7 +108,7 @@ pub fn take_part(running: Record, heard: Heard, window: &[u8]) -> Record
             if n > window.len() {
                 return running;
             }
-            running::after_feed(running, &window[0..n])
+            feeding::after_feed(running, &window[0..n])
         }
         Heard::Again => running,
         Heard::End => running,

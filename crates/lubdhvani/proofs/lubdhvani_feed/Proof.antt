@@ -46,10 +46,10 @@ use Rattle.lending.proofs.feed as one
 use Rattle.lending.proofs.feed.Symbol as one-def
 use Rattle.lending.proofs.feed.Symbol.{name as #lending·feed}
 use Rattle.lending.proofs.feed.Met as one-thm
-use Rattle.running.proofs.feed_number as two
-use Rattle.running.proofs.feed_number.Symbol as two-def
-use Rattle.running.proofs.feed_number.Symbol.{name as #two}
-use Rattle.running.proofs.feed_number.Met as two-thm
+use Rattle.feeding.proofs.feed_number as two
+use Rattle.feeding.proofs.feed_number.Symbol as two-def
+use Rattle.feeding.proofs.feed_number.Symbol.{name as #two}
+use Rattle.feeding.proofs.feed_number.Met as two-thm
 use Rattle.lubdhvani.proofs.lubdhvani_feed.Key.{name as #here}
 use Rattle.lubdhvani.proofs.lubdhvani_feed as here
 use Rattle.lubdhvani.proofs.lubdhvani_feed.Statement as stated
@@ -158,4 +158,4 @@ lubdhvani-feed-spec 𝓤 H 𝓜 𝓖 𝓡 =
     (tables 𝓤 H 𝓜 𝓡 code.env .C) (tables 𝓤 H 𝓜 𝓡 code.env .Λ) #here code.function (code.unfolded 𝓤 H 𝓜 𝓡)
     (meets 𝓤 H (𝓖 .A) (givenOf 𝓤 H 𝓜 𝓖) (𝓜 .mem) (𝓡 .run) (tablesOf 𝓤 H 𝓜 (tables 𝓤 H 𝓜 𝓡 code.env))
     (cited 𝓤 H (One 𝓤 H (𝓖 .A) (𝓜 .mem) (𝓡 .run)) 𝓜 𝓡 code.env #lending·feed one-def.routine code.calls-lending·feed (one-thm.met 𝓤 H 𝓜 𝓖 𝓡))
-    (cited 𝓤 H (Two 𝓤 H (𝓖 .A) (𝓜 .mem) (𝓡 .run)) 𝓜 𝓡 code.env #two two-def.routine code.calls-running·feed-number (two-thm.met 𝓤 H 𝓜 𝓖 𝓡)))
+    (cited 𝓤 H (Two 𝓤 H (𝓖 .A) (𝓜 .mem) (𝓡 .run)) 𝓜 𝓡 code.env #two two-def.routine code.calls-feeding·feed-number (two-thm.met 𝓤 H 𝓜 𝓖 𝓡)))

@@ -44,10 +44,10 @@ use Rattle.lending.proofs.start as one
 use Rattle.lending.proofs.start.Symbol as one-def
 use Rattle.lending.proofs.start.Symbol.{name as #lending·start}
 use Rattle.lending.proofs.start.Met as one-thm
-use Rattle.running.proofs.start_number as two
-use Rattle.running.proofs.start_number.Symbol as two-def
-use Rattle.running.proofs.start_number.Symbol.{name as #two}
-use Rattle.running.proofs.start_number.Met as two-thm
+use Rattle.feeding.proofs.start_number as two
+use Rattle.feeding.proofs.start_number.Symbol as two-def
+use Rattle.feeding.proofs.start_number.Symbol.{name as #two}
+use Rattle.feeding.proofs.start_number.Met as two-thm
 use Rattle.lubdhvani.proofs.lubdhvani_start.Key.{name as #here}
 use Rattle.lubdhvani.proofs.lubdhvani_start as here
 use Rattle.lubdhvani.proofs.lubdhvani_start.Statement as stated
@@ -156,4 +156,4 @@ lubdhvani-start-spec 𝓤 H 𝓜 𝓖 𝓡 =
     (tables 𝓤 H 𝓜 𝓡 code.env .C) (tables 𝓤 H 𝓜 𝓡 code.env .Λ) #here code.function (code.unfolded 𝓤 H 𝓜 𝓡)
     (meets 𝓤 H (𝓖 .A) (givenOf 𝓤 H 𝓜 𝓖) (𝓜 .mem) (𝓡 .run) (tablesOf 𝓤 H 𝓜 (tables 𝓤 H 𝓜 𝓡 code.env))
     (cited 𝓤 H (One 𝓤 H (𝓖 .A) (𝓜 .mem) (𝓡 .run)) 𝓜 𝓡 code.env #lending·start one-def.routine code.calls-lending·start (one-thm.met 𝓤 H 𝓜 𝓖 𝓡))
-    (cited 𝓤 H (Two 𝓤 H (𝓖 .A) (𝓜 .mem) (𝓡 .run)) 𝓜 𝓡 code.env #two two-def.routine code.calls-running·start-number (two-thm.met 𝓤 H 𝓜 𝓖 𝓡)))
+    (cited 𝓤 H (Two 𝓤 H (𝓖 .A) (𝓜 .mem) (𝓡 .run)) 𝓜 𝓡 code.env #two two-def.routine code.calls-feeding·start-number (two-thm.met 𝓤 H 𝓜 𝓖 𝓡)))

@@ -1,9 +1,9 @@
 -- `is_unfed` meets its promise: the two tests are those of the definition. Assumes nothing.
 use mathlib.Core.Path.{sym, _∙_}
 use Rattle.running.specs.Running.{unfed}
 use borrow.Author.Needs.{needs}
-use Rattle.running.proofs.is_unfed.Statement.{statement}
-use Rattle.running.proofs.is_unfed.Tie as tie
+use Rattle.feeding.proofs.is_unfed.Statement.{statement}
+use Rattle.feeding.proofs.is_unfed.Tie as tie
 
 cast-is-unknown : tie.Need-cast-is-unknown
 cast-is-unknown c = search needs

@@ -4,12 +4,12 @@ use Prim.Native.Nat.{_+_, _≤_, _<_}
 use borrow.Author.Tests.{lt-ltb, le-ltb}
 use lib.ListN.{length}
 use Rattle.digest.specs.Answers.{LONGEST-MESSAGE}
 use Rattle.running.specs.Running.{feedAnswer}
 use Rattle.running.specs.Order.{known-of}
 use native.Mathlib.Omega.{arith}
 use borrow.Author.Needs.{needs}
-use Rattle.running.proofs.feed_answer.Statement.{statement}
-use Rattle.running.proofs.feed_answer.Tie as tie
+use Rattle.feeding.proofs.feed_answer.Statement.{statement}
+use Rattle.feeding.proofs.feed_answer.Tie as tie
 
 returns : tie.Need-returns
 unfolding feedAnswer

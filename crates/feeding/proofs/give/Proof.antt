@@ -3,13 +3,13 @@ use mathlib.Core.Path.{refl, sym, _∙_}
 use borrow.Author.Tests.{lt-ltb, le-ltb}
 use lib.ListN.{length}
 use Rattle.digest.specs.Instances.{DIGEST}
 use Rattle.running.specs.Running.{finishAnswer, finishOut}
 use Rattle.running.specs.Order.{known-of}
-use Rattle.running.proofs.Answering.{some, held-fits, count-fits, finish-done}
+use Rattle.feeding.proofs.Answering.{some, held-fits, count-fits, finish-done}
 use native.Mathlib.Omega.{arith}
 use borrow.Author.Needs.{needs}
-use Rattle.running.proofs.give.Statement.{statement}
-use Rattle.running.proofs.give.Tie as tie
+use Rattle.feeding.proofs.give.Statement.{statement}
+use Rattle.feeding.proofs.give.Tie as tie
 
 returns : tie.Need-returns
 unfolding finishAnswer finishOut

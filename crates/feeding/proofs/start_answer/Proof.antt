@@ -1,9 +1,9 @@
 -- `start_answer` meets its promise: whether the instance is known. Assumes nothing.
 use mathlib.Core.Path.{sym, _∙_}
 use Rattle.running.specs.Running.{startAnswer}
 use borrow.Author.Needs.{needs}
-use Rattle.running.proofs.start_answer.Statement.{statement}
-use Rattle.running.proofs.start_answer.Tie as tie
+use Rattle.feeding.proofs.start_answer.Statement.{statement}
+use Rattle.feeding.proofs.start_answer.Tie as tie
 
 is-unknown-requires : tie.Need-is-unknown-requires
 is-unknown-requires c κs = search needs

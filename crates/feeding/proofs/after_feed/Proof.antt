@@ -1,11 +1,11 @@
 -- `after_feed` meets its promise: a refusal leaves the record, and else state and block grow. Assumes nothing.
 use mathlib.Core.Path.{sym, _∙_}
 use Rattle.running.specs.Order.{known-of, feed-tested}
-use Rattle.running.proofs.Answering.{feed-refused, some, held-less, growing, feed-done}
+use Rattle.feeding.proofs.Answering.{feed-refused, some, held-less, growing, feed-done}
 use native.Mathlib.Omega.{arith}
 use borrow.Author.Needs.{needs}
-use Rattle.running.proofs.after_feed.Statement.{statement}
-use Rattle.running.proofs.after_feed.Tie as tie
+use Rattle.feeding.proofs.after_feed.Statement.{statement}
+use Rattle.feeding.proofs.after_feed.Tie as tie
 
 feed-answer-requires : tie.Need-feed-answer-requires
 feed-answer-requires c κs = search needs

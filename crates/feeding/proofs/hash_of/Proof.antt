@@ -3,8 +3,8 @@ use mathlib.Core.Path.{_≡_, _∙_}
 use Prim.Native.Nat.{_-_}
 use native.Mathlib.Omega.{arith}
 use borrow.Author.Needs.{needs}
-use Rattle.running.proofs.hash_of.Statement.{statement}
-use Rattle.running.proofs.hash_of.Tie as tie
+use Rattle.feeding.proofs.hash_of.Statement.{statement}
+use Rattle.feeding.proofs.hash_of.Tie as tie
 
 sub-close : tie.Need-sub-close
 sub-close c = search needs

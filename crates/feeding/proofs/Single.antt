@@ -5,30 +5,30 @@ use Prim.Native.Nat.{ℕ}
 use contract.Lifetimes.{Lfts}
 use denote.Triple.Clauses.{AtExit}
 use borrow.Fn.Kinds.{Dens, endedOf}
 use Rattle.running.specs.declared.Record.{Record}
 use Rattle.running.specs.declared.Started.{Started}
 use Rattle.running.specs.declared.Fed.{Fed}
 use Rattle.running.specs.declared.Finished.{Finished}
-use Rattle.running.proofs.start_answer.Kinds as start-answer-kinds
-use Rattle.running.proofs.start_answer.Reads as start-answer-reads
-use Rattle.running.proofs.after_start.Kinds as after-start-kinds
-use Rattle.running.proofs.after_start.Reads as after-start-reads
-use Rattle.running.proofs.feed_answer.Kinds as feed-answer-kinds
-use Rattle.running.proofs.feed_answer.Reads as feed-answer-reads
-use Rattle.running.proofs.after_feed.Kinds as after-feed-kinds
-use Rattle.running.proofs.after_feed.Reads as after-feed-reads
-use Rattle.running.proofs.give.Kinds as give-kinds
-use Rattle.running.proofs.give.Reads as give-reads
-use Rattle.running.proofs.after_finish.Kinds as after-finish-kinds
-use Rattle.running.proofs.after_finish.Reads as after-finish-reads
-use Rattle.running.proofs.start_number.Kinds as start-number-kinds
-use Rattle.running.proofs.start_number.Reads as start-number-reads
-use Rattle.running.proofs.feed_number.Kinds as feed-number-kinds
-use Rattle.running.proofs.feed_number.Reads as feed-number-reads
-use Rattle.running.proofs.finish_number.Kinds as finish-number-kinds
-use Rattle.running.proofs.finish_number.Reads as finish-number-reads
-use Rattle.running.proofs.finish_count.Kinds as finish-count-kinds
-use Rattle.running.proofs.finish_count.Reads as finish-count-reads
+use Rattle.feeding.proofs.start_answer.Kinds as start-answer-kinds
+use Rattle.feeding.proofs.start_answer.Reads as start-answer-reads
+use Rattle.feeding.proofs.after_start.Kinds as after-start-kinds
+use Rattle.feeding.proofs.after_start.Reads as after-start-reads
+use Rattle.feeding.proofs.feed_answer.Kinds as feed-answer-kinds
+use Rattle.feeding.proofs.feed_answer.Reads as feed-answer-reads
+use Rattle.feeding.proofs.after_feed.Kinds as after-feed-kinds
+use Rattle.feeding.proofs.after_feed.Reads as after-feed-reads
+use Rattle.feeding.proofs.give.Kinds as give-kinds
+use Rattle.feeding.proofs.give.Reads as give-reads
+use Rattle.feeding.proofs.after_finish.Kinds as after-finish-kinds
+use Rattle.feeding.proofs.after_finish.Reads as after-finish-reads
+use Rattle.feeding.proofs.start_number.Kinds as start-number-kinds
+use Rattle.feeding.proofs.start_number.Reads as start-number-reads
+use Rattle.feeding.proofs.feed_number.Kinds as feed-number-kinds
+use Rattle.feeding.proofs.feed_number.Reads as feed-number-reads
+use Rattle.feeding.proofs.finish_number.Kinds as finish-number-kinds
+use Rattle.feeding.proofs.finish_number.Reads as finish-number-reads
+use Rattle.feeding.proofs.finish_count.Kinds as finish-count-kinds
+use Rattle.feeding.proofs.finish_count.Reads as finish-count-reads
 
 pub start-answer-single : (κs : Lfts 0) (a : Dens κs start-answer-kinds.ps) (r r′ : Started) (x x′ : AtExit (endedOf 0 start-answer-kinds.ps start-answer-kinds.r) κs)
     → start-answer-reads.Post κs a r x → start-answer-reads.Post κs a r′ x′ → r ≡ r′

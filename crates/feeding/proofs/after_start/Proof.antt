@@ -1,12 +1,12 @@
 -- `after_start` meets its promise: feeding nothing leaves a state of zeros and no byte. Assumes nothing.
 use mathlib.Core.Path.{sym, _∙_}
 use Rattle.digest.specs.Shapes.{known-row}
 use Rattle.running.specs.Running.{startRecord}
-use Rattle.running.proofs.Starting.{started-empty}
+use Rattle.feeding.proofs.Starting.{started-empty}
 use native.Mathlib.Omega.{arith}
 use borrow.Author.Needs.{needs}
-use Rattle.running.proofs.after_start.Statement.{statement}
-use Rattle.running.proofs.after_start.Tie as tie
+use Rattle.feeding.proofs.after_start.Statement.{statement}
+use Rattle.feeding.proofs.after_start.Tie as tie
 
 is-unknown-requires : tie.Need-is-unknown-requires
 is-unknown-requires c κs = search needs

@@ -1,10 +1,10 @@
 -- `after_finish` meets its promise, answer by answer. Assumes nothing.
 use mathlib.Core.Path.{refl, sym}
 use Rattle.running.specs.Running.{ended}
-use Rattle.running.proofs.Answering.{finish-refused}
+use Rattle.feeding.proofs.Answering.{finish-refused}
 use borrow.Author.Needs.{needs}
-use Rattle.running.proofs.after_finish.Statement.{statement}
-use Rattle.running.proofs.after_finish.Tie as tie
+use Rattle.feeding.proofs.after_finish.Statement.{statement}
+use Rattle.feeding.proofs.after_finish.Tie as tie
 
 enum-told : tie.Need-enum-told
 enum-told c = search needs

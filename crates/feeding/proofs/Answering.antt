@@ -22,16 +22,16 @@ use Rattle.digest.specs.Shapes.{known-whole}
 use Rattle.digest.specs.Parts.{spongeOf, takenIn, closedBy, within}
 use Rattle.digest.specs.Joining.{taken-state, closed-calls, closed-state}
 use Rattle.digest.specs.declared.Shape.{Shape}
 use Rattle.running.specs.Running.{written, soFar, unfinished, unfed, takenUp, leftOf, grown, feedAnswer, feedRecord, concluded, finishAnswer, finishOut, onFinish, ended}
-use Rattle.running.specs.Growing.{Growing}
+use Rattle.feeding.specs.Growing.{Growing}
 use Rattle.running.specs.Order.{finish-passes}
 use Rattle.running.specs.declared.Record.{Record}
 use Rattle.running.specs.declared.Fed.{Fed}
 use Rattle.running.specs.declared.Fed.the-variants as fed-is
 use Rattle.running.specs.declared.Finished.{Finished}
 use Rattle.running.specs.declared.Finished.the-variants as finished-is
 use Rattle.running.proofs.Fed as fed-type
 use Rattle.running.proofs.Finished as finished-type
 
 -- a refused feed leaves the record
 pub feed-refused : (r : Record) (b : List ℕ) (a : Fed) → OneOf (1 ∷ 2 ∷ 3 ∷ []) (tagOf fed-type.the-type a) → a ≡ feedAnswer r b → r ≡ feedRecord r b

@@ -1,0 +1,262 @@
+// The steps of the running digest (order W4) by value: what start, feed and finish answer, and the record that each leaves. A block is taken
+// in as it fills, so that the record holds no more of the message than its unfinished block. The promises cite running/specs/Running.antt.
+ghost use mathlib.Core.Path.{_≡_};
+ghost use mathlib.Core.List.{_++_};
+ghost use Prim.Native.Nat.{_≤_};
+ghost use lib.ListN.{take};
+ghost use Rattle.sponge.specs.Padding.{LARGEST-RATE};
+ghost use Rattle.digest.specs.Parts.{within, takenIn, closedBy};
+ghost use Rattle.running.specs.Running.{unfed, leftOf, startAnswer, startRecord, feedAnswer, feedRecord, ended};
+ghost use Rattle.running.specs.Running.{finishAnswer, finishOut, finishRecord, onFinish};
+ghost use Rattle.running.specs.Running.{startNumber, feedNumber, finishNumber, finishCount};
+ghost use Rattle.feeding.specs.Growing.{Growing};
+use digest::DIGEST;
+use digest::LONGEST_MESSAGE;
+use gage::LARGEST;
+use running::Fed;
+use running::Finished;
+use running::Record;
+use running::Started;
+use sponge::LARGEST_RATE;
+
+// What `finished` holds before a finish, and what a finish writes there: every number but 0 is finished.
+const NOT_FINISHED: u32 = 0;
+
+const FINISHED: u32 = 1;
+
+// What a refusal counts.
+const NO_CALLS: usize = 0;
+
+// What `start` answers.
+pub fn start_answer(instance: usize) -> Started
+    ensures { λ r. ⌜ r ≡ startAnswer instance ⌝ }
+{
+    if digest::is_unknown(instance) {
+        return Started::Unknown;
+    }
+    Started::Done
+}
+
+// The record after a start; as it was where that is refused.
+pub fn after_start(running: Record, instance: usize) -> Record
+    ensures { λ r. ⌜ r ≡ startRecord running instance ⌝ }
+{
+    if digest::is_unknown(instance) {
+        return running;
+    }
+    let state = [0u8; LARGEST];
+    let block = [0u8; LARGEST_RATE];
+    Record {
+        total: 0,
+        instance: instance as u32,
+        finished: NOT_FINISHED,
+        state,
+        block,
+    }
+}
+
+// Whether a record has no known instance, or counts more than can be fed.
+fn is_unfed(running: Record) -> bool
+    ensures { λ r. ⌜ r ≡ unfed running ⌝ }
+{
+    if digest::is_unknown(running.instance as usize) {
+        return true;
+    }
+    running.total > LONGEST_MESSAGE
+}
+
+// What `feed` answers.
+pub fn feed_answer(running: Record, bytes: &[u8]) -> Fed
+    ensures { λ r. ⌜ r ≡ feedAnswer running (now (bytes .entry)) ⌝ }
+{
+    if running.finished > NOT_FINISHED {
+        return Fed::AfterFinish;
+    }
+    if is_unfed(running) {
+        return Fed::Unknown;
+    }
+    if bytes.len() > LONGEST_MESSAGE - running.total {
+        return Fed::TooLong;
+    }
+    Fed::Done
+}
+
+// The first bytes of a block and as many more as fit, zeros behind them.
+fn joined(block: [u8; LARGEST_RATE], held: usize, bytes: &[u8]) -> [u8; LARGEST_RATE]
+    requires { ⌜ held ≤ LARGEST-RATE ⌝ }
+    ensures { λ r. ⌜ r ≡ within LARGEST-RATE (take held block ++ now (bytes .entry)) ⌝ }
+{
+    let mut out = [0u8; LARGEST_RATE];
+    lists::copy(&block[0..held], &mut out);
+    lists::copy(bytes, &mut out[held..]);
+    out
+}
+
+// A state after the blocks that fill: the one begun, of which some bytes are held and some missing, and those whole in the bytes fed.
+fn grow_state(
+    instance: usize,
+    state: [u8; LARGEST],
+    block: [u8; LARGEST_RATE],
+    held: usize,
+    missing: usize,
+    bytes: &[u8],
+) -> [u8; LARGEST]
+    requires { ⌜ Growing instance held missing ⌝ }
+    ensures { λ r. ⌜ r ≡ takenIn instance state (take held block ++ now (bytes .entry)) ⌝ }
+{
+    if bytes.len() < missing {
+        return digest::take_in(instance, state, &block[0..held]);
+    }
+    let first = joined(block, held, &bytes[0..missing]);
+    let rate = held + missing;
+    let filled = digest::take_in(instance, state, &first[0..rate]);
+    digest::take_in(instance, filled, &bytes[missing..])
+}
+
+// The block after them: what fills none.
+fn grow_block(
+    instance: usize,
+    block: [u8; LARGEST_RATE],
+    held: usize,
+    missing: usize,
+    bytes: &[u8],
+) -> [u8; LARGEST_RATE]
+    requires { ⌜ Growing instance held missing ⌝ }
+    ensures { λ r. ⌜ r ≡ within LARGEST-RATE (leftOf instance (take held block ++ now (bytes .entry))) ⌝ }
+{
+    let fed = bytes.len();
+    if fed < missing {
+        return joined(block, held, bytes);
+    }
+    let rate = held + missing;
+    let whole = (fed - missing) / rate * rate;
+    let at = missing + whole;
+    joined(block, 0, &bytes[at..])
+}
+
+// The digest from a state and the bytes held of the unfinished block.
+fn hash_of(
+    instance: usize,
+    state: [u8; LARGEST],
+    block: [u8; LARGEST_RATE],
+    held: usize,
+) -> [u8; DIGEST]
+    requires { ⌜ held ≤ LARGEST-RATE ⌝ }
+    ensures { λ r. ⌜ r ≡ closedBy instance state (take held block) ⌝ }
+{
+    digest::close(instance, state, &block[0..held])
+}
+
+// The record after a feed; as it was where that is refused.
+pub fn after_feed(running: Record, bytes: &[u8]) -> Record
+    ensures { λ r. ⌜ r ≡ feedRecord running (now (bytes .entry)) ⌝ }
+{
+    let Fed::Done = feed_answer(running, bytes) else {
+        return running;
+    };
+    let instance = running.instance as usize;
+    let shape = digest::sponge_of(instance);
+    let total = running.total;
+    let held = total % shape.rate;
+    let missing = shape.rate - held;
+    let old = running.state;
+    let begun = running.block;
+    let state = grow_state(instance, old, begun, held, missing, bytes);
+    let block = grow_block(instance, begun, held, missing, bytes);
+    Record {
+        total: total + bytes.len(),
+        instance: running.instance,
+        finished: NOT_FINISHED,
+        state,
+        block,
+    }
+}
+
+// What `finish` answers; done, the digest stands over the first 32 bytes of out, and else out is as it was.
+pub fn give(running: Record, out: &mut [u8]) -> Finished
+    ensures { λ r. ⌜ (r ≡ finishAnswer running (now (out .entry))) × (now (out .exit) ≡ finishOut running (now (out .entry))) ⌝ }
+{
+    if running.finished > NOT_FINISHED {
+        return Finished::AfterFinish;
+    }
+    if is_unfed(running) {
+        return Finished::Unknown;
+    }
+    if out.len() < DIGEST {
+        return Finished::NoRoom;
+    }
+    let instance = running.instance as usize;
+    let shape = digest::sponge_of(instance);
+    let rate = shape.rate;
+    let total = running.total;
+    let held = total % rate;
+    let state = running.state;
+    let block = running.block;
+    let hash = hash_of(instance, state, block, held);
+    lists::copy(&hash, out);
+    Finished::Done(total / rate + 1 + shape.outputs)
+}
+
+// The record after a finish that gave this answer; as it was where that is a refusal.
+pub fn after_finish(running: Record, answer: Finished) -> Record
+    ensures { λ r. ⌜ r ≡ onFinish answer (ended running) running ⌝ }
+{
+    let Finished::Done(_) = answer else {
+        return running;
+    };
+    let state = [0u8; LARGEST];
+    let block = [0u8; LARGEST_RATE];
+    Record {
+        total: running.total,
+        instance: running.instance,
+        finished: FINISHED,
+        state,
+        block,
+    }
+}
+
+// The number of what `start` answers.
+pub fn start_number(answer: Started) -> u32
+    ensures { λ r. ⌜ r ≡ startNumber answer ⌝ }
+{
+    match answer {
+        Started::Done => 0,
+        Started::Unknown => 1,
+    }
+}
+
+// The number of what `feed` answers.
+pub fn feed_number(answer: Fed) -> u32
+    ensures { λ r. ⌜ r ≡ feedNumber answer ⌝ }
+{
+    match answer {
+        Fed::Done => 0,
+        Fed::AfterFinish => 14,
+        Fed::Unknown => 1,
+        Fed::TooLong => 3,
+    }
+}
+
+// The number of what `finish` answers.
+pub fn finish_number(answer: Finished) -> u32
+    ensures { λ r. ⌜ r ≡ finishNumber answer ⌝ }
+{
+    match answer {
+        Finished::Done(_) => 0,
+        Finished::AfterFinish => 14,
+        Finished::Unknown => 1,
+        Finished::NoRoom => 4,
+    }
+}
+
+// The count of what `finish` answers.
+pub fn finish_count(answer: Finished) -> usize
+    ensures { λ r. ⌜ r ≡ finishCount answer ⌝ }
+{
+    match answer {
+        Finished::Done(calls) => calls,
+        Finished::AfterFinish => NO_CALLS,
+        Finished::Unknown => NO_CALLS,
+        Finished::NoRoom => NO_CALLS,
+    }
+}
