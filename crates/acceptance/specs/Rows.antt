@@ -8,8 +8,8 @@ use lib.ListN.{length, replicate}
 use Rattle.cells.specs.Cells.{table, cells, bytes, follow, substitute}
 use Rattle.sponge.specs.Padding.{padded, blockCount}
 use Rattle.sponge.specs.Blocks.{length-padded}
-use Rattle.digest.specs.Instances.{DIGEST-BITS, bitRate, rateOf}
-use Rattle.digest.specs.Hashing.{digestCalls}
+use Rattle.hashing.specs.Instances.{DIGEST-BITS, bitRate, rateOf}
+use Rattle.hashing.specs.Hashing.{digestCalls}
 use Rattle.digest.specs.Calls.{digest-calls}
 
 -- all-zero state, leader 0, gives 55 in every byte, at every size

@@ -5,7 +5,7 @@ use Prim.Native.Nat.{ℕ, suc}
 use lib.ListN.{replicate, set, take}
 use Rattle.cells.specs.Cells.{star, table, cells, bytes, follow, substitute}
 use Rattle.shuffling.specs.Shuffling.{tabled, weighed, shuffledByte, shuffle}
-use Rattle.digest.specs.Instances.{bitRate, rateOf}
+use Rattle.hashing.specs.Instances.{bitRate, rateOf}
 use Rattle.acceptance.specs.Rows as rows
 use Rattle.acceptance.specs.Rows.{Padding, Calls, padding, calls}
 

@@ -6,8 +6,8 @@ use Prim.Native.Nat.{ℕ}
 use lib.Dec.{ltb}
 use lib.ListN.{length, take, drop}
 use Rattle.lists.specs.Buffers.{over}
-use Rattle.digest.specs.Instances.{DIGEST}
-use Rattle.digest.specs.Hashing.{digestOf}
+use Rattle.hashing.specs.Instances.{DIGEST}
+use Rattle.hashing.specs.Hashing.{digestOf}
 use Rattle.digest.specs.Answers.{LONGEST-MESSAGE}
 use Rattle.bundles.specs.Bundles.{glyphRows, characters, glyphCount, bundleOf, fitting, alike}
 use Rattle.bundles.specs.Lengths.{longestBundle}

@@ -14,8 +14,8 @@ use Rattle.lists.specs.Never.{never}
 use Rattle.lists.specs.Walk.{at}
 use Rattle.lists.specs.Buffers.{over}
 use Rattle.lists.specs.Over.{take-over}
-use Rattle.digest.specs.Instances.{DIGEST}
-use Rattle.digest.specs.Hashing.{digestOf}
+use Rattle.hashing.specs.Instances.{DIGEST}
+use Rattle.hashing.specs.Hashing.{digestOf}
 use Rattle.digest.specs.Answers.{LONGEST-MESSAGE}
 use Rattle.fields.specs.Fields.{headLength}
 use Rattle.bundles.specs.Bundles.{glyphRows, characters, glyphCount, bundleOf, fitting, alike}

@@ -8,7 +8,7 @@ use lib.Dec.{ltb, eqb}
 use lib.ListN.{length}
 use borrow.Author.Tests.{lt-ltb, le-ltb, eq-eqb, ne-eqb}
 use Rattle.lists.specs.Buffers.{over}
-use Rattle.digest.specs.Instances.{DIGEST}
+use Rattle.hashing.specs.Instances.{DIGEST}
 use Rattle.digest.specs.Answers.{LONGEST-MESSAGE}
 use Rattle.bundles.specs.Bundles.{nameTag, allRows, takes, bundleOf, dotted, fitting, alike}
 use Rattle.bundles.specs.Lengths.{longestBundle}

@@ -5,7 +5,7 @@ use Prim.Native.Nat.{ℕ}
 use lib.Dec.{ltb}
 use lib.ListN.{length}
 use Rattle.lists.specs.Buffers.{over}
-use Rattle.digest.specs.Instances.{DIGEST}
+use Rattle.hashing.specs.Instances.{DIGEST}
 use Rattle.bundles.specs.Lengths.{longestBundle}
 use Rattle.bundling.specs.declared.Written.{Written}
 use Rattle.bundling.specs.declared.Written.the-variants as written-is

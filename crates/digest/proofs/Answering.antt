@@ -9,10 +9,10 @@ use lib.Seq.{take-all}
 use Rattle.lists.specs.Buffers.{copied, over}
 use Rattle.sponge.specs.Padding.{blockCount}
 use Rattle.sponge.specs.Absorbing.{from}
-use Rattle.digest.specs.Instances.{DIGEST, unknown, sizeOf, rateOf, outputsOf}
-use Rattle.digest.specs.Hashing.{absorbed, squeezed, sponged, digestOf, digestCalls}
+use Rattle.hashing.specs.Instances.{DIGEST, unknown, sizeOf, rateOf, outputsOf}
+use Rattle.hashing.specs.Hashing.{absorbed, squeezed, sponged, digestOf, digestCalls}
 use Rattle.digest.specs.Calls.{digest-calls}
-use Rattle.digest.specs.Outputs.{length-digest, squeezed-state}
+use Rattle.hashing.specs.Outputs.{length-digest, squeezed-state}
 use Rattle.digest.specs.Answers.{LONGEST-MESSAGE, digestAnswer, digestOut}
 use Rattle.digest.specs.Order.{digest-done}
 use Rattle.digest.specs.declared.Digested.{Digested}

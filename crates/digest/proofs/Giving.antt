@@ -13,9 +13,9 @@ use Rattle.lists.specs.Buffers.{copied}
 use Rattle.gage.specs.Permutation.{LARGEST, ROUNDS, permute}
 use Rattle.sponge.specs.Absorbing.{from}
 use Rattle.sponge.specs.Blocks.{blocks-suc}
-use Rattle.digest.specs.Instances.{DIGEST}
-use Rattle.digest.specs.Shapes.{Fits}
-use Rattle.digest.specs.Hashing.{squeezed}
+use Rattle.hashing.specs.Instances.{DIGEST}
+use Rattle.hashing.specs.Shapes.{Fits}
+use Rattle.hashing.specs.Hashing.{squeezed}
 use Rattle.digest.proofs.Taking.{size-room}
 
 -- after j of k outputs from the state s, at bytes

@@ -10,10 +10,10 @@ use Rattle.lists.specs.Buffers.{copied}
 use Rattle.gage.specs.Permutation.{LARGEST, ROUNDS, permute}
 use Rattle.sponge.specs.Padding.{lastBlock}
 use Rattle.sponge.specs.Absorbing.{xored, from, changed, called}
-use Rattle.digest.specs.Instances.{DIGEST, unknown, sizeOf, rateOf, outputsOf}
-use Rattle.digest.specs.Hashing.{squeezed}
-use Rattle.digest.specs.Shapes.{Fits, known-whole}
-use Rattle.digest.specs.Outputs.{squeezed-state}
+use Rattle.hashing.specs.Instances.{DIGEST, unknown, sizeOf, rateOf, outputsOf}
+use Rattle.hashing.specs.Hashing.{squeezed}
+use Rattle.hashing.specs.Shapes.{Fits, known-whole}
+use Rattle.hashing.specs.Outputs.{squeezed-state}
 use Rattle.digest.specs.Parts.{taken, closed, takenIn, closedBy}
 use Rattle.digest.proofs.Taking.{size-room}
 

@@ -14,8 +14,8 @@ use Rattle.sponge.specs.Padding.{block, blockCount, lastBlock}
 use Rattle.sponge.specs.Absorbing.{xored, from}
 use Rattle.sponge.specs.Blocks.{blocks-suc, whole-ends, last-block-cut, take-replicate}
 use Rattle.sponge.specs.Xor.{xored-front}
-use Rattle.digest.specs.Shapes.{Fits}
-use Rattle.digest.specs.Hashing.{absorbed}
+use Rattle.hashing.specs.Shapes.{Fits}
+use Rattle.hashing.specs.Hashing.{absorbed}
 use Rattle.digest.specs.Parts.{taken}
 use Rattle.digest.specs.Joining.{absorbed-taken}
 

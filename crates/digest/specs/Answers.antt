@@ -6,8 +6,8 @@ use mathlib.Core.List.{List}
 use lib.Dec.{ltb}
 use lib.ListN.{length}
 use Rattle.lists.specs.Buffers.{over}
-use Rattle.digest.specs.Instances.{DIGEST, unknown}
-use Rattle.digest.specs.Hashing.{digestOf, digestCalls}
+use Rattle.hashing.specs.Instances.{DIGEST, unknown}
+use Rattle.hashing.specs.Hashing.{digestOf, digestCalls}
 use Rattle.digest.specs.declared.Digested.{Digested}
 use Rattle.digest.specs.declared.Digested.the-variants.{Done, Instance, TooLong, NoRoom}
 

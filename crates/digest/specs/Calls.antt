@@ -8,10 +8,10 @@ use native.Mathlib.Omega.{arith}
 use lib.ListN.{length}
 use Rattle.sponge.specs.Padding.{blockCount}
 use Rattle.sponge.specs.Absorbing.{Run}
-use Rattle.digest.specs.Instances.{DIGEST, DIGEST-BITS, unknown, bitRate, sizeOf, rateOf, outputsOf}
-use Rattle.digest.specs.Hashing.{absorbed, squeezed, sponged, digestCalls}
+use Rattle.hashing.specs.Instances.{DIGEST, DIGEST-BITS, unknown, bitRate, sizeOf, rateOf, outputsOf}
+use Rattle.hashing.specs.Hashing.{absorbed, squeezed, sponged, digestCalls}
 use Rattle.digest.specs.Answers.{LONGEST-MESSAGE}
-use Rattle.digest.specs.Shapes.{known-whole}
+use Rattle.hashing.specs.Shapes.{known-whole}
 
 -- one call for each block
 pub absorbed-calls : (n R : ℕ) (m : List ℕ) (i : ℕ) → absorbed n R m i .calls ≡ i

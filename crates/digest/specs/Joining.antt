@@ -14,9 +14,9 @@ use Rattle.sponge.specs.Padding.{LARGEST-RATE, block, lastBlock}
 use Rattle.sponge.specs.Absorbing.{xored, Run, from, changed, called}
 use Rattle.sponge.specs.Blocks.{block-whole, last-block-cut, take-replicate}
 use Rattle.sponge.specs.Xor.{length-xored}
-use Rattle.digest.specs.Hashing.{absorbed, squeezed, sponged}
+use Rattle.hashing.specs.Hashing.{absorbed, squeezed, sponged}
 use Rattle.digest.specs.Calls.{squeezed-calls}
-use Rattle.digest.specs.Outputs.{squeezed-state}
+use Rattle.hashing.specs.Outputs.{squeezed-state}
 use Rattle.digest.specs.Parts.{taken, closed, within}
 
 -- one block, then the permutation

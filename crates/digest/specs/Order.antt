@@ -6,8 +6,8 @@ use Prim.Native.Nat.{ℕ, _≤_, _<_}
 use borrow.Author.Tests.{lt-ltb, le-ltb}
 use lib.ListN.{length}
 use Rattle.lists.specs.Buffers.{over}
-use Rattle.digest.specs.Instances.{DIGEST, unknown}
-use Rattle.digest.specs.Hashing.{digestOf, digestCalls}
+use Rattle.hashing.specs.Instances.{DIGEST, unknown}
+use Rattle.hashing.specs.Hashing.{digestOf, digestCalls}
 use Rattle.digest.specs.Answers.{LONGEST-MESSAGE, digestAnswer, digestOut}
 use Rattle.digest.specs.declared.Digested.the-variants.{Done, Instance, TooLong, NoRoom}
 

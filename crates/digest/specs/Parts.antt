@@ -8,8 +8,8 @@ use Rattle.lists.specs.Buffers.{copied}
 use Rattle.gage.specs.Permutation.{LARGEST, ROUNDS, permute}
 use Rattle.sponge.specs.Padding.{lastBlock}
 use Rattle.sponge.specs.Absorbing.{xored, Run, from, changed, called}
-use Rattle.digest.specs.Instances.{DIGEST, unknown, sizeOf, rateOf, outputsOf}
-use Rattle.digest.specs.Hashing.{Squeezed, squeezed}
+use Rattle.hashing.specs.Instances.{DIGEST, unknown, sizeOf, rateOf, outputsOf}
+use Rattle.hashing.specs.Hashing.{Squeezed, squeezed}
 use Rattle.digest.specs.declared.Shape.{Shape}
 
 -- absorbing goes on from a run: after k whole blocks of x

@@ -1,5 +1,5 @@
 // The ten GAGE digests (document 000, section 1.1.4; document 01, 'The digest'): one sponge over state size and rate, and the
-// instances as rows of a table. The promises cite specs/Instances.antt, specs/Hashing.antt and specs/Answers.antt.
+// instances as rows of a table. The promises cite specs/Answers.antt and the definitions of the crate hashing.
 use gage::LARGEST;
 ghost use mathlib.Core.Path.{_≡_};
 ghost use mathlib.Core.Bool.{true, false};
@@ -8,9 +8,9 @@ ghost use lib.ListN.{length, take};
 ghost use Rattle.gage.specs.Permutation.{ROUNDS, permitted, permute};
 ghost use Rattle.sponge.specs.Padding.{blockCount, lastBlock};
 ghost use Rattle.sponge.specs.Absorbing.{from, xored};
-ghost use Rattle.digest.specs.Instances.{DIGEST, unknown, sizeOf, rateOf, outputsOf};
-ghost use Rattle.digest.specs.Shapes.{Fits};
-ghost use Rattle.digest.specs.Hashing.{absorbed, squeezed};
+ghost use Rattle.hashing.specs.Instances.{DIGEST, unknown, sizeOf, rateOf, outputsOf};
+ghost use Rattle.hashing.specs.Shapes.{Fits};
+ghost use Rattle.hashing.specs.Hashing.{absorbed, squeezed};
 ghost use Rattle.digest.specs.Answers.{digestAnswer, digestOut};
 ghost use Rattle.digest.specs.Parts.{taken, spongeOf, takenIn, closedBy};
 

@@ -15,10 +15,10 @@ use Rattle.lists.specs.Over.{copied-all}
 use Rattle.gage.specs.Permutation.{LARGEST}
 use Rattle.sponge.specs.Padding.{LARGEST-RATE}
 use Rattle.sponge.specs.Absorbing.{from}
-use Rattle.digest.specs.Instances.{DIGEST, unknown, sizeOf, rateOf, outputsOf}
+use Rattle.hashing.specs.Instances.{DIGEST, unknown, sizeOf, rateOf, outputsOf}
 use Rattle.digest.specs.Answers.{LONGEST-MESSAGE}
 use Rattle.digest.specs.Calls as digest-calls
-use Rattle.digest.specs.Shapes.{known-whole}
+use Rattle.hashing.specs.Shapes.{known-whole}
 use Rattle.digest.specs.Parts.{spongeOf, takenIn, closedBy, within}
 use Rattle.digest.specs.Joining.{taken-state, closed-calls, closed-state}
 use Rattle.digest.specs.declared.Shape.{Shape}

@@ -10,8 +10,8 @@ use Rattle.gage.specs.Permutation.{LARGEST}
 use Rattle.gage.specs.Tables.{permitted-size}
 use Rattle.sponge.specs.Padding.{LARGEST-RATE}
 use Rattle.sponge.specs.Absorbing.{Run, from}
-use Rattle.digest.specs.Instances.{sizeOf, rateOf}
-use Rattle.digest.specs.Shapes.{known-whole}
+use Rattle.hashing.specs.Instances.{sizeOf, rateOf}
+use Rattle.hashing.specs.Shapes.{known-whole}
 use Rattle.digest.specs.Parts.{taken, takenIn, within}
 use Rattle.digest.specs.Joining.{taken-split, left-split, taken-short, left-short, taken-state, length-taken, within-front}
 use Rattle.running.specs.Running.{leftOf}

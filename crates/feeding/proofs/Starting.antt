@@ -8,9 +8,9 @@ use lib.ListN.{length, replicate, drop}
 use Rattle.gage.specs.Permutation.{LARGEST}
 use Rattle.gage.specs.Tables.{permitted-size}
 use Rattle.sponge.specs.Padding.{LARGEST-RATE}
-use Rattle.digest.specs.Instances.{unknown, sizeOf, rateOf}
-use Rattle.digest.specs.Hashing.{absorbed}
-use Rattle.digest.specs.Shapes.{known-whole}
+use Rattle.hashing.specs.Instances.{unknown, sizeOf, rateOf}
+use Rattle.hashing.specs.Hashing.{absorbed}
+use Rattle.hashing.specs.Shapes.{known-whole}
 use Rattle.digest.specs.Parts.{within}
 use Rattle.digest.specs.Joining.{within-zeros}
 use Rattle.running.specs.Running.{written, leftOf, runningOf}

@@ -3,7 +3,7 @@
 use mathlib.Core.Path.{_≡_}
 use mathlib.Core.Bool.{false}
 use Prim.Native.Nat.{ℕ, _+_, _<_}
-use Rattle.digest.specs.Instances.{unknown, rateOf}
+use Rattle.hashing.specs.Instances.{unknown, rateOf}
 
 pub record Growing (i held missing : ℕ) : Type 0 where
   pub known : unknown i ≡ false

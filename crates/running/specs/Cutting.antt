@@ -9,10 +9,10 @@ use native.Mathlib.Omega.{arith}
 use borrow.Author.Tests.{le-ltb}
 use lib.ListN.{length, length-append}
 use Rattle.lists.specs.Buffers.{over}
-use Rattle.digest.specs.Instances.{DIGEST, unknown, sizeOf, rateOf}
-use Rattle.digest.specs.Hashing.{Squeezed, absorbed, sponged, digestOf, digestCalls}
+use Rattle.hashing.specs.Instances.{DIGEST, unknown, sizeOf, rateOf}
+use Rattle.hashing.specs.Hashing.{Squeezed, absorbed, sponged, digestOf, digestCalls}
 use Rattle.digest.specs.Answers.{LONGEST-MESSAGE}
-use Rattle.digest.specs.Shapes.{known-whole}
+use Rattle.hashing.specs.Shapes.{known-whole}
 use Rattle.running.specs.Running.{written, leftOf, runningOf, unfinished, unfed, grown, concluded, startAnswer, startRecord, feedAnswer, feedRecord, finishAnswer, finishOut, finishRecord}
 use Rattle.running.specs.Growth.{Sized, length-left, grown-twice, running-grown, running-concluded}
 use Rattle.running.specs.Order.{Tested, known-of, feed-tested, feed-passes, finish-passes}

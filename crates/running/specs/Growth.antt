@@ -12,11 +12,11 @@ use Rattle.gage.specs.Permutation.{LARGEST}
 use Rattle.gage.specs.Tables.{permitted-size}
 use Rattle.sponge.specs.Padding.{LARGEST-RATE}
 use Rattle.sponge.specs.Absorbing.{Run, from}
-use Rattle.digest.specs.Instances.{unknown, sizeOf, rateOf, outputsOf}
-use Rattle.digest.specs.Hashing.{Squeezed, absorbed, sponged}
+use Rattle.hashing.specs.Instances.{unknown, sizeOf, rateOf, outputsOf}
+use Rattle.hashing.specs.Hashing.{Squeezed, absorbed, sponged}
 use Rattle.digest.specs.Calls.{absorbed-calls}
-use Rattle.digest.specs.Outputs.{length-absorbed}
-use Rattle.digest.specs.Shapes.{known-whole}
+use Rattle.hashing.specs.Outputs.{length-absorbed}
+use Rattle.hashing.specs.Shapes.{known-whole}
 use Rattle.digest.specs.Parts.{taken, closed, within}
 use Rattle.digest.specs.Joining.{taken-before, taken-split, left-split, taken-state, length-taken, absorbed-taken, sponged-closed, within-front, within-zeros}
 use Rattle.running.specs.Running.{written, leftOf, runningOf, soFar, unfinished, takenUp, grown, concluded}

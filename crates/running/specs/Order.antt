@@ -11,7 +11,7 @@ use lib.Dec.{ltb}
 use lib.ListN.{length}
 use Rattle.lists.specs.Never.{never}
 use Rattle.lists.specs.Buffers.{over}
-use Rattle.digest.specs.Instances.{DIGEST, unknown}
+use Rattle.hashing.specs.Instances.{DIGEST, unknown}
 use Rattle.digest.specs.Answers.{LONGEST-MESSAGE}
 use Rattle.running.specs.Running.{unfinished, unfed, isFinished, grown, concluded, onFeed, feedAnswer, feedRecord, finishAnswer, finishOut, finishRecord, onFinish, ended}
 use Rattle.running.specs.declared.Record.{Record}

@@ -10,8 +10,8 @@ use Rattle.lists.specs.Buffers.{over}
 use Rattle.gage.specs.Permutation.{LARGEST}
 use Rattle.sponge.specs.Padding.{LARGEST-RATE}
 use Rattle.sponge.specs.Absorbing.{Run}
-use Rattle.digest.specs.Instances.{DIGEST, unknown, sizeOf, rateOf, outputsOf}
-use Rattle.digest.specs.Hashing.{Squeezed, absorbed}
+use Rattle.hashing.specs.Instances.{DIGEST, unknown, sizeOf, rateOf, outputsOf}
+use Rattle.hashing.specs.Hashing.{Squeezed, absorbed}
 use Rattle.digest.specs.Answers.{LONGEST-MESSAGE}
 use Rattle.digest.specs.Parts.{taken, closed, within}
 use Rattle.running.specs.declared.Record.{Record}

@@ -4,7 +4,7 @@ use native.Mathlib.Omega.{arith}
 use lib.ListN.{length}
 use borrow.Author.Tests.{lt-ltb, le-ltb}
 use borrow.Author.Needs.{needs}
-use Rattle.digest.specs.Instances.{DIGEST, unknown}
+use Rattle.hashing.specs.Instances.{DIGEST, unknown}
 use Rattle.digest.specs.Order.{digest-done}
 use Rattle.bundling.specs.Answers.{fontInstance, bundleDigest}
 use Rattle.bundling.proofs.font_digest.Statement.{statement}

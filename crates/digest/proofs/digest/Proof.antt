@@ -2,7 +2,7 @@
 -- out and copied to the buffer. Assumes nothing.
 use lib.ListN.{length}
 use mathlib.Core.Path.{sym, _∙_}
-use Rattle.digest.specs.Shapes.{known-whole}
+use Rattle.hashing.specs.Shapes.{known-whole}
 use Rattle.digest.specs.Calls.{count-fits}
 use Rattle.digest.proofs.Answering.{refused, finished}
 use Rattle.digest.specs.Order.{instance-refused, length-refused, room-refused}

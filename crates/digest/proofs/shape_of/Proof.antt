@@ -1,7 +1,7 @@
 -- `shape_of` meets its promise: a known instance is a row of the table, and its rate is not 0. Assumes nothing.
 use mathlib.Core.Path.{refl}
-use Rattle.digest.specs.Instances.{bitSize, bitRate, sizeOf, rateOf, outputsOf}
-use Rattle.digest.specs.Shapes.{known-row, known-whole}
+use Rattle.hashing.specs.Instances.{bitSize, bitRate, sizeOf, rateOf, outputsOf}
+use Rattle.hashing.specs.Shapes.{known-row, known-whole}
 use native.Mathlib.Omega.{arith}
 use borrow.Author.Needs.{needs}
 use Rattle.digest.proofs.shape_of.Statement.{statement}

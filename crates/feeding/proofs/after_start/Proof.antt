@@ -1,6 +1,6 @@
 -- `after_start` meets its promise: feeding nothing leaves a state of zeros and no byte. Assumes nothing.
 use mathlib.Core.Path.{sym, _∙_}
-use Rattle.digest.specs.Shapes.{known-row}
+use Rattle.hashing.specs.Shapes.{known-row}
 use Rattle.running.specs.Running.{startRecord}
 use Rattle.feeding.proofs.Starting.{started-empty}
 use native.Mathlib.Omega.{arith}

@@ -2,7 +2,7 @@
 use mathlib.Core.Path.{refl, sym, _∙_}
 use borrow.Author.Tests.{lt-ltb, le-ltb}
 use lib.ListN.{length}
-use Rattle.digest.specs.Instances.{DIGEST}
+use Rattle.hashing.specs.Instances.{DIGEST}
 use Rattle.running.specs.Running.{finishAnswer, finishOut}
 use Rattle.running.specs.Order.{known-of}
 use Rattle.feeding.proofs.Answering.{some, held-fits, count-fits, finish-done}

@@ -6,7 +6,7 @@ use lib.ListN.{take, replicate}
 use Rattle.gage.specs.Permutation.{ROUNDS, permute}
 use Rattle.sponge.specs.Padding.{block, blockCount}
 use Rattle.sponge.specs.Absorbing.{xored, Run, from, changed, called}
-use Rattle.digest.specs.Instances.{sizeOf, rateOf, outputsOf}
+use Rattle.hashing.specs.Instances.{sizeOf, rateOf, outputsOf}
 
 -- initialization and absorbing: from a state of zeros, after i blocks of the padded message m
 unfoldable pub absorbed : ℕ → ℕ → List ℕ → ℕ → Run

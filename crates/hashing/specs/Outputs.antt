@@ -15,9 +15,9 @@ use Rattle.sponge.specs.Padding.{LARGEST-RATE, block, blockCount}
 use Rattle.sponge.specs.Absorbing.{Run, xored}
 use Rattle.sponge.specs.Blocks.{block-below}
 use Rattle.sponge.specs.Xor.{length-xored, xored-below}
-use Rattle.digest.specs.Instances.{DIGEST, unknown, sizeOf, rateOf, outputsOf}
-use Rattle.digest.specs.Shapes.{known-whole}
-use Rattle.digest.specs.Hashing.{absorbed, squeezed, sponged, digestOf}
+use Rattle.hashing.specs.Instances.{DIGEST, unknown, sizeOf, rateOf, outputsOf}
+use Rattle.hashing.specs.Shapes.{known-whole}
+use Rattle.hashing.specs.Hashing.{absorbed, squeezed, sponged, digestOf}
 
 -- a state stays a state: its length, and bytes
 pub length-absorbed : (n R : ℕ) (m : List ℕ) (i : ℕ) → length (absorbed n R m i .state) ≡ n

@@ -11,8 +11,8 @@ use Rattle.shuffling.specs.Shuffling.{tabled, weighed, shuffledByte, shuffle}
 use Rattle.gage.specs.Permutation.{leaders, turns, permuteBy, permute}
 use Rattle.sponge.specs.Padding.{padded, block}
 use Rattle.sponge.specs.Absorbing.{xored}
-use Rattle.digest.specs.Instances.{bitSize, bitRate, sizeOf, rateOf, outputsOf}
-use Rattle.digest.specs.Hashing.{absorbed, squeezed, sponged, digestOf}
+use Rattle.hashing.specs.Instances.{bitSize, bitRate, sizeOf, rateOf, outputsOf}
+use Rattle.hashing.specs.Hashing.{absorbed, squeezed, sponged, digestOf}
 
 abbrev pub known : List ℕ
 known =

@@ -11,7 +11,7 @@ use Rattle.lists.specs.Table.{at, both, both-left, both-right}
 use Rattle.gage.specs.Permutation.{permitted, among}
 use Rattle.gage.specs.Tables.{is-true}
 use Rattle.sponge.specs.Padding.{LARGEST-RATE}
-use Rattle.digest.specs.Instances.{BYTE, DIGEST, instances, unknown, bitSize, bitRate, sizeOf, rateOf, outputsOf}
+use Rattle.hashing.specs.Instances.{BYTE, DIGEST, instances, unknown, bitSize, bitRate, sizeOf, rateOf, outputsOf}
 
 -- what a sponge of size n and rate R in bytes needs
 pub record Fits (n R : ℕ) : Type 0 where
