@@ -130,7 +130,7 @@ fn put_frame(body: &[u8], out: &mut [u8]) -> usize
     ensures { λ _. ⌜ now (out .exit) ≡ over (framed (now (body .entry))) (now (out .entry)) ⌝ }
 {
     out[0] = MARK;
-    let Stuffed::Done(n) = stuffing::stuff(body, &mut out[1..]) else {
+    let Stuffed::Done(n) = escaping::stuff(body, &mut out[1..]) else {
         // Never: there is room for twice the body.
         return 0;
     };

@@ -36,6 +36,7 @@ use body::NONCE_LENGTH;
 use body::SEAL_LENGTH;
 use body::job_field_length;
 use body::judge_body;
+use escaping::unstuff;
 use frame::BESIDE_LINE;
 use frame::KEY_LENGTH;
 use ingage::Opened;
@@ -47,7 +48,6 @@ use lists::copy;
 use stream::next_span;
 use stuffing::LONGEST_STRETCH;
 use stuffing::Unstuffed;
-use stuffing::unstuff;
 
 // The longest stream in bytes (document 01, number 3).
 pub const LONGEST_STREAM: usize = 65536;

@@ -3,13 +3,13 @@
 use mathlib.Core.Path.{sym, _∙_, ap}
 use Prim.Native.Nat.{_-_}
 use lib.ListN.{length}
 use Rattle.stuffing.specs.Outcomes.{stuff-no-room, stuff-done}
 use Rattle.stuffing.specs.declared.Stuffed.the-variants.{Done}
 use Rattle.lists.specs.Walk.{next, less}
-use Rattle.stuffing.proofs.Places.{doubled, halved}
-use Rattle.stuffing.proofs.Written.{Written, written-length, has-room, written-none, written-more, written-all}
-use Rattle.stuffing.proofs.stuff.Statement.{statement}
-use Rattle.stuffing.proofs.stuff.Tie as tie
+use Rattle.escaping.proofs.Places.{doubled, halved}
+use Rattle.escaping.proofs.Written.{Written, written-length, has-room, written-none, written-more, written-all}
+use Rattle.escaping.proofs.stuff.Statement.{statement}
+use Rattle.escaping.proofs.stuff.Tie as tie
 
 abbrev Inv-loop : tie.InvT-loop
 Inv-loop body out₀ i₀ k₀ out i k = Written body out₀ out i k

@@ -1,9 +1,9 @@
 -- `unstuff` meets its promise: a refusal of the length is its own, and a length asks for room. Assumes nothing.
 use mathlib.Core.Path.{sym, _∙_}
 use borrow.Author.Needs.{needs}
-use Rattle.stuffing.proofs.Answered.{refused, small, room, done}
-use Rattle.stuffing.proofs.unstuff.Statement.{statement}
-use Rattle.stuffing.proofs.unstuff.Tie as tie
+use Rattle.escaping.proofs.Answered.{refused, small, room, done}
+use Rattle.escaping.proofs.unstuff.Statement.{statement}
+use Rattle.escaping.proofs.unstuff.Tie as tie
 
 unstuffed-length-requires : tie.Need-unstuffed-length-requires
 unstuffed-length-requires c κs = search needs

@@ -5,9 +5,9 @@ use lib.ListN.{length-set}
 use borrow.Author.Tests.{eq-eqb, ne-eqb}
 use borrow.Author.Needs.{needs}
 use Rattle.lists.specs.Walk.{next}
-use Rattle.stuffing.proofs.Places.{first, second}
-use Rattle.stuffing.proofs.write_byte.Statement.{statement}
-use Rattle.stuffing.proofs.write_byte.Tie as tie
+use Rattle.escaping.proofs.Places.{first, second}
+use Rattle.escaping.proofs.write_byte.Statement.{statement}
+use Rattle.escaping.proofs.write_byte.Tie as tie
 
 slice-write-out : tie.Need-slice-write-out
 slice-write-out c = first (c .before .pre)

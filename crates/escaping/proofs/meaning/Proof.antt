@@ -1,7 +1,7 @@
 -- `meaning` meets its promise: one test, two answers. Assumes nothing.
 use borrow.Author.Tests.{eq-eqb, ne-eqb}
-use Rattle.stuffing.proofs.meaning.Statement.{statement}
-use Rattle.stuffing.proofs.meaning.Tie as tie
+use Rattle.escaping.proofs.meaning.Statement.{statement}
+use Rattle.escaping.proofs.meaning.Tie as tie
 
 returns : tie.Need-returns
 returns c = rw (eq-eqb _ _ (c .if1 .taken))

@@ -4,9 +4,9 @@ use Prim.Native.Nat.{_-_}
 use lib.ListN.{length}
 use borrow.Author.Needs.{needs}
 use Rattle.lists.specs.Walk.{next, less}
-use Rattle.stuffing.proofs.Unstuffing.{Unwound, unwound-length, unwound-none, unwound-more, fits, fits-counted, unwound-open, unwound-all, inside, opening, plainly}
-use Rattle.stuffing.proofs.write_body.Statement.{statement}
-use Rattle.stuffing.proofs.write_body.Tie as tie
+use Rattle.escaping.proofs.Unstuffing.{Unwound, unwound-length, unwound-none, unwound-more, fits, fits-counted, unwound-open, unwound-all, inside, opening, plainly}
+use Rattle.escaping.proofs.write_body.Statement.{statement}
+use Rattle.escaping.proofs.write_body.Tie as tie
 
 abbrev Inv-loop : tie.InvT-loop
 Inv-loop s out₀ i₀ k₀ escaped₀ out i k escaped = Unwound s out₀ out i k escaped
