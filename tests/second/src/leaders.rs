@@ -1,9 +1,12 @@
-//! The leaders: document 000's Table 1.11 as printed. Its first thirty-two are
-//! Table 1.2; the rest serve a 33rd leader and rounds to order.
+//! The leaders: document 000's Table 1.11 as printed, one for each round that
+//! may be asked for (order W9). Its first thirty-two are Table 1.2.
+
+/// The entries of Table 1.11, and the most rounds that there are leaders for.
+pub const MOST_ROUNDS: usize = 255;
 
 /// Table 1.11, sixteen to a row.
 #[rustfmt::skip]
-const TABLE_1_11: [u8; 255] = [
+const TABLE_1_11: [u8; MOST_ROUNDS] = [
     0, 3, 0, 3, 0, 1, 2, 3, 2, 1, 2, 3, 2, 1, 2, 3,
     0, 1, 2, 3, 2, 3, 0, 3, 2, 3, 2, 3, 2, 1, 2, 1,
     0, 3, 2, 1, 0, 3, 2, 1, 2, 1, 2, 1, 0, 1, 2, 3,

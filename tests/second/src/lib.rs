@@ -29,3 +29,4 @@ pub mod stuffing;
 pub mod substitution;
 pub mod text;
 pub mod told;
+pub mod trial;

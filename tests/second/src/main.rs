@@ -8,7 +8,7 @@ use std::process::exit;
 
 use second::numbers::{DIGEST, DONE, MESSAGE_LIMIT, STREAM_LIMIT};
 use second::text::value;
-use second::{answers, compose, diffusion, digest, kat, lines, rows};
+use second::{answers, compose, diffusion, digest, kat, lines, rows, trial};
 
 const USAGE: &str = "\
 second rows OUTDIR                expected outputs of the product's test programs
@@ -18,7 +18,9 @@ second readings                   first known answers under every reading
 second diffusion                  full diffusion and pair-matching period
 second compose KEYFILE FONTFILE   orders on standard input, frames out
 second lines KEYFILE FONTFILE     stream on standard input, listing out
-second sum I                      digest of standard input by hash instance I";
+second sum I                      digest of standard input by hash instance I
+second permutation [back] SIZE ROUNDS STATE
+                                  a state in hex after so many rounds, or before";
 
 /// What ends the program: a line for standard error and the exit status.
 struct Stop(String, i32);
@@ -56,6 +58,10 @@ fn run(words: &[&str]) -> Result<(), Stop> {
             print(lines::listing(file(key), file(font), &stream).as_bytes())
         }
         ["sum", instance] => sum(instance),
+        ["permutation", ref asked @ ..] => match trial::tried(asked) {
+            Ok(row) => print(row.as_bytes()),
+            Err(why) => Err(Stop(why, 1)),
+        },
         _ => Err(Stop(USAGE.to_string(), 2)),
     }
 }

@@ -37,6 +37,8 @@ pub const OVER_WORK: u8 = 15;
 pub const OTHER_EDITION: u8 = 16;
 /// Line of the trade that has not the layout named (order W7).
 pub const OTHER_LAYOUT: u8 = 17;
+/// Count of rounds not from 1 to 255 (order W9).
+pub const NO_ROUNDS: u8 = 18;
 
 pub const KEY: usize = 16;
 pub const NONCE: usize = 12;

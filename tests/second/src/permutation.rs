@@ -1,14 +1,15 @@
 //! The permutation (document 000, Algorithm 2) and its inverse, over any size
-//! and any rounds, and the two public calls at the permitted sizes.
+//! and any rounds, and the two public calls at the permitted sizes and counts
+//! of rounds (order W9).
 //! `Permutation` counts its own calls: the counter steps where a call is made.
 
-use crate::leaders::leader;
-use crate::numbers::{DONE, UNKNOWN};
+use crate::leaders::{leader, MOST_ROUNDS};
+use crate::numbers::{DONE, NO_ROUNDS, UNKNOWN};
 use crate::readings::{Convention, Readings, PRODUCT};
 use crate::shuffle::Shuffle;
 use crate::substitution::{substitute, unsubstitute};
 
-/// ROUNDS of document 000.
+/// ROUNDS of document 000: what the digest and the cipher pass.
 pub const ROUNDS: usize = 32;
 
 /// Permitted state sizes in bytes (document 01).
@@ -65,23 +66,34 @@ impl Permutation {
     }
 }
 
-/// The public call: permutes where the state stands. A size that is not
-/// permitted gives 1 and leaves the state as it was.
-pub fn permute(state: &mut [u8]) -> u8 {
-    if !PERMITTED.contains(&state.len()) {
-        return UNKNOWN;
+/// The public call: so many rounds where the state stands. A size that is not
+/// permitted gives 1, then a count of rounds other than 1 to 255 gives 18, and
+/// either leaves the state as it was.
+pub fn permute(state: &mut [u8], rounds: usize) -> u8 {
+    let number = judged(state.len(), rounds);
+    if number == DONE {
+        Permutation::new(&PRODUCT).permute(state, rounds);
     }
-    Permutation::new(&PRODUCT).permute(state, ROUNDS);
-    DONE
+    number
 }
 
-/// The public inverse, with the same refusal.
-pub fn unpermute(state: &mut [u8]) -> u8 {
-    if !PERMITTED.contains(&state.len()) {
-        return UNKNOWN;
+/// The public inverse, with the same refusals.
+pub fn unpermute(state: &mut [u8], rounds: usize) -> u8 {
+    let number = judged(state.len(), rounds);
+    if number == DONE {
+        Permutation::new(&PRODUCT).unpermute(state, rounds);
     }
-    Permutation::new(&PRODUCT).unpermute(state, ROUNDS);
-    DONE
+    number
+}
+
+fn judged(size: usize, rounds: usize) -> u8 {
+    if !PERMITTED.contains(&size) {
+        UNKNOWN
+    } else if !(1..=MOST_ROUNDS).contains(&rounds) {
+        NO_ROUNDS
+    } else {
+        DONE
+    }
 }
 
 #[cfg(test)]
@@ -220,13 +232,35 @@ mod tests {
     }
 
     #[test]
-    fn a_size_not_permitted_gives_the_state_back() {
-        for size in (0..100).filter(|size| !PERMITTED.contains(size)) {
-            let old: Vec<u8> = (0..size).map(|i| i as u8).collect();
-            let mut state = old.clone();
-            assert_eq!(permute(&mut state), UNKNOWN);
-            assert_eq!(unpermute(&mut state), UNKNOWN);
-            assert_eq!(state, old);
+    fn a_refusal_gives_the_state_back_and_the_size_is_judged_first() {
+        for size in 0..100 {
+            for rounds in [0, 1, 32, 255, 256, usize::MAX] {
+                let old: Vec<u8> = (0..size).map(|i| i as u8).collect();
+                let expected = match (PERMITTED.contains(&size), rounds) {
+                    (false, _) => UNKNOWN,
+                    (true, 0 | 256 | usize::MAX) => NO_ROUNDS,
+                    (true, _) => DONE,
+                };
+                let mut state = old.clone();
+                assert_eq!(permute(&mut state, rounds), expected);
+                assert_eq!(state == old, expected != DONE);
+                assert_eq!(unpermute(&mut state, rounds), expected);
+                assert_eq!(state, old);
+            }
+        }
+    }
+
+    #[test]
+    fn a_round_more_is_a_shuffle_and_a_substitution_more() {
+        for size in PERMITTED {
+            let state: Vec<u8> = (0..size).map(|i| (41 * i) as u8).collect();
+            for rounds in 1..MOST_ROUNDS {
+                let (mut some, mut more) = (state.clone(), state.clone());
+                permute(&mut some, rounds);
+                permute(&mut more, rounds + 1);
+                Shuffle::new(PRODUCT.convention).shuffle(&mut some);
+                assert_eq!(substituted(leader(rounds), &some), more);
+            }
         }
     }
 }

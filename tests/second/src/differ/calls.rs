@@ -45,11 +45,11 @@ const fn permuting(call: Call, name: &'static str) -> Signature {
     Signature {
         call,
         name,
-        number: None,
+        number: Some("rounds"),
         buffers: &["state"],
         written: 1,
         outs: &[],
-        outcomes: &["0", "1"],
+        outcomes: &["0", "1", "18"],
     }
 }
 

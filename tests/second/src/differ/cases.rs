@@ -9,13 +9,14 @@ use crate::streams::{near_place, place, stream};
 use second::chance::Chance;
 use second::cipher;
 use second::digest::{instances, sizes};
+use second::leaders::MOST_ROUNDS;
 use second::line::{Layout, LAYOUT_A, LAYOUT_B, NEITHER};
 use second::near::near_line;
 use second::numbers::{
     ASSOCIATED_LIMIT, BESIDE_LINE, CIPHER_LIMIT, DIGEST, FRAME_ROOM, FRAME_ROOM_2, JOB, KEY,
     LINE_MOST, MESSAGE_LIMIT, NONCE, STRETCH_MOST,
 };
-use second::permutation::PERMITTED;
+use second::permutation::{PERMITTED, ROUNDS};
 use second::reader::{Asked, Editions, BOTH, ONE, TWO};
 use second::stream::next_stretch;
 
@@ -28,8 +29,8 @@ const AT_LIMIT: usize = 1200;
 
 pub fn case(chance: &mut Chance, stock: &Stock) -> Case {
     let (call, number, contents) = match chance.below(100) {
-        0..=6 => (Call::Permute, 0, vec![state(chance)]),
-        7..=13 => (Call::Unpermute, 0, vec![state(chance)]),
+        0..=6 => (Call::Permute, rounds(chance), vec![state(chance)]),
+        7..=13 => (Call::Unpermute, rounds(chance), vec![state(chance)]),
         14..=25 => digest(chance),
         26..=37 => seal(chance),
         38..=49 => open(chance, stock),
@@ -65,6 +66,33 @@ pub fn case(chance: &mut Chance, stock: &Stock) -> Case {
         _ => {}
     }
     case
+}
+
+/// The counts that are passed within, those around them and around the ends of
+/// what is allowed, and now and then any.
+fn rounds(chance: &mut Chance) -> usize {
+    match chance.below(8) {
+        0..=2 => ROUNDS,
+        3..=5 => chance.one_of(&[
+            0,
+            1,
+            2,
+            ROUNDS / 2 - 1,
+            ROUNDS / 2,
+            ROUNDS / 2 + 1,
+            ROUNDS - 1,
+            ROUNDS + 1,
+            64,
+            127,
+            128,
+            MOST_ROUNDS - 1,
+            MOST_ROUNDS,
+            MOST_ROUNDS + 1,
+            usize::MAX,
+        ]),
+        6 => chance.between(1, MOST_ROUNDS),
+        _ => chance.word() as usize,
+    }
 }
 
 fn state(chance: &mut Chance) -> Vec<u8> {

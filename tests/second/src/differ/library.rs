@@ -5,8 +5,8 @@ use crate::memory::{Ground, Put, Slot, Stand};
 
 #[link(name = "lubdhvani", kind = "static")]
 extern "C" {
-    fn lubdhvani_permute(state: *mut u8, size: usize) -> u32;
-    fn lubdhvani_unpermute(state: *mut u8, size: usize) -> u32;
+    fn lubdhvani_permute(state: *mut u8, size: usize, rounds: usize) -> u32;
+    fn lubdhvani_unpermute(state: *mut u8, size: usize, rounds: usize) -> u32;
     fn lubdhvani_digest(
         instance: usize,
         message: *const u8,
@@ -259,8 +259,8 @@ macro_rules! call {
 unsafe fn called(case: &Case, puts: &[Put], outs: &[*mut usize]) -> u32 {
     let layout = case.layout.0;
     match (case.call, puts, outs) {
-        (Call::Permute, [state], []) => call!(lubdhvani_permute: [state] ()),
-        (Call::Unpermute, [state], []) => call!(lubdhvani_unpermute: [state] ()),
+        (Call::Permute, [state], []) => call!(lubdhvani_permute: [state] (case.number)),
+        (Call::Unpermute, [state], []) => call!(lubdhvani_unpermute: [state] (case.number)),
         (Call::Digest, [message, out], &[calls]) => {
             call!(lubdhvani_digest: [] (case.number) [message, out] (calls))
         }

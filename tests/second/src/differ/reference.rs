@@ -35,8 +35,8 @@ pub fn answer(case: &Case, vast: &mut Ground) -> Answer {
 fn answered(case: &Case, lent: &mut [&mut [u8]]) -> (u32, Vec<usize>) {
     let layout = case.layout;
     match (case.call, lent) {
-        (Call::Permute, [state]) => (permutation::permute(state).into(), vec![]),
-        (Call::Unpermute, [state]) => (permutation::unpermute(state).into(), vec![]),
+        (Call::Permute, [state]) => (permutation::permute(state, case.number).into(), vec![]),
+        (Call::Unpermute, [state]) => (permutation::unpermute(state, case.number).into(), vec![]),
         (Call::Digest, [message, out]) => {
             let counted = digest::digest(case.number, message, out);
             (counted.number.into(), vec![counted.count])

@@ -1,15 +1,19 @@
 //! `permute_rows`: whether expression 1.2 gives the products of the table, the
-//! permutation and its inverse at every permitted size over three states, then
-//! sizes that are not permitted.
+//! permutation and its inverse at every permitted size and a few counts of
+//! rounds over three states, then what is refused: every size of both kinds at
+//! counts that are no rounds, and sizes that are not permitted at counts that are.
 
 use std::fmt::Write;
 
 use super::by_rule;
-use crate::permutation::{permute, unpermute, PERMITTED};
+use crate::permutation::{permute, unpermute, PERMITTED, ROUNDS};
 use crate::substitution::products_agree;
 use crate::text::hex;
 
 const NOT_PERMITTED: [usize; 5] = [0, 28, 31, 65, 73];
+
+const COUNTS: [usize; 5] = [1, 2, ROUNDS / 2, ROUNDS, 255];
+const NO_COUNTS: [usize; 3] = [0, 256, usize::MAX];
 
 fn same(yes: bool) -> &'static str {
     if yes {
@@ -28,24 +32,41 @@ pub fn rows() -> String {
     let mut rows = String::new();
     writeln!(rows, "products {}", same(products_agree())).unwrap();
     for n in PERMITTED {
-        let states = [
-            ("zero", vec![0x00; n]),
-            ("ones", vec![0xff; n]),
-            ("ramp", ramp(n)),
-        ];
-        for (kind, state) in states {
-            let mut permuted = state.clone();
-            permute(&mut permuted);
-            writeln!(rows, "permute {} {} {}", n, kind, hex(&permuted)).unwrap();
-            let mut unpermuted = state;
-            unpermute(&mut unpermuted);
-            writeln!(rows, "unpermute {} {} {}", n, kind, hex(&unpermuted)).unwrap();
+        for k in COUNTS {
+            permuted(&mut rows, n, k);
+        }
+        for k in NO_COUNTS {
+            refused(&mut rows, n, k);
         }
     }
     for n in NOT_PERMITTED {
-        let mut state = ramp(n);
-        let number = permute(&mut state);
-        writeln!(rows, "refused {} {} {}", n, number, same(state == ramp(n))).unwrap();
+        for k in COUNTS.into_iter().chain(NO_COUNTS) {
+            refused(&mut rows, n, k);
+        }
     }
     rows
+}
+
+fn permuted(rows: &mut String, n: usize, k: usize) {
+    let states = [
+        ("zero", vec![0x00; n]),
+        ("ones", vec![0xff; n]),
+        ("ramp", ramp(n)),
+    ];
+    for (kind, state) in states {
+        let mut there = state.clone();
+        permute(&mut there, k);
+        writeln!(rows, "permute {} {} {} {}", n, k, kind, hex(&there)).unwrap();
+        let mut back = state;
+        unpermute(&mut back, k);
+        writeln!(rows, "unpermute {} {} {} {}", n, k, kind, hex(&back)).unwrap();
+    }
+}
+
+fn refused(rows: &mut String, n: usize, k: usize) {
+    let mut state = ramp(n);
+    let there = permute(&mut state, k);
+    let back = unpermute(&mut state, k);
+    let kept = same(state == ramp(n));
+    writeln!(rows, "refused {} {} {} {} {}", n, k, there, back, kept).unwrap();
 }
