@@ -1,0 +1,3 @@
+pub mod Leaders
+pub mod Register
+pub mod Rule
