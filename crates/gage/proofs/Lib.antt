@@ -1,4 +1,5 @@
 pub mod Among
+pub mod Judging
 pub mod Turning
 pub mod Rounds
 pub mod Single

@@ -16,8 +16,8 @@ use Rattle.cells.specs.States.{length-substitute}
 use Rattle.shuffling.specs.Sizes.{SMALLEST}
 use Rattle.shuffling.specs.Shuffling.{tabled, shuffle}
 use Rattle.shuffling.specs.Wrapped.{wrapped, gatheredAt, wrapped-shuffled}
-use Rattle.gage.specs.Permutation.{ROUNDS, leaders, turns, permuteBy, permute}
-use Rattle.gage.specs.Tables.{length-leaders}
+use Rattle.gage.specs.Permutation.{MOST-ROUNDS, leaders, turns, permuteBy, permute}
+use Rattle.leaders.specs.Rule.{length-leaders, leader-below}
 use Rattle.gage.specs.States.{length-permute}
 
 -- a list copied over one of its length
@@ -44,6 +44,14 @@ pub turn-is : (n leader : ℕ) (e v out : List ℕ) → SMALLEST ≤ n → n ≤
 turn-is n leader e v out w h c l same t =
     let m : leader % 4 ≡ leader = mod-eq-of-lt c in
     t ∙ rw (m, same, wrapped-shuffled n e w (omega arith))
+
+-- the entries of a table that is the definition's: each is a cell, and one of the first k leaders
+module _ {t : List ℕ} (e : t ≡ leaders) where
+  pub cell-at : (i : ℕ) → i < MOST-ROUNDS → getD t i 0 < 4
+  cell-at i h = rw e (leader-below i h)
+
+  pub leader-at : (k i : ℕ) → i < k → getD t i 0 ≡ getD (take k leaders) i 0
+  leader-at k i h = rw e (sym (getD-take k leaders i 0 h))
 
 -- before turn i the turns left are those of the leaders from i on; x is the state after the first substitution
 pub record Left (ls : List ℕ) (n : ℕ) (x a : List ℕ) (i : ℕ) : Type 0 where
@@ -73,7 +81,7 @@ unfolding turns
 left-none {ls} {x} {a} {n} {i} inv h = sym (ap (λ (r : List ℕ). turns r (take n a)) (drop-of-length-le ls h)) ∙ inv .same
 
 -- the first substitution, the turns, and the first n bytes put back
-module _ (n k l : ℕ) (s : List ℕ) (long : length s ≡ LARGEST) (fits : n ≤ LARGEST) (some : 1 ≤ k) (few : k ≤ ROUNDS) (cell : l < 4)
+module _ (n k l : ℕ) (s : List ℕ) (long : length s ≡ LARGEST) (fits : n ≤ LARGEST) (some : 1 ≤ k) (few : k ≤ MOST-ROUNDS) (cell : l < 4)
     (led : l ≡ getD leaders 0 0) where
   begun : (first w : List ℕ) → first ≡ onFirst n (substitute table (l % 4)) s → w ≡ copied first (replicate WIDE 0)
       → take n w ≡ substitute table l (take n s)

@@ -1,4 +1,4 @@
--- The promises of `permute`, `permute_half`, `unpermute` and `number`, as the check reads them (`Post`), admit a single answer.
+-- The promises of `permute`, `unpermute` and `number`, as the check reads them (`Post`), admit a single answer.
 -- Assumes nothing.
 use mathlib.Core.Path.{_≡_, sym, _∙_}
 use contract.Lifetimes.{Lfts}
@@ -10,19 +10,12 @@ use Rattle.gage.proofs.number.Kinds as number-kinds
 use Rattle.gage.proofs.number.Reads as number-reads
 use Rattle.gage.proofs.permute.Kinds as permute-kinds
 use Rattle.gage.proofs.permute.Reads as permute-reads
-use Rattle.gage.proofs.permute_half.Kinds as permute-half-kinds
-use Rattle.gage.proofs.permute_half.Reads as permute-half-reads
 use Rattle.gage.proofs.unpermute.Kinds as unpermute-kinds
 use Rattle.gage.proofs.unpermute.Reads as unpermute-reads
 
 pub permute-single : (κs : Lfts 0) (a : Dens κs permute-kinds.ps) (r r′ : Permuted) (x x′ : AtExit (endedOf 0 permute-kinds.ps permute-kinds.r) κs)
     → permute-reads.Post κs a r x → permute-reads.Post κs a r′ x′ → r ≡ r′
 permute-single κs a r r′ x x′ p q = p ∙ sym q
-
-pub permute-half-single : (κs : Lfts 0) (a : Dens κs permute-half-kinds.ps) (r r′ : Permuted)
-    (x x′ : AtExit (endedOf 0 permute-half-kinds.ps permute-half-kinds.r) κs)
-    → permute-half-reads.Post κs a r x → permute-half-reads.Post κs a r′ x′ → r ≡ r′
-permute-half-single κs a r r′ x x′ p q = p ∙ sym q
 
 pub unpermute-single : (κs : Lfts 0) (a : Dens κs unpermute-kinds.ps) (r r′ : Permuted)
     (x x′ : AtExit (endedOf 0 unpermute-kinds.ps unpermute-kinds.r) κs)

@@ -13,7 +13,7 @@ use Rattle.shuffling.specs.Sizes.{SMALLEST}
 use Rattle.shuffling.specs.Shuffling.{shuffle}
 use Rattle.shuffling.specs.States.{length-shuffle, shuffle-below}
 use Rattle.shuffling.specs.Inverse.{unshuffle-shuffle, shuffle-unshuffle}
-use Rattle.gage.specs.Tables.{leaders-below}
+use Rattle.leaders.specs.Rule.{leaders-below}
 use Rattle.gage.specs.Permutation.{leaders, turns, permuteBy, permute, unturns, unpermuteBy, unpermute}
 use Rattle.gage.specs.States.{length-unturns, unturns-below}
 

@@ -1,26 +1,22 @@
--- The round permutation of document 000, section 1.1.2 (Algorithm 2, Table 1.2), its inverse, and what the public calls answer
--- (document 01, 'The permutation'). Size and rounds are parameters. Assumes nothing: these are definitions.
+-- The round permutation of document 000, section 1.1.2 (Algorithm 2), its inverse, and what the public calls answer
+-- (document 01, 'The permutation'; order W9). Size and rounds are parameters. Assumes nothing: these are definitions.
 use Prim.Native.Nat.{ℕ}
-use mathlib.Core.Bool.{Bool, true, false, cond}
+use mathlib.Core.Bool.{Bool, true, false, cond, _&&_}
 use mathlib.Core.List.{List, [], _∷_, _++_}
-use lib.Dec.{eqb}
+use lib.Dec.{eqb, leb}
 use lib.ListN.{take, drop}
 pub use Rattle.cells.specs.Sizes.{LARGEST}
+pub use Rattle.leaders.specs.Leaders.{MOST-ROUNDS}
+unfoldable pub use Rattle.leaders.specs.Leaders.{leaders}
 use Rattle.cells.specs.Cells.{table, substitute, restore}
 use Rattle.shuffling.specs.Shuffling.{shuffle, unshuffle}
 use Rattle.gage.specs.declared.Answer.{Answer}
-use Rattle.gage.specs.declared.Answer.the-variants.{Done, Size}
+use Rattle.gage.specs.declared.Answer.the-variants.{Done, Size, Rounds}
 use Rattle.gage.specs.declared.Permuted.{Permuted}
 
--- ROUNDS of document 000, section 1.1.2: as many as there are leaders
+-- ROUNDS of document 000, section 1.1.2: what the digest and the cipher are built on
 abbrev pub ROUNDS : ℕ
 ROUNDS = 32
-
--- Table 1.2: the thirty-two leaders
-unfoldable pub leaders : List ℕ
-leaders =
-    0 ∷ 3 ∷ 0 ∷ 3 ∷ 0 ∷ 1 ∷ 2 ∷ 3 ∷ 2 ∷ 1 ∷ 2 ∷ 3 ∷ 2 ∷ 1 ∷ 2 ∷ 3 ∷ 0 ∷ 1 ∷ 2 ∷ 3 ∷ 2 ∷ 3 ∷ 0 ∷ 3 ∷ 2 ∷ 3 ∷ 2 ∷ 3 ∷ 2
-    ∷ 1 ∷ 2 ∷ 1 ∷ []
 
 -- Algorithm 2, the loop: shuffle and substitute, once for each leader left
 unfoldable pub turns : List ℕ → List ℕ → List ℕ
@@ -32,7 +28,7 @@ unfoldable pub permuteBy : List ℕ → List ℕ → List ℕ
 permuteBy [] s = s
 permuteBy (l ∷ ls) s = turns ls (substitute table l s)
 
--- Algorithm 2 with k rounds: leaders 0 to k - 1 (no thirty-third leader is read)
+-- Algorithm 2 with k rounds: leaders 0 to k - 1 (leader k is not read)
 unfoldable pub permute : ℕ → List ℕ → List ℕ
 permute k s = permuteBy (take k leaders) s
 
@@ -59,12 +55,26 @@ among n (x ∷ xs) = cond (eqb n x) true (among n xs)
 unfoldable pub permitted : ℕ → Bool
 permitted n = among n sizes
 
--- document 01, 'Numbers returned'
+-- the counts of rounds: 1 to 255
+abbrev pub counted : ℕ → Bool
+counted k = leb 1 k && leb k MOST-ROUNDS
+
+-- document 01, 'Numbers returned', and order W9
 abbrev pub numberOf : Answer → ℕ
 numberOf Done = 0
 numberOf Size = 1
+numberOf Rounds = 18
 
--- f on the first n bytes where that size is permitted; else the state comes back as it was
-unfoldable pub answered : (List ℕ → List ℕ) → List ℕ → ℕ → Permuted
-answered f s n =
-    cond (permitted n) (record { answer = Done; state = f (take n s) ++ drop n s }) (record { answer = Size; state = s })
+-- the size is judged first
+unfoldable pub judged : ℕ → ℕ → Answer
+judged n k = cond (permitted n) (cond (counted k) Done Rounds) Size
+
+-- what there is after an answer: the new where it is done, else the old as it was
+abbrev pub after : {A : Type 0} → Answer → A → A → A
+after Done new old = new
+after Size new old = old
+after Rounds new old = old
+
+-- f with k rounds on the first n bytes
+unfoldable pub answered : (ℕ → List ℕ → List ℕ) → List ℕ → ℕ → ℕ → Permuted
+answered f s n k = record { answer = judged n k; state = after (judged n k) (f k (take n s) ++ drop n s) s }

@@ -1,38 +1,19 @@
--- The rules of the constant tables, each proved over the whole table by one computed test: every leader is a cell, and every
--- permitted size is from 29 to the largest. Assumes nothing.
+-- The rule of the permitted sizes, proved over the whole table by one computed test: every size is from 29 to the largest. Assumes nothing.
 use mathlib.Core.Path.{_≡_, refl}
 use mathlib.Core.Bool.{Bool, true, false, cond}
 use mathlib.Core.List.{List, [], _∷_}
 use Prim.Native.Nat.{ℕ, suc, _≤_, _<_}
 use native.Mathlib.Omega.{arith}
-use lib.Dec.{T, eqb, ltb, ltb→lt, leb, leb→le}
+use lib.Dec.{T, eqb, leb, leb→le}
 use borrow.Author.Tests.{eqb-true}
-use lib.ListN.{length, getD, take}
-use Rattle.lists.specs.Table.{at, every, both-left, both-right}
-use Rattle.lists.specs.Below.{Below, below-all, below-take}
+use Rattle.lists.specs.Table.{every, both-left, both-right}
 use Rattle.cells.specs.Sizes.{LARGEST}
-use Rattle.gage.specs.Permutation.{ROUNDS, leaders, sizes, among, permitted}
+use Rattle.gage.specs.Permutation.{sizes, among, permitted}
 
 -- a test passed
 pub is-true : (b : Bool) → T b → b ≡ true
 is-true true t = refl
 is-true false t = absurd t
-
-cell : ℕ → ℕ → Bool
-cell k l = ltb l 4
-
--- every leader is a cell
-pub leader-below : (i : ℕ) → i < ROUNDS → getD leaders i 0 < 4
-unfolding leaders cell
-leader-below i h = ltb→lt (getD leaders i 0) 4 (at cell leaders tt i h)
-
-pub length-leaders : length leaders ≡ ROUNDS
-unfolding leaders
-length-leaders = refl
-
-pub leaders-below : (k : ℕ) → Below 4 (take k leaders)
-unfolding leaders
-leaders-below k = below-take 4 k leaders (below-all 4 leaders leader-below)
 
 -- what holds of every number of a list holds of each among them
 among-rule : (f : ℕ → Bool) (xs : List ℕ) (i n : ℕ) → T (every (λ k x. f x) i xs) → among n xs ≡ true → T (f n)

@@ -1,68 +1,36 @@
-// GAGE's round permutation and its inverse, on a state by value with its size in bytes (document 000, section 1.1; document
-// 01, 'The permutation'). Substitution and shuffle are crates of their own, and a turn of both is in wide.rt; the promises cite
-// specs/Permutation.antt.
+// GAGE's round permutation and its inverse, on a state by value with its size in bytes and a count of rounds (document 000, section 1.1;
+// document 01, 'The permutation'; order W9). Leaders, substitution and shuffle are crates of their own, and a turn of the last two is in
+// wide.rt; the promises cite specs/Permutation.antt.
 use cells::WIDE;
+use leaders::MOST_ROUNDS;
 
 mod wide;
 
 ghost use mathlib.Core.Path.{_≡_};
 ghost use mathlib.Core.List.{_++_};
-ghost use Prim.Native.Nat.{_/_, _<_, _≤_};
+ghost use Prim.Native.Nat.{_<_, _≤_};
 ghost use lib.ListN.{getD, take, drop};
 ghost use Rattle.cells.specs.Sizes.{LARGEST};
 ghost use Rattle.shuffling.specs.Sizes.{SMALLEST};
-ghost use Rattle.gage.specs.Permutation.{ROUNDS, leaders, turns, numberOf, permitted, permute, unpermute, answered};
+ghost use Rattle.leaders.specs.Leaders.{MOST-ROUNDS, leaders};
+ghost use Rattle.gage.specs.Permutation.{turns, numberOf, permitted, judged, permute, unpermute, answered};
 
 // The largest permitted state, in bytes.
 pub const LARGEST: usize = cells::LARGEST;
 
-// The rounds of a whole permutation, and the leader of each (document 000, Table 1.2).
-const ROUNDS: usize = 32;
-
-const LEADERS: [u8; ROUNDS] = [
-    0,
-    3,
-    0,
-    3,
-    0,
-    1,
-    2,
-    3,
-    2,
-    1,
-    2,
-    3,
-    2,
-    1,
-    2,
-    3,
-    0,
-    1,
-    2,
-    3,
-    2,
-    3,
-    0,
-    3,
-    2,
-    3,
-    2,
-    3,
-    2,
-    1,
-    2,
-    1,
-];
+// ROUNDS of document 000, section 1.1.2: the digest runs so many, and the cipher these and their half.
+pub const ROUNDS: usize = 32;
 
 // The permitted state sizes in bytes (document 01, 'The permutation', and order W8's 64).
 const SIZE_COUNT: usize = 10;
 
 const SIZES: [usize; SIZE_COUNT] = [29, 30, 32, 34, 36, 40, 48, 64, 68, LARGEST];
 
-// Done, or refused for a state size that is not permitted.
+// Done, or refused: a state size that is not permitted, a count of rounds that is not 1 to 255.
 pub enum Answer {
     Done,
     Size,
+    Rounds,
 }
 
 pub struct Permuted {
@@ -77,15 +45,17 @@ pub fn number(answer: Answer) -> u32
     match answer {
         Answer::Done => 0,
         Answer::Size => 1,
+        Answer::Rounds => 18,
     }
 }
 
 // The leader of round i, counted from 0.
 fn leader(i: usize) -> u8
-    requires { ⌜ i < ROUNDS ⌝ }
+    requires { ⌜ i < MOST-ROUNDS ⌝ }
     ensures { λ r. ⌜ (r ≡ getD leaders i 0) × (r < 4) ⌝ }
 {
-    LEADERS[i]
+    let leaders = leaders::table();
+    leaders[i]
 }
 
 // Whether a state may have n bytes.
@@ -103,12 +73,28 @@ fn is_permitted(n: usize) -> bool
     false
 }
 
+// What is made of a size and a count of rounds.
+fn judge(n: usize, k: usize) -> Answer
+    ensures { λ r. ⌜ r ≡ judged n k ⌝ }
+{
+    if !is_permitted(n) {
+        return Answer::Size;
+    }
+    if k < 1 {
+        return Answer::Rounds;
+    }
+    if k > MOST_ROUNDS {
+        return Answer::Rounds;
+    }
+    Answer::Done
+}
+
 // The turns of the first k rounds on the first n bytes of a wide state, after the first substitution: two arrays in turn.
 fn turns(w: [u8; WIDE], n: usize, k: usize) -> [u8; WIDE]
-    requires { ⌜ (SMALLEST ≤ n) × (n ≤ LARGEST) × (1 ≤ k) × (k ≤ ROUNDS) ⌝ }
+    requires { ⌜ (SMALLEST ≤ n) × (n ≤ LARGEST) × (1 ≤ k) × (k ≤ MOST-ROUNDS) ⌝ }
     ensures { λ r. ⌜ take n r ≡ turns (drop 1 (take k leaders)) (take n w) ⌝ }
 {
-    let leaders = LEADERS;
+    let leaders = leaders::table();
     let mut a = w;
     let mut b = [0u8; WIDE];
     let mut i = 1;
@@ -126,7 +112,7 @@ fn turns(w: [u8; WIDE], n: usize, k: usize) -> [u8; WIDE]
 
 // The first k rounds of the permutation on the first n bytes of s.
 fn turned(s: [u8; LARGEST], n: usize, k: usize) -> [u8; LARGEST]
-    requires { ⌜ (SMALLEST ≤ n) × (n ≤ LARGEST) × (1 ≤ k) × (k ≤ ROUNDS) ⌝ }
+    requires { ⌜ (SMALLEST ≤ n) × (n ≤ LARGEST) × (1 ≤ k) × (k ≤ MOST-ROUNDS) ⌝ }
     ensures { λ r. ⌜ r ≡ permute k (take n s) ++ drop n s ⌝ }
 {
     let first = cells::substitute(s, n, leader(0));
@@ -140,7 +126,7 @@ fn turned(s: [u8; LARGEST], n: usize, k: usize) -> [u8; LARGEST]
 
 // The first n bytes of s before k rounds of the permutation.
 fn unturned(s: [u8; LARGEST], n: usize, k: usize) -> [u8; LARGEST]
-    requires { ⌜ (SMALLEST ≤ n) × (n ≤ LARGEST) × (1 ≤ k) × (k ≤ ROUNDS) ⌝ }
+    requires { ⌜ (SMALLEST ≤ n) × (n ≤ LARGEST) × (1 ≤ k) × (k ≤ MOST-ROUNDS) ⌝ }
     ensures { λ r. ⌜ r ≡ unpermute k (take n s) ++ drop n s ⌝ }
 {
     let mut a = s;
@@ -153,56 +139,26 @@ fn unturned(s: [u8; LARGEST], n: usize, k: usize) -> [u8; LARGEST]
     cells::restore(a, n, leader(0))
 }
 
-// The permutation of all rounds.
-pub fn permute(s: [u8; LARGEST], n: usize) -> Permuted
-    ensures { λ r. ⌜ r ≡ answered (permute ROUNDS) s n ⌝ }
+// k rounds of the permutation.
+pub fn permute(s: [u8; LARGEST], n: usize, k: usize) -> Permuted
+    ensures { λ r. ⌜ r ≡ answered permute s n k ⌝ }
 {
-    if is_permitted(n) {
-        let state = turned(s, n, ROUNDS);
-        Permuted {
-            answer: Answer::Done,
-            state,
-        }
-    } else {
-        Permuted {
-            answer: Answer::Size,
-            state: s,
-        }
-    }
+    let answer = judge(n, k);
+    let Answer::Done = answer else {
+        return Permuted { answer, state: s };
+    };
+    let state = turned(s, n, k);
+    Permuted { answer, state }
 }
 
-// The permutation of half the rounds, as document 000, section 2.1 runs it for a block.
-pub fn permute_half(s: [u8; LARGEST], n: usize) -> Permuted
-    ensures { λ r. ⌜ r ≡ answered (permute (ROUNDS / 2)) s n ⌝ }
+// Their inverse.
+pub fn unpermute(s: [u8; LARGEST], n: usize, k: usize) -> Permuted
+    ensures { λ r. ⌜ r ≡ answered unpermute s n k ⌝ }
 {
-    if is_permitted(n) {
-        let state = turned(s, n, ROUNDS / 2);
-        Permuted {
-            answer: Answer::Done,
-            state,
-        }
-    } else {
-        Permuted {
-            answer: Answer::Size,
-            state: s,
-        }
-    }
-}
-
-// The inverse of the permutation of all rounds.
-pub fn unpermute(s: [u8; LARGEST], n: usize) -> Permuted
-    ensures { λ r. ⌜ r ≡ answered (unpermute ROUNDS) s n ⌝ }
-{
-    if is_permitted(n) {
-        let state = unturned(s, n, ROUNDS);
-        Permuted {
-            answer: Answer::Done,
-            state,
-        }
-    } else {
-        Permuted {
-            answer: Answer::Size,
-            state: s,
-        }
-    }
+    let answer = judge(n, k);
+    let Answer::Done = answer else {
+        return Permuted { answer, state: s };
+    };
+    let state = unturned(s, n, k);
+    Permuted { answer, state }
 }

@@ -3,6 +3,7 @@
 // piece of the text, padded.
 use cipher::Instance;
 use gage::LARGEST;
+use gage::ROUNDS;
 use sponge::LARGEST_RATE;
 ghost use mathlib.Core.Path.{_≡_};
 ghost use mathlib.Core.Bool.{true};
@@ -38,7 +39,7 @@ fn whole(s: [u8; LARGEST], n: usize) -> [u8; LARGEST]
     requires { ⌜ permitted n ≡ true ⌝ }
     ensures { λ r. ⌜ take n r ≡ whole (take n s) ⌝ }
 {
-    let p = gage::permute(s, n);
+    let p = gage::permute(s, n, ROUNDS);
     p.state
 }
 
@@ -47,7 +48,7 @@ fn half(s: [u8; LARGEST], n: usize) -> [u8; LARGEST]
     requires { ⌜ permitted n ≡ true ⌝ }
     ensures { λ r. ⌜ take n r ≡ half (take n s) ⌝ }
 {
-    let p = gage::permute_half(s, n);
+    let p = gage::permute(s, n, ROUNDS / 2);
     p.state
 }
 

@@ -1,12 +1,13 @@
--- The promise of `leader`, as the check reads it (`Post`), admits a single answer. Assumes nothing.
+-- The promise of `table`, as the check reads it (`Post`), admits a single answer. Assumes nothing.
 use mathlib.Core.Path.{_≡_, sym, _∙_}
+use mathlib.Core.List.{List}
 use Prim.Native.Nat.{ℕ}
 use contract.Lifetimes.{Lfts}
 use denote.Triple.Clauses.{AtExit}
 use borrow.Fn.Kinds.{Dens, endedOf}
-use Rattle.leaders.proofs.leader.Kinds as leader-kinds
-use Rattle.leaders.proofs.leader.Reads as leader-reads
+use Rattle.leaders.proofs.table.Kinds as table-kinds
+use Rattle.leaders.proofs.table.Reads as table-reads
 
-pub leader-single : (κs : Lfts 0) (a : Dens κs leader-kinds.ps) (r r′ : ℕ) (x x′ : AtExit (endedOf 0 leader-kinds.ps leader-kinds.r) κs)
-    → leader-reads.Post κs a r x → leader-reads.Post κs a r′ x′ → r ≡ r′
-leader-single κs a r r′ x x′ p q = p ∙ sym q
+pub table-single : (κs : Lfts 0) (a : Dens κs table-kinds.ps) (r r′ : List ℕ) (x x′ : AtExit (endedOf 0 table-kinds.ps table-kinds.r) κs)
+    → table-reads.Post κs a r x → table-reads.Post κs a r′ x′ → r ≡ r′
+table-single κs a r r′ x x′ p q = p ∙ sym q

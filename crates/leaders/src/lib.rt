@@ -1,7 +1,6 @@
 // The leaders of the rounds: document 000's Table 1.11, 255 numbers, as printed. The promise cites specs/Leaders.antt, and specs/Rule.antt holds
 // the table to order W9's rule.
 ghost use mathlib.Core.Path.{_≡_};
-ghost use lib.ListN.{getD};
 ghost use Rattle.leaders.specs.Leaders.{leaders};
 
 // The most rounds: one for each leader of the table.
@@ -265,12 +264,9 @@ const LEADERS: [u8; MOST_ROUNDS] = [
     2,
 ];
 
-// The leader of round i, counted from 0; where there is none, 0.
-pub fn leader(i: usize) -> u8
-    ensures { λ r. ⌜ r ≡ getD leaders i 0 ⌝ }
+// The table: the leader of round i, counted from 0, is its entry i.
+pub fn table() -> [u8; MOST_ROUNDS]
+    ensures { λ r. ⌜ r ≡ leaders ⌝ }
 {
-    if i >= MOST_ROUNDS {
-        return 0;
-    }
-    LEADERS[i]
+    LEADERS
 }

@@ -3,12 +3,11 @@ use Prim.Native.Nat.{ℕ}
 use mathlib.Core.Bool.{cond}
 use mathlib.Core.List.{List}
 use lib.ListN.{length}
-use Rattle.gage.specs.Permutation.{permitted, numberOf}
-use Rattle.gage.specs.declared.Answer.the-variants.{Done, Size}
+use Rattle.gage.specs.Permutation.{numberOf, judged, after}
 
--- the permutation of a state where it stands
-unfoldable pub permuteNumber : ℕ → ℕ
-permuteNumber n = cond (permitted n) (numberOf Done) (numberOf Size)
+-- k rounds of the permutation on a state where it stands
+unfoldable pub permuteNumber : ℕ → ℕ → ℕ
+permuteNumber n k = numberOf (judged n k)
 
-unfoldable pub permuteState : (List ℕ → List ℕ) → List ℕ → List ℕ
-permuteState f s = cond (permitted (length s)) (f s) s
+unfoldable pub permuteState : (ℕ → List ℕ → List ℕ) → List ℕ → ℕ → List ℕ
+permuteState f s k = after (judged (length s) k) (f k s) s

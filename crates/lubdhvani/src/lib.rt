@@ -7,7 +7,7 @@ ghost use Rattle.lists.specs.Buffers.{copied};
 ghost use Rattle.digest.specs.Answers.{digestAnswer, digestOut};
 ghost use Rattle.digest.specs.Answers as hashing;
 ghost use Rattle.cells.specs.Sizes.{LARGEST};
-ghost use Rattle.gage.specs.Permutation.{ROUNDS, permute, unpermute};
+ghost use Rattle.gage.specs.Permutation.{permute, unpermute};
 ghost use Rattle.cipher.specs.Instances.{named};
 ghost use Rattle.ingage.specs.Answers.{sealNamed, openNamed, sealNumber, sealCount, openNumber, openCount};
 ghost use Rattle.frame.specs.Answers.{writeCall};
@@ -58,34 +58,34 @@ fn widened(state: &[u8]) -> [u8; LARGEST]
     s
 }
 
-// The permutation on a state where it stands.
+// So many rounds of the permutation on a state where it stands.
 #[no_mangle]
-pub extern "C" fn lubdhvani_permute(state: &mut [u8]) -> u32
-    ensures { λ r. ⌜ r ≡ permuteNumber (length (now (state .entry))) ⌝ }
-    ensures { λ _. ⌜ now (state .exit) ≡ permuteState (permute ROUNDS) (now (state .entry)) ⌝ }
+pub extern "C" fn lubdhvani_permute(state: &mut [u8], rounds: usize) -> u32
+    ensures { λ r. ⌜ r ≡ permuteNumber (length (now (state .entry))) rounds ⌝ }
+    ensures { λ _. ⌜ now (state .exit) ≡ permuteState permute (now (state .entry)) rounds ⌝ }
 {
     let n = state.len();
     if n > LARGEST {
         return gage::number(Answer::Size);
     }
-    let r = gage::permute(widened(state), n);
+    let r = gage::permute(widened(state), n, rounds);
     let permuted = r.state;
     let answer = r.answer;
     lists::copy(&permuted, state);
     gage::number(answer)
 }
 
-// Its inverse.
+// Their inverse.
 #[no_mangle]
-pub extern "C" fn lubdhvani_unpermute(state: &mut [u8]) -> u32
-    ensures { λ r. ⌜ r ≡ permuteNumber (length (now (state .entry))) ⌝ }
-    ensures { λ _. ⌜ now (state .exit) ≡ permuteState (unpermute ROUNDS) (now (state .entry)) ⌝ }
+pub extern "C" fn lubdhvani_unpermute(state: &mut [u8], rounds: usize) -> u32
+    ensures { λ r. ⌜ r ≡ permuteNumber (length (now (state .entry))) rounds ⌝ }
+    ensures { λ _. ⌜ now (state .exit) ≡ permuteState unpermute (now (state .entry)) rounds ⌝ }
 {
     let n = state.len();
     if n > LARGEST {
         return gage::number(Answer::Size);
     }
-    let r = gage::unpermute(widened(state), n);
+    let r = gage::unpermute(widened(state), n, rounds);
     let permuted = r.state;
     let answer = r.answer;
     lists::copy(&permuted, state);

@@ -40,14 +40,14 @@ fn rows(n: usize, kind: &[u8], s: [u8; LARGEST]) {
     say(b" ");
     say(kind);
     say(b" ");
-    let there = gage::permute(s, n).state;
+    let there = gage::permute(s, n, 32).state;
     hex(there, n);
     say(b"\nunpermute ");
     number(n);
     say(b" ");
     say(kind);
     say(b" ");
-    let back = gage::unpermute(s, n).state;
+    let back = gage::unpermute(s, n, 32).state;
     hex(back, n);
     say(b"\n");
 }
@@ -66,7 +66,7 @@ fn permitted_rows() {
 
 fn refused(n: usize) {
     let before = ramp(n);
-    let p = gage::permute(before, n);
+    let p = gage::permute(before, n, 32);
     let answer = p.answer;
     let after = p.state;
     say(b"refused ");

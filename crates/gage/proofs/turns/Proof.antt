@@ -1,19 +1,19 @@
 -- `turns` meets its promise. The invariant: the turns of the leaders from i on are left (`Left`); the measure is their number. Assumes nothing.
-use mathlib.Core.Path.{_≡_, refl, sym}
+use mathlib.Core.Path.{_≡_, refl}
 use Prim.Native.Nat.{ℕ, _+_, _-_, _≤_}
 use lib.ListN.{length, take}
-use lib.Seq.{length-take-le, getD-take}
+use lib.Seq.{length-take-le}
 use Rattle.cells.specs.Sizes.{WIDE}
-use Rattle.gage.specs.Permutation.{ROUNDS, leaders}
-use Rattle.gage.specs.Tables.{leader-below, length-leaders}
-use Rattle.gage.proofs.Rounds.{Left, left-more, left-two, left-none}
+use Rattle.gage.specs.Permutation.{MOST-ROUNDS, leaders}
+use Rattle.leaders.specs.Rule.{length-leaders}
+use Rattle.gage.proofs.Rounds.{cell-at, leader-at, Left, left-more, left-two, left-none}
 use native.Mathlib.Omega.{arith}
 use borrow.Author.Needs.{needs}
 use Rattle.gage.proofs.turns.Statement.{statement}
 use Rattle.gage.proofs.turns.Tie as tie
 
 -- as many leaders as rounds
-long : (k : ℕ) → k ≤ ROUNDS → length (take k leaders) ≡ k
+long : (k : ℕ) → k ≤ MOST-ROUNDS → length (take k leaders) ≡ k
 long k h = length-take-le k leaders (omega (arith, length-leaders))
 
 abbrev Inv-loop : tie.InvT-loop
@@ -23,9 +23,12 @@ Inv-loop n k ls a₀ b₀ i₀ a b i =
 abbrev μ-loop : tie.MeasureT-loop
 μ-loop n k ls a₀ b₀ i₀ a b i = k - i
 
+table-requires : tie.Need-table-requires Inv-loop μ-loop
+table-requires c κs = search needs
+
 loop-holds : tie.Need-loop-holds Inv-loop μ-loop
 loop-holds c =
-    let l = long (c .args .k) (search needs) in
+    let l = long (c .before .args .k) (search needs) in
     (search needs, search needs, search needs, record { begun = search needs; turn = omega arith; same = refl })
 
 add-loop : tie.Need-add-loop Inv-loop μ-loop
@@ -41,9 +44,8 @@ array-read-turn : tie.Need-array-read-turn Inv-loop μ-loop
 array-read-turn c = search needs
 
 turn-requires : tie.Need-turn-requires Inv-loop μ-loop
-unfolding leaders
 turn-requires c κs =
-    (search needs, search needs, search needs, search needs, leader-below (c .before .before .before .loop .i) (search needs))
+    (search needs, search needs, search needs, search needs, cell-at (c .before .before .before .before .table .ensures) (c .before .before .before .loop .i) (search needs))
 
 slice-aggregate-turn-3 : tie.Need-slice-aggregate-turn-3 Inv-loop μ-loop
 slice-aggregate-turn-3 c = search needs
@@ -58,9 +60,8 @@ array-read-turn-2 : tie.Need-array-read-turn-2 Inv-loop μ-loop
 array-read-turn-2 c = search needs
 
 turn-requires-2 : tie.Need-turn-requires-2 Inv-loop μ-loop
-unfolding leaders
 turn-requires-2 c κs =
-    (c .before .before .before .before .turn .ensures .1, c .before .before .before .before .turn .ensures .0, search needs, search needs, leader-below (c .before .before .before .before .before .before .before .before .loop .i + 1) (search needs))
+    (c .before .before .before .before .turn .ensures .1, c .before .before .before .before .turn .ensures .0, search needs, search needs, cell-at (c .before .before .before .before .before .before .before .before .before .table .ensures) (c .before .before .before .before .before .before .before .before .loop .i + 1) (search needs))
 
 add-i : tie.Need-add-i Inv-loop μ-loop
 add-i c = search needs
@@ -69,10 +70,10 @@ loop-less : tie.Need-loop-less Inv-loop μ-loop
 loop-less c = search needs
 
 loop-again : tie.Need-loop-again Inv-loop μ-loop
-unfolding leaders
 loop-again c =
     let before = c .before .before .before .before .before .before .before .before .before .before .before in
-    let k = before .before .args .k in
+    let k = before .before .before .args .k in
+    let same = before .before .table .ensures in
     let i = before .loop .i in
     let l = long k (search needs) in
     let first = c .before .before .before .before .before .before .before .turn .ensures in
@@ -80,8 +81,8 @@ loop-again c =
       search needs,
       second .1,
       second .0,
-      left-two _ _ _ _ (before .loop .inv .3) (omega arith) (sym (getD-take k leaders i 0 (search needs)))
-          (sym (getD-take k leaders (i + 1) 0 (search needs))) (first .2) (second .2),
+      left-two _ _ _ _ (before .loop .inv .3) (omega arith) (leader-at same k i (search needs))
+          (leader-at same k (i + 1) (search needs)) (first .2) (second .2),
     )
 
 slice-aggregate-turn-5 : tie.Need-slice-aggregate-turn-5 Inv-loop μ-loop
@@ -94,25 +95,24 @@ array-read-turn-3 : tie.Need-array-read-turn-3 Inv-loop μ-loop
 array-read-turn-3 c = search needs
 
 turn-requires-3 : tie.Need-turn-requires-3 Inv-loop μ-loop
-unfolding leaders
 turn-requires-3 c κs =
-    (search needs, search needs, search needs, search needs, leader-below (c .before .before .before .before .loop .i) (search needs))
+    (search needs, search needs, search needs, search needs, cell-at (c .before .before .before .before .before .table .ensures) (c .before .before .before .before .loop .i) (search needs))
 
 returns : tie.Need-returns Inv-loop μ-loop
-unfolding leaders
 returns c =
     let before = c .before .before .before .before .before .before .before in
-    let k = before .before .args .k in
+    let k = before .before .before .args .k in
+    let same = before .before .table .ensures in
     let i = before .loop .i in
     let l = long k (search needs) in
     left-none
-    (left-more _ _ (before .loop .inv .3) (omega arith) (sym (getD-take k leaders i 0 (search needs))) (c .before .before .turn3 .ensures .2))
+    (left-more _ _ (before .loop .inv .3) (omega arith) (leader-at same k i (search needs)) (c .before .before .turn3 .ensures .2))
     (omega arith)
 
 returns-2 : tie.Need-returns-2 Inv-loop μ-loop
 returns-2 c =
     let before = c .before .before in
-    let l = long (before .before .args .k) (search needs) in
+    let l = long (before .before .before .args .k) (search needs) in
     left-none (before .loop .inv .3) (omega arith)
 
 pub turns-spec : {M : Type 1} → statement M
@@ -121,6 +121,7 @@ turns-spec =
     (tie.spec
     Inv-loop
     μ-loop
+    table-requires
     loop-holds
     add-loop
     slice-aggregate-turn

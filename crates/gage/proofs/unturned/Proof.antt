@@ -3,7 +3,7 @@ use Rattle.gage.proofs.Turning.{by-leader, by-width, Undone, undone-non
 use Rattle.cells.specs.States.{length-restore}
 use Rattle.shuffling.specs.States.{length-unshuffle}
 use Rattle.gage.specs.Permutation.{leaders, unpermute}
-use Rattle.gage.specs.Tables.{length-leaders}
+use Rattle.leaders.specs.Rule.{length-leaders}
 use Rattle.shuffling.specs.Shuffling.{unshuffle}
 use Rattle.cells.specs.Cells.{table, restore}
 use lib.Seq.{length-take-le, getD-take}

@@ -1,0 +1,56 @@
+-- Which counts are rounds, by the tests of `judge`; and what `permute` and `unpermute` make of its answer. Assumes nothing.
+use mathlib.Core.Path.{_≡_, refl, sym, ap, _∙_}
+use mathlib.Core.Bool.{Bool, true, false, cond, _&&_}
+use mathlib.Core.List.{List, [], _∷_, _++_}
+use mathlib.Core.Logic.{⊎-elim}
+use Prim.Native.Nat.{ℕ, _≤_, _<_}
+use native.Mathlib.Omega.{arith}
+use types.Run.{OneOf}
+use denote.Enum.Declared.{tagOf}
+use lib.Dec.{leb}
+use lib.ListN.{take, drop}
+use borrow.Author.Tests.{leb-true, le-leb, lt-leb}
+use Rattle.gage.specs.Permutation.{LARGEST, MOST-ROUNDS, permitted, counted, numberOf, judged, answered}
+use Rattle.gage.specs.Tables.{permitted-size}
+use Rattle.gage.specs.Answers.{answered-done}
+use Rattle.gage.specs.declared.Answer.{Answer}
+use Rattle.gage.specs.declared.Answer.the-variants.{Done, Size, Rounds}
+use Rattle.gage.specs.declared.Permuted.{Permuted}
+use Rattle.gage.proofs.Answer as answer-type
+
+pub none : (k : ℕ) → k < 1 → counted k ≡ false
+none k h = rw (lt-leb 1 k h)
+
+pub over : (k : ℕ) → 1 ≤ k → MOST-ROUNDS < k → counted k ≡ false
+over k g h = rw (le-leb 1 k g, lt-leb k MOST-ROUNDS h)
+
+pub within : (k : ℕ) → 1 ≤ k → k ≤ MOST-ROUNDS → counted k ≡ true
+within k g h = rw (le-leb 1 k g, le-leb k MOST-ROUNDS h)
+
+-- what is done has a permitted size and a count of rounds
+pub allowed : (n k : ℕ) → judged n k ≡ Done → (29 ≤ n) × (n ≤ LARGEST) × (1 ≤ k) × (k ≤ MOST-ROUNDS)
+unfolding judged
+allowed n k e = go (permitted n) refl (leb 1 k) refl (leb k MOST-ROUNDS) refl e
+  where
+    go : (p : Bool) → permitted n ≡ p → (a : Bool) → leb 1 k ≡ a → (b : Bool) → leb k MOST-ROUNDS ≡ b
+        → cond p (cond (a && b) Done Rounds) Size ≡ Done → (29 ≤ n) × (n ≤ LARGEST) × (1 ≤ k) × (k ≤ MOST-ROUNDS)
+    go true p true a true b f = (permitted-size n p .0, permitted-size n p .1, leb-true 1 k a, leb-true k MOST-ROUNDS b)
+    go true p true a false b f = absurd (omega (arith, ap numberOf f))
+    go true p false a t b f = absurd (omega (arith, ap numberOf f))
+    go false p t a u b f = absurd (omega (arith, ap numberOf f))
+
+module _ (f : ℕ → List ℕ → List ℕ) (s : List ℕ) (n k : ℕ) (r : Answer) (e : r ≡ judged n k) where
+  -- a refusal gives the state back
+  pub refused : OneOf (1 ∷ 2 ∷ []) (tagOf answer-type.the-type r) → _≡_ {A = Permuted} (record { answer = r; state = s }) (answered f s n k)
+  unfolding answered
+  refused t = go r e t
+    where
+      go : (a : Answer) → a ≡ judged n k → OneOf (1 ∷ 2 ∷ []) (tagOf answer-type.the-type a)
+          → _≡_ {A = Permuted} (record { answer = a; state = s }) (answered f s n k)
+      go Done g t = absurd (⊎-elim (λ h. omega (arith, h)) (λ h. omega (arith, h)) t)
+      go Size g t = rw (sym g)
+      go Rounds g t = rw (sym g)
+
+  -- a state x with the first n bytes changed, given with done, is the answer
+  pub done : {x : List ℕ} → r ≡ Done → x ≡ f k (take n s) ++ drop n s → _≡_ {A = Permuted} (record { answer = r; state = x }) (answered f s n k)
+  done d x = rw (d, x, answered-done f s n k (sym e ∙ d))
