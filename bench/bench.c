@@ -29,7 +29,7 @@ typedef void seals(unsigned, const uint8_t *, const uint8_t *, const uint8_t *, 
 /* Key and nonce of the cipher's instances in bytes. */
 static const size_t key_of[LUBDHVANI_CIPHERS] = {16, 16, 16, 16, 32, 32}, nonce_of[LUBDHVANI_CIPHERS] = {12, 12, 12, 16, 12, 16};
 
-static void ours_permute(uint8_t *s, size_t n) { lubdhvani_permute(s, n); }
+static void ours_permute(uint8_t *s, size_t n) { lubdhvani_permute(s, n, LUBDHVANI_ROUNDS); }
 static void ours_digest(unsigned instance, const uint8_t *m, size_t length, uint8_t *to)
 {
     lubdhvani_digest(instance, m, length, to, LUBDHVANI_DIGEST, &calls);

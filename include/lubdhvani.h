@@ -37,6 +37,8 @@ extern "C" {
 /* Sizes in bytes. */
 enum {
     LUBDHVANI_LARGEST_STATE = 72,      /* permitted states: 29 30 32 34 36 40 48 64 68 72 */
+    LUBDHVANI_ROUNDS = 32,             /* what the digest runs; the cipher runs these and, after each block, half of them */
+    LUBDHVANI_MOST_ROUNDS = 255,       /* the permutation may be run at 1 to 255 rounds */
     LUBDHVANI_DIGEST = 32,             /* a digest, and the least room for one */
     LUBDHVANI_LONGEST_INPUT = 65536,   /* a message to digest, and a stream to read */
     LUBDHVANI_KEY = 16,                /* key and nonce of cipher instance 1, by which frames are sealed; others' stand at lubdhvani_seal */
@@ -83,13 +85,14 @@ enum {
     LUBDHVANI_AFTER_FINISH = 14, /* feed or finish of a running digest after its finish */
     LUBDHVANI_OVER_WORK = 15,  /* the stretch takes more calls of the permutation than are allowed */
     LUBDHVANI_OTHER_EDITION = 16, /* the converter's stretch is not of the edition named */
-    LUBDHVANI_OTHER_LAYOUT = 17 /* the line is the trade's, but not of the layout named */
+    LUBDHVANI_OTHER_LAYOUT = 17, /* the line is the trade's, but not of the layout named */
+    LUBDHVANI_NO_ROUNDS = 18   /* a count of rounds that is not 1 to 255 */
 };
 
-/* The permutation of 32 rounds on a state of `size` bytes, where it stands, and its inverse.
- * 0: the state is permuted. 1: `size` is not permitted, and the state is as it was. */
-uint32_t lubdhvani_permute(uint8_t *state, size_t size);
-uint32_t lubdhvani_unpermute(uint8_t *state, size_t size);
+/* So many rounds of the permutation, 1 to 255, on a state of `size` bytes, where it stands, and their inverse.
+ * 0: the state is permuted. 1: `size` is not permitted; 18: `rounds` is not 1 to 255; the state is as it was. 1 comes before 18. */
+uint32_t lubdhvani_permute(uint8_t *state, size_t size, size_t rounds);
+uint32_t lubdhvani_unpermute(uint8_t *state, size_t size, size_t rounds);
 
 /* The digest of a message with hash instance 1 to 10.
  * 0: out[0..32] is the digest, *calls the count. 1, 3 (over 65,536 bytes), 4 (room under 32): out is untouched, *calls is 0. */

@@ -35,11 +35,17 @@ static void check_permutation(void)
     uint8_t state[30] = "thirty bytes are permitted", before[30];
     memcpy(before, state, sizeof state);
 
-    check(lubdhvani_permute(state, 30) == LUBDHVANI_DONE, "30 bytes are permuted");
-    check(memcmp(state, before, 30) != 0, "the state has changed");
-    check(lubdhvani_unpermute(state, 30) == LUBDHVANI_DONE, "30 bytes are permuted back");
-    check(memcmp(state, before, 30) == 0, "the inverse gives the state back");
-    check(lubdhvani_permute(state, 28) == LUBDHVANI_UNKNOWN, "28 bytes are not permitted");
+    static const size_t rounds[] = {1, 2, LUBDHVANI_ROUNDS / 2, LUBDHVANI_ROUNDS, 33, LUBDHVANI_MOST_ROUNDS};
+    for (size_t i = 0; i < sizeof rounds / sizeof rounds[0]; i++) {
+        check(lubdhvani_permute(state, 30, rounds[i]) == LUBDHVANI_DONE, "30 bytes are permuted");
+        check(memcmp(state, before, 30) != 0, "the state has changed");
+        check(lubdhvani_unpermute(state, 30, rounds[i]) == LUBDHVANI_DONE, "30 bytes are permuted back");
+        check(memcmp(state, before, 30) == 0, "the inverse gives the state back");
+    }
+    check(lubdhvani_permute(state, 28, 0) == LUBDHVANI_UNKNOWN, "28 bytes are not permitted, whatever the rounds");
+    check(lubdhvani_permute(state, 30, 0) == LUBDHVANI_NO_ROUNDS, "0 rounds are none");
+    check(lubdhvani_permute(state, 30, LUBDHVANI_MOST_ROUNDS + 1) == LUBDHVANI_NO_ROUNDS, "256 rounds are too many");
+    check(lubdhvani_unpermute(state, 30, SIZE_MAX) == LUBDHVANI_NO_ROUNDS, "so is the largest number");
     check(memcmp(state, before, 30) == 0, "a refused state stays");
 }
 

@@ -27,6 +27,7 @@ mod lubdhvani {
     pub const NOT_TRADE: u32 = 13;
     pub const OVER_WORK: u32 = 15;
     pub const OTHER_LAYOUT: u32 = 17;
+    pub const NO_ROUNDS: u32 = 18;
 
     /// Enough for every stretch.
     pub const ALL_WORK: usize = 111;
@@ -37,8 +38,8 @@ mod lubdhvani {
 
     #[rustfmt::skip]
     extern "C" {
-        fn lubdhvani_permute(state: *mut u8, size: usize) -> u32;
-        fn lubdhvani_unpermute(state: *mut u8, size: usize) -> u32;
+        fn lubdhvani_permute(state: *mut u8, size: usize, rounds: usize) -> u32;
+        fn lubdhvani_unpermute(state: *mut u8, size: usize, rounds: usize) -> u32;
         fn lubdhvani_digest(
             instance: usize, message: *const u8, message_length: usize, out: *mut u8, room: usize,
             calls: *mut usize,
@@ -84,12 +85,12 @@ mod lubdhvani {
 
     // SAFETY, here and below: each pointer is to as many bytes as are said, and
     // what is written is borrowed for writing, so that nothing else shares it.
-    pub fn permute(state: &mut [u8]) -> u32 {
-        unsafe { lubdhvani_permute(state.as_mut_ptr(), state.len()) }
+    pub fn permute(state: &mut [u8], rounds: usize) -> u32 {
+        unsafe { lubdhvani_permute(state.as_mut_ptr(), state.len(), rounds) }
     }
 
-    pub fn unpermute(state: &mut [u8]) -> u32 {
-        unsafe { lubdhvani_unpermute(state.as_mut_ptr(), state.len()) }
+    pub fn unpermute(state: &mut [u8], rounds: usize) -> u32 {
+        unsafe { lubdhvani_unpermute(state.as_mut_ptr(), state.len(), rounds) }
     }
 
     /// Number and calls.
@@ -245,7 +246,7 @@ mod lubdhvani {
 }
 
 use lubdhvani::{Asked, Reading, ALL_WORK, EDITION_ONE, OVER_WORK};
-use lubdhvani::{ALIKE, NO_BUNDLE};
+use lubdhvani::{ALIKE, NO_BUNDLE, NO_ROUNDS};
 use lubdhvani::{
     BAD_SEAL, BAD_SHAPE, BAD_STUFFING, DONE, INSTANCE, NOT_TRADE, OTHER_FONT, UNLISTED,
 };
@@ -283,21 +284,30 @@ impl Checks {
     fn permutation(&mut self) {
         let before = *b"thirty bytes are permitted....";
         let mut state = before;
-        self.check(
-            lubdhvani::permute(&mut state) == DONE,
-            "30 bytes are permuted",
-        );
-        self.check(state != before, "the state has changed");
-        self.check(
-            lubdhvani::unpermute(&mut state) == DONE,
-            "30 bytes are permuted back",
-        );
-        self.check(state == before, "the inverse gives the state back");
-        let refused = lubdhvani::permute(&mut state[..28]);
+        for rounds in [1, 2, 16, 32, 33, 255] {
+            self.check(
+                lubdhvani::permute(&mut state, rounds) == DONE,
+                "30 bytes are permuted",
+            );
+            self.check(state != before, "the state has changed");
+            self.check(
+                lubdhvani::unpermute(&mut state, rounds) == DONE,
+                "30 bytes are permuted back",
+            );
+            self.check(state == before, "the inverse gives the state back");
+        }
+        let refused = lubdhvani::permute(&mut state[..28], 0);
         self.check(
             refused == INSTANCE && state == before,
-            "28 bytes are not permitted, and stay",
+            "28 bytes are not permitted, whatever the rounds, and stay",
         );
+        for rounds in [0, 256, usize::MAX] {
+            let refused = lubdhvani::unpermute(&mut state, rounds);
+            self.check(
+                refused == NO_ROUNDS && state == before,
+                "0 rounds and over 255 are refused, and the state stays",
+            );
+        }
     }
 
     /// Of the empty message with instance 1, as `second kat hash 1` prints it.

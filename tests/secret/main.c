@@ -37,10 +37,10 @@ static void permutations(void)
     uint8_t state[LUBDHVANI_LARGEST_STATE] = {0};
     for (size_t i = 0; i < sizeof size / sizeof size[0]; i++) {
         secret(state, size[i]);
-        failed |= lubdhvani_permute(state, size[i]) != LUBDHVANI_DONE;
+        failed |= lubdhvani_permute(state, size[i], LUBDHVANI_MOST_ROUNDS) != LUBDHVANI_DONE;
         given("permute", size[i], state, size[i]);
         secret(state, size[i]);
-        failed |= lubdhvani_unpermute(state, size[i]) != LUBDHVANI_DONE;
+        failed |= lubdhvani_unpermute(state, size[i], LUBDHVANI_MOST_ROUNDS) != LUBDHVANI_DONE;
         given("unpermute", size[i], state, size[i]);
     }
 }

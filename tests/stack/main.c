@@ -30,8 +30,8 @@ static size_t calls, length, first, closing, line_length = sizeof line, layout =
 static struct lubdhvani_running running;
 static struct lubdhvani_asked everything = {.editions = LUBDHVANI_BOTH_EDITIONS, .allowed = LUBDHVANI_ALL_WORK};
 
-static void permute(void) { lubdhvani_permute(state, sizeof state); }
-static void unpermute(void) { lubdhvani_unpermute(state, sizeof state); }
+static void permute(void) { lubdhvani_permute(state, sizeof state, LUBDHVANI_MOST_ROUNDS); }
+static void unpermute(void) { lubdhvani_unpermute(state, sizeof state, LUBDHVANI_MOST_ROUNDS); }
 static void digest_one(void) { lubdhvani_digest(1, text, sizeof text, digest, sizeof digest, &calls); }
 static void digest_last(void) { lubdhvani_digest(LUBDHVANI_INSTANCES, text, sizeof text, digest, sizeof digest, &calls); }
 static void start_one(void) { lubdhvani_start(&running, 1); }

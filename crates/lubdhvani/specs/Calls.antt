@@ -1,6 +1,5 @@
 -- What the two C calls of the permutation answer: document 01's number, and the state lent. Assumes nothing: these are definitions.
 use Prim.Native.Nat.{ℕ}
-use mathlib.Core.Bool.{cond}
 use mathlib.Core.List.{List}
 use lib.ListN.{length}
 use Rattle.gage.specs.Permutation.{numberOf, judged, after}

@@ -1,12 +1,18 @@
 // Prints the rows that the second program makes of its own permutation (tests/second, src/rows/permute.rs): whether the formula gives the table's
-// products, every permitted size over three states, forwards and backwards, then sizes that are not permitted.
+// products, every permitted size at a few counts of rounds over three states, forwards and backwards, and what is refused.
 use gage::LARGEST;
+use gage::ROUNDS;
 use libc::STDOUT_FILENO;
 
 // The permitted sizes in bytes, and sizes that are not.
 const PERMITTED: [usize; 10] = [29, 30, 32, 34, 36, 40, 48, 64, 68, 72];
 
 const NOT_PERMITTED: [usize; 5] = [0, 28, 31, 65, 73];
+
+// Counts of rounds, and counts that are none: the last is the largest number.
+const COUNTS: [usize; 5] = [1, 2, ROUNDS / 2, ROUNDS, 255];
+
+const NO_COUNTS: [usize; 3] = [0, 256, 0xFFFF_FFFF_FFFF_FFFF];
 
 fn say(text: &[u8]) {
     io::write_all(STDOUT_FILENO, text);
@@ -33,46 +39,54 @@ fn ramp(n: usize) -> [u8; LARGEST] {
     s
 }
 
+// Size, rounds and kind of a row.
+fn begin(call: &[u8], n: usize, k: usize, kind: &[u8]) {
+    say(call);
+    number(n);
+    say(b" ");
+    number(k);
+    say(b" ");
+    say(kind);
+    say(b" ");
+}
+
 // One state, permuted and unpermuted.
-fn rows(n: usize, kind: &[u8], s: [u8; LARGEST]) {
-    say(b"permute ");
-    number(n);
-    say(b" ");
-    say(kind);
-    say(b" ");
-    let there = gage::permute(s, n, 32).state;
+fn rows(n: usize, k: usize, kind: &[u8], s: [u8; LARGEST]) {
+    begin(b"permute ", n, k, kind);
+    let there = gage::permute(s, n, k).state;
     hex(there, n);
-    say(b"\nunpermute ");
-    number(n);
-    say(b" ");
-    say(kind);
-    say(b" ");
-    let back = gage::unpermute(s, n, 32).state;
+    begin(b"\nunpermute ", n, k, kind);
+    let back = gage::unpermute(s, n, k).state;
     hex(back, n);
     say(b"\n");
 }
 
-fn permitted_rows() {
-    let sizes = PERMITTED;
+fn permuted(n: usize) {
+    let counts = COUNTS;
     let mut i = 0;
-    while i < 10 {
-        let n = sizes[i];
-        rows(n, b"zero", [0u8; LARGEST]);
-        rows(n, b"ones", [0xFFu8; LARGEST]);
-        rows(n, b"ramp", ramp(n));
+    while i < 5 {
+        let k = counts[i];
+        rows(n, k, b"zero", [0u8; LARGEST]);
+        rows(n, k, b"ones", [0xFFu8; LARGEST]);
+        rows(n, k, b"ramp", ramp(n));
         i += 1;
     }
 }
 
-fn refused(n: usize) {
+// Refused by both calls, and the state as it was.
+fn refused(n: usize, k: usize) {
     let before = ramp(n);
-    let p = gage::permute(before, n, 32);
-    let answer = p.answer;
-    let after = p.state;
+    let there = gage::permute(before, n, k);
+    let back = gage::unpermute(there.state, n, k);
+    let after = back.state;
     say(b"refused ");
     number(n);
     say(b" ");
-    number(gage::number(answer) as usize);
+    number(k);
+    say(b" ");
+    number(gage::number(there.answer) as usize);
+    say(b" ");
+    number(gage::number(back.answer) as usize);
     if lists::compare(&before, &after) {
         say(b" same\n");
     } else {
@@ -80,11 +94,33 @@ fn refused(n: usize) {
     }
 }
 
+fn no_rounds(n: usize) {
+    let counts = NO_COUNTS;
+    let mut i = 0;
+    while i < 3 {
+        refused(n, counts[i]);
+        i += 1;
+    }
+}
+
+fn permitted_rows() {
+    let sizes = PERMITTED;
+    let mut i = 0;
+    while i < 10 {
+        let n = sizes[i];
+        permuted(n);
+        no_rounds(n);
+        i += 1;
+    }
+}
+
 fn refused_rows() {
     let sizes = NOT_PERMITTED;
     let mut i = 0;
     while i < 5 {
-        refused(sizes[i]);
+        let n = sizes[i];
+        refused(n, ROUNDS);
+        no_rounds(n);
         i += 1;
     }
 }

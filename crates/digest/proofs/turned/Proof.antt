@@ -3,6 +3,7 @@ use Rattle.gage.specs.Permutation.{ROUNDS, permute}
 use Rattle.gage.specs.States.{length-permute}
 use Rattle.gage.specs.Tables.{permitted-size}
 use Rattle.gage.specs.Answers.{answered-first}
+use mathlib.Core.Path.{refl}
 use borrow.Author.Needs.{needs}
 use Rattle.digest.proofs.turned.Statement.{statement}
 use Rattle.digest.proofs.turned.Tie as tie
@@ -15,7 +16,7 @@ returns c =
     let n = c .before .before .args .n in
     let s = c .before .before .args .s in
     let size = permitted-size n (c .before .before .pre) in
-    answered-first (permute ROUNDS) s n (length-permute ROUNDS) (c .before .before .pre) (search needs) (c .before .permute .ensures)
+    answered-first permute s n ROUNDS (length-permute ROUNDS) (c .before .before .pre) refl (search needs) (c .before .permute .ensures)
 
 pub turned-spec : {M : Type 1} → statement M
 turned-spec = tie.close (tie.spec permute-requires returns)

@@ -1,7 +1,7 @@
 //! `permute_rows`: whether expression 1.2 gives the products of the table, the
 //! permutation and its inverse at every permitted size and a few counts of
-//! rounds over three states, then what is refused: every size of both kinds at
-//! counts that are no rounds, and sizes that are not permitted at counts that are.
+//! rounds over three states, and what is refused: counts that are no rounds, and
+//! sizes that are not permitted.
 
 use std::fmt::Write;
 
@@ -40,7 +40,8 @@ pub fn rows() -> String {
         }
     }
     for n in NOT_PERMITTED {
-        for k in COUNTS.into_iter().chain(NO_COUNTS) {
+        refused(&mut rows, n, ROUNDS);
+        for k in NO_COUNTS {
             refused(&mut rows, n, k);
         }
     }

@@ -4,18 +4,19 @@ use Rattle.gage.specs.Answers.{answered-first}
 use Rattle.gage.specs.States.{length-permute}
 use Rattle.gage.specs.Permutation.{ROUNDS, permute}
 use Prim.Native.Nat.{_/_}
+use mathlib.Core.Path.{refl}
 use borrow.Author.Needs.{needs}
 use Rattle.ingage.proofs.steps.half.Statement.{statement}
 use Rattle.ingage.proofs.steps.half.Tie as tie
 
-permute-half-requires : tie.Need-permute-half-requires
-permute-half-requires c κs = search needs
+permute-requires : tie.Need-permute-requires
+permute-requires c κs = search needs
 
 returns : tie.Need-returns
 returns c =
     let n = c .before .before .args .n in
     let size = permitted-size n (c .before .before .pre) in
-    answered-first (permute (ROUNDS / 2)) (c .before .before .args .s) n (length-permute (ROUNDS / 2)) (c .before .before .pre) (search needs) (c .before .permute-half .ensures)
+    answered-first permute (c .before .before .args .s) n (ROUNDS / 2) (length-permute (ROUNDS / 2)) (c .before .before .pre) refl (search needs) (c .before .permute .ensures)
 
 pub half-spec : {M : Type 1} → statement M
-half-spec = tie.close (tie.spec permute-half-requires returns)
+half-spec = tie.close (tie.spec permute-requires returns)

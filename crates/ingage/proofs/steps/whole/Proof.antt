@@ -3,6 +3,7 @@ use Rattle.gage.specs.Tables.{permitted-size}
 use Rattle.gage.specs.Answers.{answered-first}
 use Rattle.gage.specs.States.{length-permute}
 use Rattle.gage.specs.Permutation.{ROUNDS, permute}
+use mathlib.Core.Path.{refl}
 use borrow.Author.Needs.{needs}
 use Rattle.ingage.proofs.steps.whole.Statement.{statement}
 use Rattle.ingage.proofs.steps.whole.Tie as tie
@@ -14,7 +15,7 @@ returns : tie.Need-returns
 returns c =
     let n = c .before .before .args .n in
     let size = permitted-size n (c .before .before .pre) in
-    answered-first (permute ROUNDS) (c .before .before .args .s) n (length-permute ROUNDS) (c .before .before .pre) (search needs) (c .before .permute .ensures)
+    answered-first permute (c .before .before .args .s) n ROUNDS (length-permute ROUNDS) (c .before .before .pre) refl (search needs) (c .before .permute .ensures)
 
 pub whole-spec : {M : Type 1} → statement M
 whole-spec = tie.close (tie.spec permute-requires returns)
