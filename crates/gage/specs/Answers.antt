@@ -1,12 +1,11 @@
 -- What the public calls answer to a size and a count of rounds that are allowed, and to others: the laws that callers cite. Assumes nothing.
-use mathlib.Core.Path.{_≡_, refl, sym, ap, _∙_}
-use mathlib.Core.Bool.{Bool, true, false, cond}
+use mathlib.Core.Path.{_≡_, _∙_}
+use mathlib.Core.Bool.{true, false}
 use mathlib.Core.List.{List, _++_}
 use Prim.Native.Nat.{ℕ, _≤_}
 use lib.ListN.{length, take, drop, take-append-drop}
 use lib.Seq.{length-take-le, take-at, drop-at}
-use Rattle.gage.specs.Permutation.{permitted, counted, judged, after, answered}
-use Rattle.gage.specs.declared.Answer.{Answer}
+use Rattle.gage.specs.Permutation.{permitted, counted, judged, answered}
 use Rattle.gage.specs.declared.Answer.the-variants.{Done, Size, Rounds}
 use Rattle.gage.specs.declared.Permuted.{Permuted}
 

@@ -1,10 +1,8 @@
 // What a row of orders is, for `compose`: the nonce as hexadecimal digits, a blank, the line. `judge_order` says whether a row is an order
 // and where its line begins, `nonce` what nonce its digits are. The promises cite specs/Orders.antt.
 ghost use mathlib.Core.Path.{_≡_};
-ghost use Prim.Native.Nat.{_<_};
-ghost use Rattle.orders.specs.Orders.{blankAt, allDigits, orderOf, digitAt, nonceOf};
+ghost use Rattle.orders.specs.Orders.{blankAt, orderOf, nonceOf};
 use body::NONCE_LENGTH;
-use text::Digit;
 
 const BLANK: u8 = 0x20;
 
@@ -33,21 +31,6 @@ fn first_blank(row: &[u8]) -> usize
     i
 }
 
-// Whether every byte is a hexadecimal digit.
-fn all_digits(text: &[u8]) -> bool
-    ensures { λ r. ⌜ r ≡ allDigits (now (text .entry)) ⌝ }
-{
-    let mut i = 0;
-    while i < text.len() {
-        let digit = text::value(text[i]);
-        let Digit::Value(_) = digit else {
-            return false;
-        };
-        i += 1;
-    }
-    true
-}
-
 // Whether a row is an order, and where its line begins.
 pub fn judge_order(row: &[u8]) -> Order
     ensures { λ r. ⌜ r ≡ orderOf (now (row .entry)) ⌝ }
@@ -56,28 +39,13 @@ pub fn judge_order(row: &[u8]) -> Order
     if at != NONCE_DIGITS {
         return Order::NoNonce;
     }
-    if !all_digits(&row[0..at]) {
+    if !text::all_digits(&row[0..at]) {
         return Order::NoNonce;
     }
     if at < row.len() {
         return Order::Line(at + 1);
     }
     Order::Line(at)
-}
-
-// The value of the digit at a place; 0 where there is none.
-fn digit_at(row: &[u8], at: usize) -> u8
-    ensures { λ r. ⌜ r ≡ digitAt (now (row .entry)) at ⌝ }
-    ensures { λ r. ⌜ r < 16 ⌝ }
-{
-    if at >= row.len() {
-        return 0;
-    }
-    let digit = text::value(row[at]);
-    match digit {
-        Digit::Value(v) => v,
-        Digit::Not => 0,
-    }
 }
 
 // The nonce that a row's first digits are: two digits a byte, high digit first.
@@ -87,7 +55,7 @@ pub fn nonce(row: &[u8]) -> [u8; NONCE_LENGTH]
     let mut bytes = [0u8; NONCE_LENGTH];
     let mut i = 0;
     while i < NONCE_LENGTH {
-        bytes[i] = digit_at(row, 2 * i) * 16 + digit_at(row, 2 * i + 1);
+        bytes[i] = text::digit_at(row, 2 * i) * 16 + text::digit_at(row, 2 * i + 1);
         i += 1;
     }
     bytes

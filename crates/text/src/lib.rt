@@ -2,7 +2,7 @@
 // The promises cite specs/Hex.antt.
 ghost use mathlib.Core.Path.{_≡_};
 ghost use Prim.Native.Nat.{_%_, _<_};
-ghost use Rattle.text.specs.Hex.{digit, hexLength, hexOut, valueOf};
+ghost use Rattle.text.specs.Hex.{digit, hexLength, hexOut, valueOf, allDigits, digitAt};
 
 // What a character is as a hexadecimal digit.
 pub enum Digit {
@@ -52,5 +52,35 @@ pub fn value(c: u8) -> Digit
         0x41..=0x46 => Digit::Value(c - 0x37),
         0x61..=0x66 => Digit::Value(c - 0x57),
         _ => Digit::Not,
+    }
+}
+
+// Whether every byte is a hexadecimal digit.
+pub fn all_digits(digits: &[u8]) -> bool
+    ensures { λ r. ⌜ r ≡ allDigits (now (digits .entry)) ⌝ }
+{
+    let mut i = 0;
+    while i < digits.len() {
+        let digit = value(digits[i]);
+        let Digit::Value(_) = digit else {
+            return false;
+        };
+        i += 1;
+    }
+    true
+}
+
+// The value of the digit at a place; 0 where there is none.
+pub fn digit_at(digits: &[u8], at: usize) -> u8
+    ensures { λ r. ⌜ r ≡ digitAt (now (digits .entry)) at ⌝ }
+    ensures { λ r. ⌜ r < 16 ⌝ }
+{
+    if at >= digits.len() {
+        return 0;
+    }
+    let digit = value(digits[at]);
+    match digit {
+        Digit::Value(v) => v,
+        Digit::Not => 0,
     }
 }

@@ -3,6 +3,7 @@ use Rattle.gage.specs.Answers.{judged-size, judged-rounds, judged-done}
 use Rattle.gage.proofs.Judging.{none, over, within}
 use mathlib.Core.Path.{sym, _∙_}
 use borrow.Author.Tests.{not-true, not-false}
+use native.Mathlib.Omega.{arith}
 use borrow.Author.Needs.{needs}
 use Rattle.gage.proofs.judge.Statement.{statement}
 use Rattle.gage.proofs.judge.Tie as tie
@@ -17,19 +18,19 @@ returns-2 : tie.Need-returns-2
 returns-2 c =
     let start = c .before .before .before in
     sym (judged-rounds (start .args .n) (start .args .k) (sym (c .before .before .is-permitted .ensures) ∙ not-false _ (c .before .if1 .left))
-    (none (start .args .k) (c .if2 .taken)))
+    (none (start .args .k) (omega (arith, c .if2 .taken))))
 
 returns-3 : tie.Need-returns-3
 returns-3 c =
     let start = c .before .before .before .before in
     sym (judged-rounds (start .args .n) (start .args .k) (sym (c .before .before .before .is-permitted .ensures) ∙ not-false _ (c .before .before .if1 .left))
-    (over (start .args .k) (c .before .if2 .left) (c .if3 .taken)))
+    (over (start .args .k) (omega (arith, c .before .if2 .left)) (omega (arith, c .if3 .taken))))
 
 returns-4 : tie.Need-returns-4
 returns-4 c =
     let start = c .before .before .before .before in
     sym (judged-done (start .args .n) (start .args .k) (sym (c .before .before .before .is-permitted .ensures) ∙ not-false _ (c .before .before .if1 .left))
-    (within (start .args .k) (c .before .if2 .left) (c .if3 .left)))
+    (within (start .args .k) (omega (arith, c .before .if2 .left)) (omega (arith, c .if3 .left))))
 
 pub judge-spec : {M : Type 1} → statement M
 judge-spec = tie.close (tie.spec is-permitted-requires returns returns-2 returns-3 returns-4)

@@ -3,8 +3,8 @@ use mathlib.Core.Path.{_≡_, refl, ap₂}
 use lib.ListN.{length}
 use Prim.Native.Nat.{ℕ, _+_, _-_, _*_, _≤_}
 use Rattle.lists.specs.Upto.{Upto, upto-none, upto-more, upto-by}
-use Rattle.orders.specs.Orders.{byteAt}
-use Rattle.orders.specs.Rows.{bytes-by}
+use Rattle.text.specs.Hex.{byteAt}
+use Rattle.text.specs.Reading.{bytes-by}
 use native.Mathlib.Omega.{arith}
 use borrow.Author.Needs.{needs}
 use Rattle.orders.proofs.nonce.Statement.{statement}

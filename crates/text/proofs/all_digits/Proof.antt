@@ -2,17 +2,17 @@
 use lib.ListN.{length}
 use mathlib.Core.Path.{refl, ap}
 use Prim.Native.Nat.{_-_}
-use Rattle.orders.specs.Orders.{isDigit}
-use Rattle.orders.specs.Rows.{Tested, tested-none, tested-more, tested-not, tested-all}
+use Rattle.text.specs.Hex.{isDigit}
+use Rattle.text.specs.Reading.{Tested, tested-none, tested-more, tested-not, tested-all}
 use borrow.Author.Needs.{needs}
-use Rattle.orders.proofs.all_digits.Statement.{statement}
-use Rattle.orders.proofs.all_digits.Tie as tie
+use Rattle.text.proofs.all_digits.Statement.{statement}
+use Rattle.text.proofs.all_digits.Tie as tie
 
 abbrev Inv-loop : tie.InvT-loop
-Inv-loop text i₀ i = Tested text i
+Inv-loop digits i₀ i = Tested digits i
 
 abbrev μ-loop : tie.MeasureT-loop
-μ-loop text i₀ i = length text - i
+μ-loop digits i₀ i = length digits - i
 
 loop-holds : tie.Need-loop-holds Inv-loop μ-loop
 loop-holds c = tested-none _

@@ -1,8 +1,8 @@
 -- `digit_at` meets its promise: the value of a digit, and 0 for none. Assumes nothing.
-use Rattle.orders.specs.Rows.{digit-known, digit-none}
+use Rattle.text.specs.Reading.{digit-known, digit-none}
 use borrow.Author.Needs.{needs}
-use Rattle.orders.proofs.digit_at.Statement.{statement}
-use Rattle.orders.proofs.digit_at.Tie as tie
+use Rattle.text.proofs.digit_at.Statement.{statement}
+use Rattle.text.proofs.digit_at.Tie as tie
 
 returns : tie.Need-returns
 returns c = digit-none _ _ (c .if1 .taken)
