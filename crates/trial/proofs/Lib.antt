@@ -1,1 +1,3 @@
 pub mod Reading
+pub mod Telling
+pub mod Single

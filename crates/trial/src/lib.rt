@@ -58,7 +58,7 @@ fn grow(v: usize, digit: usize) -> usize
 }
 
 // The number that a word of decimal digits is.
-fn number(word: &[u8]) -> Number
+fn read_number(word: &[u8]) -> Number
     ensures { λ r. ⌜ r ≡ numberIn (now (word .entry)) ⌝ }
 {
     if word.len() < 1 {
@@ -121,7 +121,9 @@ fn refuse(outcome: Outcome) -> Trial
 fn tell(p: Permuted, n: usize, text: &[u8]) -> Trial
     ensures { λ r. ⌜ r ≡ told p n (now (text .entry)) ⌝ }
 {
-    match p.answer {
+    let answer = p.answer;
+    let state = p.state;
+    match answer {
         Answer::Done => {
             if !is_state(text, n) {
                 return refuse(Outcome::NoState);
@@ -129,7 +131,7 @@ fn tell(p: Permuted, n: usize, text: &[u8]) -> Trial
             Trial {
                 outcome: Outcome::Done,
                 size: n,
-                state: p.state,
+                state,
             }
         }
         Answer::Size => refuse(Outcome::Size),
@@ -141,11 +143,11 @@ fn tell(p: Permuted, n: usize, text: &[u8]) -> Trial
 pub fn forth(size: &[u8], rounds: &[u8], text: &[u8]) -> Trial
     ensures { λ r. ⌜ r ≡ tried permute (now (size .entry)) (now (rounds .entry)) (now (text .entry)) ⌝ }
 {
-    let n = number(size);
+    let n = read_number(size);
     let Number::Is(n) = n else {
         return refuse(Outcome::NoNumber);
     };
-    let k = number(rounds);
+    let k = read_number(rounds);
     let Number::Is(k) = k else {
         return refuse(Outcome::NoNumber);
     };
@@ -156,11 +158,11 @@ pub fn forth(size: &[u8], rounds: &[u8], text: &[u8]) -> Trial
 pub fn back(size: &[u8], rounds: &[u8], text: &[u8]) -> Trial
     ensures { λ r. ⌜ r ≡ tried unpermute (now (size .entry)) (now (rounds .entry)) (now (text .entry)) ⌝ }
 {
-    let n = number(size);
+    let n = read_number(size);
     let Number::Is(n) = n else {
         return refuse(Outcome::NoNumber);
     };
-    let k = number(rounds);
+    let k = read_number(rounds);
     let Number::Is(k) = k else {
         return refuse(Outcome::NoNumber);
     };
