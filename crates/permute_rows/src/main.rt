@@ -76,17 +76,20 @@ fn permuted(n: usize) {
 // Refused by both calls, and the state as it was.
 fn refused(n: usize, k: usize) {
     let before = ramp(n);
-    let there = gage::permute(before, n, k);
-    let back = gage::unpermute(there.state, n, k);
-    let after = back.state;
+    let p = gage::permute(before, n, k);
+    let there = p.answer;
+    let between = p.state;
+    let q = gage::unpermute(between, n, k);
+    let back = q.answer;
+    let after = q.state;
     say(b"refused ");
     number(n);
     say(b" ");
     number(k);
     say(b" ");
-    number(gage::number(there.answer) as usize);
+    number(gage::number(there) as usize);
     say(b" ");
-    number(gage::number(back.answer) as usize);
+    number(gage::number(back) as usize);
     if lists::compare(&before, &after) {
         say(b" same\n");
     } else {

@@ -5,10 +5,10 @@ use Rattle.permute_rows.proofs.permitted_rows.Statement.{statement}
 use Rattle.permute_rows.proofs.permitted_rows.Tie as tie
 
 abbrev Inv-loop : tie.InvT-loop
-Inv-loop sizes i₀ t4 t5 t6 i = i ≤ 10
+Inv-loop sizes i₀ i = i ≤ 10
 
 abbrev μ-loop : tie.MeasureT-loop
-μ-loop sizes i₀ t4 t5 t6 i = 10 - i
+μ-loop sizes i₀ i = 10 - i
 
 loop-holds : tie.Need-loop-holds Inv-loop μ-loop
 loop-holds c = search needs
@@ -19,26 +19,11 @@ mul-n c = search needs
 array-read-n : tie.Need-array-read-n Inv-loop μ-loop
 array-read-n c = search needs
 
-slice-aggregate-rows : tie.Need-slice-aggregate-rows Inv-loop μ-loop
-slice-aggregate-rows c = search needs
+permuted-requires : tie.Need-permuted-requires Inv-loop μ-loop
+permuted-requires c κs = search needs
 
-rows-requires : tie.Need-rows-requires Inv-loop μ-loop
-rows-requires c κs = search needs
-
-slice-aggregate-rows-2 : tie.Need-slice-aggregate-rows-2 Inv-loop μ-loop
-slice-aggregate-rows-2 c = search needs
-
-rows-requires-2 : tie.Need-rows-requires-2 Inv-loop μ-loop
-rows-requires-2 c κs = search needs
-
-slice-aggregate-rows-3 : tie.Need-slice-aggregate-rows-3 Inv-loop μ-loop
-slice-aggregate-rows-3 c = search needs
-
-ramp-requires : tie.Need-ramp-requires Inv-loop μ-loop
-ramp-requires c κs = search needs
-
-rows-requires-3 : tie.Need-rows-requires-3 Inv-loop μ-loop
-rows-requires-3 c κs = search needs
+no-rounds-requires : tie.Need-no-rounds-requires Inv-loop μ-loop
+no-rounds-requires c κs = search needs
 
 add-i : tie.Need-add-i Inv-loop μ-loop
 add-i c = search needs
@@ -61,13 +46,8 @@ permitted-rows-spec =
     loop-holds
     mul-n
     array-read-n
-    slice-aggregate-rows
-    rows-requires
-    slice-aggregate-rows-2
-    rows-requires-2
-    slice-aggregate-rows-3
-    ramp-requires
-    rows-requires-3
+    permuted-requires
+    no-rounds-requires
     add-i
     loop-less
     loop-again

@@ -13,14 +13,17 @@ abbrev μ-loop : tie.MeasureT-loop
 loop-holds : tie.Need-loop-holds Inv-loop μ-loop
 loop-holds c = search needs
 
-mul-refused : tie.Need-mul-refused Inv-loop μ-loop
-mul-refused c = search needs
+mul-n : tie.Need-mul-n Inv-loop μ-loop
+mul-n c = search needs
 
-array-read-refused : tie.Need-array-read-refused Inv-loop μ-loop
-array-read-refused c = search needs
+array-read-n : tie.Need-array-read-n Inv-loop μ-loop
+array-read-n c = search needs
 
 refused-requires : tie.Need-refused-requires Inv-loop μ-loop
 refused-requires c κs = search needs
+
+no-rounds-requires : tie.Need-no-rounds-requires Inv-loop μ-loop
+no-rounds-requires c κs = search needs
 
 add-i : tie.Need-add-i Inv-loop μ-loop
 add-i c = search needs
@@ -41,9 +44,10 @@ refused-rows-spec =
     Inv-loop
     μ-loop
     loop-holds
-    mul-refused
-    array-read-refused
+    mul-n
+    array-read-n
     refused-requires
+    no-rounds-requires
     add-i
     loop-less
     loop-again
