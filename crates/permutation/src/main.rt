@@ -29,23 +29,33 @@ fn usage() {
     );
 }
 
-// The digits of the first n bytes of a state and a newline, written at once.
+// The digits of a state with a newline behind those of its first n bytes.
+fn row(state: [u8; LARGEST], n: usize) -> [u8; ROW] {
+    let mut digits = [0u8; ROW];
+    text::put_hex(&state, &mut digits);
+    if n <= LARGEST {
+        digits[2 * n] = NEWLINE;
+    }
+    digits
+}
+
+// The first n bytes of a state, written at once.
 fn print(state: [u8; LARGEST], n: usize) {
-    let mut row = [0u8; ROW];
+    let digits = row(state, n);
     // Never: every permitted size is at most the largest.
     if n > LARGEST {
         return;
     }
-    text::put_hex(&state, &mut row);
-    row[2 * n] = NEWLINE;
-    if !io::write_all(STDOUT_FILENO, &row[0..2 * n + 1]) {
+    if !io::write_all(STDOUT_FILENO, &digits[0..2 * n + 1]) {
         complain(b"permutation: not written whole\n");
     }
 }
 
 fn say(trial: Trial) {
-    match trial.outcome {
-        Outcome::Done => print(trial.state, trial.size),
+    let outcome = trial.outcome;
+    let state = trial.state;
+    match outcome {
+        Outcome::Done => print(state, trial.size),
         Outcome::Size => complain(b"refused 1: the size is not permitted\n"),
         Outcome::Rounds => complain(b"refused 18: the rounds are not 1 to 255\n"),
         Outcome::NoNumber => usage(),
@@ -55,14 +65,14 @@ fn say(trial: Trial) {
     }
 }
 
-// The trial that three words ask for, from word i on.
-fn run(i: usize, back: bool) {
+// The trial that the three words at these places ask for.
+fn run(first: usize, second: usize, third: usize, back: bool) {
     let mut size = [0u8; WORD];
     let mut rounds = [0u8; WORD];
     let mut state = [0u8; WORD];
-    let a = os::arg(i, &mut size);
-    let b = os::arg(i + 1, &mut rounds);
-    let c = os::arg(i + 2, &mut state);
+    let a = os::arg(first, &mut size);
+    let b = os::arg(second, &mut rounds);
+    let c = os::arg(third, &mut state);
     // Never: no word is longer than its buffer.
     if a > WORD {
         return;
@@ -83,7 +93,7 @@ fn run(i: usize, back: bool) {
 fn main() {
     let words = os::arg_count();
     if words == THERE {
-        run(1, false);
+        run(1, 2, 3, false);
         return;
     }
     if words != BACK {
@@ -97,7 +107,7 @@ fn main() {
         return;
     }
     if trial::is_back(&word[0..n]) {
-        run(2, true);
+        run(2, 3, 4, true);
     } else {
         usage();
     }

@@ -8,10 +8,18 @@ use crate::text::{hex, unhex};
 const USAGE: &str = "\
 usage: permutation [back] SIZE ROUNDS STATE (SIZE in bytes, ROUNDS from 1 to 255, STATE in hexadecimal)";
 
+/// A longer word counts as empty.
+const LONGEST_WORD: usize = 256;
+
 /// The row of the state, or why there is none. A size that is not permitted
 /// comes before a count that is no rounds, and both before a wrong state.
 pub fn tried(words: &[&str]) -> Result<String, String> {
-    let (call, size, rounds, text): (fn(&mut [u8], usize) -> u8, _, _, _) = match *words {
+    let looked_at = |word: &&str| word.len() <= LONGEST_WORD;
+    let words: Vec<&str> = words
+        .iter()
+        .map(|word| Some(*word).filter(looked_at).unwrap_or(""))
+        .collect();
+    let (call, size, rounds, text): (fn(&mut [u8], usize) -> u8, _, _, _) = match words[..] {
         [size, rounds, text] => (permute, size, rounds, text),
         ["back", size, rounds, text] => (unpermute, size, rounds, text),
         _ => return Err(USAGE.to_string()),
@@ -72,6 +80,8 @@ mod tests {
         begins(&["29", "256", "zz"], "refused 18:");
         begins(&["29", "18446744073709551617", "zz"], "refused 18:");
         begins(&["29", "1", "zz"], "no state");
+        begins(&["29", &"9".repeat(256), "zz"], "refused 18:");
+        begins(&["29", &"9".repeat(257), "zz"], "usage");
         begins(&["30", "1", &"00".repeat(29)], "no state");
         begins(&["29", "one", &"00".repeat(29)], "usage");
         begins(&["", "1", &"00".repeat(29)], "usage");
