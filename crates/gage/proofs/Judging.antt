@@ -1,31 +1,22 @@
--- Which counts are rounds, by the tests of `judge`; and what `permute` and `unpermute` make of its answer. Assumes nothing.
+-- What `permute` and `unpermute` make of the answer of `judge`. Assumes nothing.
 use mathlib.Core.Path.{_≡_, refl, sym, ap, _∙_}
 use mathlib.Core.Bool.{Bool, true, false, cond, _&&_}
 use mathlib.Core.List.{List, [], _∷_, _++_}
 use mathlib.Core.Logic.{⊎-elim}
-use Prim.Native.Nat.{ℕ, _≤_, _<_}
+use Prim.Native.Nat.{ℕ, _≤_}
 use native.Mathlib.Omega.{arith}
 use types.Run.{OneOf}
 use denote.Enum.Declared.{tagOf}
 use lib.Dec.{leb}
 use lib.ListN.{take, drop}
-use borrow.Author.Tests.{leb-true, le-leb, lt-leb}
-use Rattle.gage.specs.Permutation.{LARGEST, MOST-ROUNDS, permitted, counted, numberOf, judged, answered}
+use borrow.Author.Tests.{leb-true}
+use Rattle.gage.specs.Permutation.{LARGEST, MOST-ROUNDS, permitted, numberOf, judged, answered}
 use Rattle.gage.specs.Tables.{permitted-size}
 use Rattle.gage.specs.Answers.{answered-done}
 use Rattle.gage.specs.declared.Answer.{Answer}
 use Rattle.gage.specs.declared.Answer.the-variants.{Done, Size, Rounds}
 use Rattle.gage.specs.declared.Permuted.{Permuted}
 use Rattle.gage.proofs.Answer as answer-type
-
-pub none : (k : ℕ) → k < 1 → counted k ≡ false
-none k h = rw (lt-leb 1 k h)
-
-pub over : (k : ℕ) → 1 ≤ k → MOST-ROUNDS < k → counted k ≡ false
-over k g h = rw (le-leb 1 k g, lt-leb k MOST-ROUNDS h)
-
-pub within : (k : ℕ) → 1 ≤ k → k ≤ MOST-ROUNDS → counted k ≡ true
-within k g h = rw (le-leb 1 k g, le-leb k MOST-ROUNDS h)
 
 -- what is done has a permitted size and a count of rounds
 pub allowed : (n k : ℕ) → judged n k ≡ Done → (29 ≤ n) × (n ≤ LARGEST) × (1 ≤ k) × (k ≤ MOST-ROUNDS)

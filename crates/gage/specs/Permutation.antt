@@ -1,12 +1,12 @@
 -- The round permutation of document 000, section 1.1.2 (Algorithm 2), its inverse, and what the public calls answer
 -- (document 01, 'The permutation'; order W9). Size and rounds are parameters. Assumes nothing: these are definitions.
 use Prim.Native.Nat.{ℕ}
-use mathlib.Core.Bool.{Bool, true, false, cond, _&&_}
+use mathlib.Core.Bool.{Bool, true, false, cond}
 use mathlib.Core.List.{List, [], _∷_, _++_}
-use lib.Dec.{eqb, leb}
+use lib.Dec.{eqb}
 use lib.ListN.{take, drop}
 pub use Rattle.cells.specs.Sizes.{LARGEST}
-pub use Rattle.leaders.specs.Leaders.{MOST-ROUNDS}
+pub use Rattle.leaders.specs.Leaders.{MOST-ROUNDS, counted}
 unfoldable pub use Rattle.leaders.specs.Leaders.{leaders}
 use Rattle.cells.specs.Cells.{table, substitute, restore}
 use Rattle.shuffling.specs.Shuffling.{shuffle, unshuffle}
@@ -54,10 +54,6 @@ among n (x ∷ xs) = cond (eqb n x) true (among n xs)
 
 unfoldable pub permitted : ℕ → Bool
 permitted n = among n sizes
-
--- the counts of rounds: 1 to 255
-abbrev pub counted : ℕ → Bool
-counted k = leb 1 k && leb k MOST-ROUNDS
 
 -- document 01, 'Numbers returned', and order W9
 abbrev pub numberOf : Answer → ℕ

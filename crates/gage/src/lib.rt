@@ -2,7 +2,6 @@
 // document 01, 'The permutation'; order W9). Leaders, substitution and shuffle are crates of their own, and a turn of the last two is in
 // wide.rt; the promises cite specs/Permutation.antt.
 use cells::WIDE;
-use leaders::MOST_ROUNDS;
 
 mod wide;
 
@@ -80,10 +79,7 @@ fn judge(n: usize, k: usize) -> Answer
     if !is_permitted(n) {
         return Answer::Size;
     }
-    if k < 1 {
-        return Answer::Rounds;
-    }
-    if k > MOST_ROUNDS {
+    if !leaders::is_count(k) {
         return Answer::Rounds;
     }
     Answer::Done

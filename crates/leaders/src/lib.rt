@@ -1,7 +1,7 @@
-// The leaders of the rounds: document 000's Table 1.11, 255 numbers, as printed. The promise cites specs/Leaders.antt, and specs/Rule.antt holds
-// the table to order W9's rule.
+// The leaders of the rounds: document 000's Table 1.11, 255 numbers, as printed, and which counts of rounds they are enough for. The promises
+// cite specs/Leaders.antt, and specs/Rule.antt holds the table to order W9's rule.
 ghost use mathlib.Core.Path.{_≡_};
-ghost use Rattle.leaders.specs.Leaders.{leaders};
+ghost use Rattle.leaders.specs.Leaders.{leaders, counted};
 
 // The most rounds: one for each leader of the table.
 pub const MOST_ROUNDS: usize = 255;
@@ -269,4 +269,17 @@ pub fn table() -> [u8; MOST_ROUNDS]
     ensures { λ r. ⌜ r ≡ leaders ⌝ }
 {
     LEADERS
+}
+
+// Whether so many rounds may be run: 1 to 255.
+pub fn is_count(k: usize) -> bool
+    ensures { λ r. ⌜ r ≡ counted k ⌝ }
+{
+    if k < 1 {
+        return false;
+    }
+    if k > MOST_ROUNDS {
+        return false;
+    }
+    true
 }

@@ -1,15 +1,12 @@
 -- Laws of a row of orders: blanks passed one by one, and where a line may begin. Assumes nothing.
 use mathlib.Core.Path.{_≡_, refl, sym, ap, subst, _∙_}
-use mathlib.Core.Bool.{Bool, true, false, cond, _&&_}
+use mathlib.Core.Bool.{Bool, true, false, cond}
 use mathlib.Core.List.{List, [], _∷_}
-use Prim.Native.Nat.{ℕ, zero, suc, _+_, _-_, _≤_, _<_}
-use native.Mathlib.Nat.{not-suc-le-zero, le-of-suc-le-suc}
-use native.Mathlib.Numerals.{add-one}
+use Prim.Native.Nat.{ℕ, suc, _+_, _-_, _≤_, _<_}
 use native.Mathlib.Omega.{arith}
-use lib.Dec.{T, eqb, ltb, leb}
-use lib.ListN.{length, take, drop, getD, drop-of-length-le, List·getD-eq-default}
-use lib.Seq.{ext-getD}
-use borrow.Author.Tests.{eqb-true, ltb-true, lt-ltb, le-ltb, leb-true, eq-eqb, ne-eqb}
+use lib.Dec.{T, eqb, ltb}
+use lib.ListN.{length, take, drop, getD, drop-of-length-le}
+use borrow.Author.Tests.{eqb-true, ltb-true, lt-ltb, le-ltb, eq-eqb, ne-eqb}
 use Rattle.lists.specs.Walk.{at}
 use Rattle.text.specs.Hex.{allDigits}
 use Rattle.orders.specs.Orders.{blank, nonceDigits, blankAt, lineAt, orderOf}

@@ -1,17 +1,16 @@
 -- What the loop over a word's decimal digits keeps, and what each of its returns gives; whether a text is a state, test by test.
 -- Assumes nothing.
-use mathlib.Core.Path.{_≡_, refl, sym, ap, _∙_}
+use mathlib.Core.Path.{_≡_, refl, sym, _∙_}
 use mathlib.Core.Bool.{Bool, true, false, cond}
 use mathlib.Core.List.{List}
 use Prim.Native.Nat.{ℕ, _+_, _-_, _*_, _/_, _%_, _≤_, _<_}
 use native.Mathlib.Omega.{arith}
-use lib.Dec.{eqb, ltb}
+use lib.Dec.{ltb}
 use lib.ListN.{length, getD, drop, drop-of-length-le}
 use borrow.Author.Tests.{lt-ltb, le-ltb, ltb-false, eq-eqb, ne-eqb}
 use Rattle.lists.specs.Walk.{at}
 use Rattle.text.specs.Hex.{allDigits}
 use Rattle.trial.specs.Trial.{LARGE, grown, numberFrom, numberIn, isState}
-use Rattle.trial.specs.declared.Number.{Number}
 use Rattle.trial.specs.declared.Number.the-variants.{Is, Not}
 
 grown-small : (v d : ℕ) → grown v d ≤ LARGE

@@ -1,5 +1,5 @@
 -- `read_number` meets its promise. The invariant: v is the number of the first i digits (`Read`); the measure is what is left. Assumes nothing.
-use lib.ListN.{length, getD}
+use lib.ListN.{length}
 use Prim.Native.Nat.{_-_}
 use Rattle.trial.proofs.Reading.{no-word, Read, read-none, read-low, read-high, read-more, read-all}
 use native.Mathlib.Omega.{arith}
@@ -26,7 +26,7 @@ returns-2 : tie.Need-returns-2 Inv-loop μ-loop
 returns-2 c = read-low (c .before .before .before .loop .inv) (c .before .before .loop-test .taken) (c .if2 .taken)
 
 returns-3 : tie.Need-returns-3 Inv-loop μ-loop
-returns-3 c = read-high (c .before .before .before .before .loop .inv) (c .before .before .before .loop-test .taken) (c .before .if2 .left) (c .if3 .taken)
+returns-3 c = read-high (c .before .before .before .before .loop .inv) (c .before .before .before .loop-test .taken) (omega (arith, c .before .if2 .left)) (omega (arith, c .if3 .taken))
 
 cast-grow : tie.Need-cast-grow Inv-loop μ-loop
 cast-grow c = search needs
@@ -43,8 +43,8 @@ loop-less c = search needs
 
 loop-again : tie.Need-loop-again Inv-loop μ-loop
 loop-again c =
-    read-more (c .before .before .before .before .before .loop .inv) (c .before .before .before .before .loop-test .taken) (c .before .before .if2 .left)
-    (c .before .if3 .left) (c .grow .result) (c .grow .ensures)
+    read-more (c .before .before .before .before .before .loop .inv) (c .before .before .before .before .loop-test .taken) (omega (arith, c .before .before .if2 .left))
+    (omega (arith, c .before .if3 .left)) (c .grow .result) (c .grow .ensures)
 
 returns-4 : tie.Need-returns-4 Inv-loop μ-loop
 returns-4 c = read-all (c .before .loop .inv) (c .loop-test .left)

@@ -1,7 +1,6 @@
 -- `refuse` meets its promise. Assumes nothing.
 use mathlib.Core.Path.{refl}
 use Rattle.trial.specs.Trial.{refusal}
-use borrow.Author.Needs.{needs}
 use Rattle.trial.proofs.refuse.Statement.{statement}
 use Rattle.trial.proofs.refuse.Tie as tie
 
