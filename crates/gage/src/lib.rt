@@ -7,8 +7,8 @@ mod wide;
 
 ghost use mathlib.Core.Path.{_≡_};
 ghost use mathlib.Core.List.{_++_};
-ghost use Prim.Native.Nat.{_<_, _≤_};
-ghost use lib.ListN.{getD, take, drop};
+ghost use Prim.Native.Nat.{_≤_};
+ghost use lib.ListN.{take, drop};
 ghost use Rattle.cells.specs.Sizes.{LARGEST};
 ghost use Rattle.shuffling.specs.Sizes.{SMALLEST};
 ghost use Rattle.leaders.specs.Leaders.{MOST-ROUNDS, leaders};
@@ -46,15 +46,6 @@ pub fn number(answer: Answer) -> u32
         Answer::Size => 1,
         Answer::Rounds => 18,
     }
-}
-
-// The leader of round i, counted from 0.
-fn leader(i: usize) -> u8
-    requires { ⌜ i < MOST-ROUNDS ⌝ }
-    ensures { λ r. ⌜ (r ≡ getD leaders i 0) × (r < 4) ⌝ }
-{
-    let leaders = leaders::table();
-    leaders[i]
 }
 
 // Whether a state may have n bytes.
@@ -111,7 +102,8 @@ fn turned(s: [u8; LARGEST], n: usize, k: usize) -> [u8; LARGEST]
     requires { ⌜ (SMALLEST ≤ n) × (n ≤ LARGEST) × (1 ≤ k) × (k ≤ MOST-ROUNDS) ⌝ }
     ensures { λ r. ⌜ r ≡ permute k (take n s) ++ drop n s ⌝ }
 {
-    let first = cells::substitute(s, n, leader(0));
+    let leaders = leaders::table();
+    let first = cells::substitute(s, n, leaders[0]);
     let mut w = [0u8; WIDE];
     lists::copy(&first, &mut w);
     let done = turns(w, n, k);
@@ -125,14 +117,15 @@ fn unturned(s: [u8; LARGEST], n: usize, k: usize) -> [u8; LARGEST]
     requires { ⌜ (SMALLEST ≤ n) × (n ≤ LARGEST) × (1 ≤ k) × (k ≤ MOST-ROUNDS) ⌝ }
     ensures { λ r. ⌜ r ≡ unpermute k (take n s) ++ drop n s ⌝ }
 {
+    let leaders = leaders::table();
     let mut a = s;
     let mut i = k;
     while i > 1 {
         i -= 1;
-        let b = cells::restore(a, n, leader(i));
+        let b = cells::restore(a, n, leaders[i]);
         a = shuffling::unshuffle(b, n);
     }
-    cells::restore(a, n, leader(0))
+    cells::restore(a, n, leaders[0])
 }
 
 // k rounds of the permutation.

@@ -1,11 +1,19 @@
 -- `turned` meets its promise: the first substitution, the turns in a wide state, and the first n bytes put back (`turned-is`). Assumes nothing.
-use Rattle.gage.proofs.Rounds.{turned-is}
+use Rattle.gage.proofs.Rounds.{cell-at, turned-is}
+use lib.ListN.{getD}
+use mathlib.Core.List.{List}
+use mathlib.Core.Path.{ap}
+use Prim.Native.Nat.{ℕ}
+use native.Mathlib.Omega.{arith}
 use borrow.Author.Needs.{needs}
 use Rattle.gage.proofs.turned.Statement.{statement}
 use Rattle.gage.proofs.turned.Tie as tie
 
-leader-requires : tie.Need-leader-requires
-leader-requires c κs = search needs
+table-requires : tie.Need-table-requires
+table-requires c κs = search needs
+
+array-read-substitute : tie.Need-array-read-substitute
+array-read-substitute c = search needs
 
 substitute-requires : tie.Need-substitute-requires
 substitute-requires c κs = search needs
@@ -41,9 +49,9 @@ returns : tie.Need-returns
 returns c =
     let begun = c .before .before .before .before .before .before .before .before .before .before in
     let start = begun .before .before in
-    let leader = begun .before .leader in
-    turned-is (start .args .n) (start .args .k) (leader .result) (start .args .s) (search needs) (start .pre .1) (start .pre .2) (start .pre .3)
-    (leader .ensures .1) (leader .ensures .0) _ _ _ _ (begun .substitute .ensures)
+    let table = begun .before .table in
+    turned-is (start .args .n) (start .args .k) (getD (table .result) 0 0) (start .args .s) (search needs) (start .pre .1) (start .pre .2) (start .pre .3)
+    (cell-at (table .ensures) 0 (omega arith)) (ap (λ (l : List ℕ). getD l 0 0) (table .ensures)) _ _ _ _ (begun .substitute .ensures)
     (c .before .before .before .before .before .before .before .copy .ensures) (c .before .before .before .before .before .turns .ensures)
     (c .before .copy2 .ensures)
 
@@ -51,7 +59,8 @@ pub turned-spec : {M : Type 1} → statement M
 turned-spec =
     tie.close
     (tie.spec
-    leader-requires
+    table-requires
+    array-read-substitute
     substitute-requires
     slice-aggregate-copy
     slice-aggregate-copy-2

@@ -1,37 +1,41 @@
 -- `unturned` meets its promise. The invariant: the turns of the leaders from i on are undone (`Undone`); the measure is i. Assumes nothing.
 use Rattle.gage.proofs.Turning.{by-leader, by-width, Undone, undone-none, undone-more, undone-all}
+use Rattle.gage.proofs.Rounds.{cell-at, leader-at}
 use Rattle.cells.specs.States.{length-restore}
 use Rattle.shuffling.specs.States.{length-unshuffle}
 use Rattle.gage.specs.Permutation.{leaders, unpermute}
 use Rattle.leaders.specs.Rule.{length-leaders}
 use Rattle.shuffling.specs.Shuffling.{unshuffle}
 use Rattle.cells.specs.Cells.{table, restore}
-use lib.Seq.{length-take-le, getD-take}
-use lib.ListN.{length, take}
+use lib.Seq.{length-take-le}
+use lib.ListN.{length, getD, take}
 use Prim.Native.Nat.{_-_, _≤_}
-use mathlib.Core.Path.{_≡_, sym, _∙_}
+use mathlib.Core.Path.{_≡_}
 use native.Mathlib.Omega.{arith}
 use borrow.Author.Needs.{needs}
 use Rattle.gage.proofs.unturned.Statement.{statement}
 use Rattle.gage.proofs.unturned.Tie as tie
 
 abbrev Inv-loop : tie.InvT-loop
-Inv-loop n k a₀ i₀ a i = (i ≤ k) × Undone (take k leaders) n a₀ a i
+Inv-loop n k ls a₀ i₀ a i = (i ≤ k) × Undone (take k leaders) n a₀ a i
 
 abbrev μ-loop : tie.MeasureT-loop
-μ-loop n k a₀ i₀ a i = i
+μ-loop n k ls a₀ i₀ a i = i
+
+table-requires : tie.Need-table-requires Inv-loop μ-loop
+table-requires c κs = search needs
 
 loop-holds : tie.Need-loop-holds Inv-loop μ-loop
 loop-holds c =
-    let k = c .args .k in
+    let k = c .before .args .k in
     let l : length (take k leaders) ≡ k = length-take-le k leaders (omega (arith, length-leaders)) in
     (search needs, undone-none _ _ _ _ (search needs) (search needs) l)
 
 sub-i : tie.Need-sub-i Inv-loop μ-loop
 sub-i c = search needs
 
-leader-requires : tie.Need-leader-requires Inv-loop μ-loop
-leader-requires c κs = search needs
+array-read-restore : tie.Need-array-read-restore Inv-loop μ-loop
+array-read-restore c = search needs
 
 restore-requires : tie.Need-restore-requires Inv-loop μ-loop
 restore-requires c κs = search needs
@@ -44,16 +48,18 @@ loop-less c = search needs
 
 loop-again : tie.Need-loop-again Inv-loop μ-loop
 loop-again c =
-    let k = c .before .before .before .before .before .args .k in (
+    let before = c .before .before .before in
+    let leaders₀ = before .before .table in
+    let k = before .before .before .args .k in
+    let i = before .loop .i in (
       search needs,
-      undone-more (c .before .before .leader .result) _ _ (c .before .before .before .before .loop .inv .1) (omega arith)
-          (c .before .before .leader .ensures .0 ∙ sym (getD-take k leaders (c .before .before .before .before .loop .i - 1) 0 (omega arith)))
-          (by-leader (restore table) (length-restore table) (c .before .before .leader .result) _ _ _ (c .before .before .leader .ensures .1) (search needs) (c .before .restore .ensures) (search needs))
+      undone-more (getD (leaders₀ .result) (i - 1) 0) _ _ (before .loop .inv .1) (omega arith) (leader-at (leaders₀ .ensures) k (i - 1) (omega arith))
+          (by-leader (restore table) (length-restore table) (getD (leaders₀ .result) (i - 1) 0) _ _ _ (cell-at (leaders₀ .ensures) (i - 1) (omega arith)) (search needs) (c .before .restore .ensures) (search needs))
           (by-width unshuffle length-unshuffle _ _ _ (search needs) (search needs) (search needs) (c .unshuffle .ensures) (search needs)),
     )
 
-leader-requires-2 : tie.Need-leader-requires-2 Inv-loop μ-loop
-leader-requires-2 c κs = search needs
+array-read-restore-2 : tie.Need-array-read-restore-2 Inv-loop μ-loop
+array-read-restore-2 c = search needs
 
 restore-requires-2 : tie.Need-restore-requires-2 Inv-loop μ-loop
 restore-requires-2 c κs = search needs
@@ -61,10 +67,10 @@ restore-requires-2 c κs = search needs
 returns : tie.Need-returns Inv-loop μ-loop
 unfolding unpermute
 returns c =
+    let leaders₀ = c .before .before .before .table in
     let k = c .before .before .before .before .args .k in
-    undone-all (c .before .leader2 .result) _ (c .before .before .before .loop .inv .1) (omega arith)
-    (c .before .leader2 .ensures .0 ∙ sym (getD-take k leaders 0 0 (omega arith)))
-    (by-leader (restore table) (length-restore table) (c .before .leader2 .result) _ _ _ (c .before .leader2 .ensures .1) (search needs) (c .restore2 .ensures) (search needs))
+    undone-all (getD (leaders₀ .result) 0 0) _ (c .before .before .loop .inv .1) (omega arith) (leader-at (leaders₀ .ensures) k 0 (omega arith))
+    (by-leader (restore table) (length-restore table) (getD (leaders₀ .result) 0 0) _ _ _ (cell-at (leaders₀ .ensures) 0 (omega arith)) (search needs) (c .restore2 .ensures) (search needs))
 
 pub unturned-spec : {M : Type 1} → statement M
 unturned-spec =
@@ -72,13 +78,14 @@ unturned-spec =
     (tie.spec
     Inv-loop
     μ-loop
+    table-requires
     loop-holds
     sub-i
-    leader-requires
+    array-read-restore
     restore-requires
     unshuffle-requires
     loop-less
     loop-again
-    leader-requires-2
+    array-read-restore-2
     restore-requires-2
     returns)
