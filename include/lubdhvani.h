@@ -10,7 +10,7 @@
  *  - Buffers that are written overlap no other argument of the call.
  *  - `calls`, `length`, `first` and `closing` each point to a size_t of the caller's: never NULL, no two to the same one, none into a
  *    buffer of the call. A reading comes back as a struct by value, and what a reader is told anew goes in as one.
- *  - The return value is one of the numbers below. They are tested in the order 1, 2, 3, 9, 13, 17, 4, 10; the first that holds is given. A
+ *  - The return value is one of the numbers below. They are tested in the order 1, 18, 2, 3, 9, 13, 17, 4, 10; the first that holds is given. A
  *    stretch is judged in the order 7 for its length, 6, 7 for its fields, 8, 15, 5, 9, 13, 17. A call of a bundle: 3, 11, 12, 4.
  *    The calls of a running digest test 14 before these. Their record is never NULL, and is the caller's alone while the call runs.
  *  - `calls` (and `length`, `first`, `closing`) are always written: counts of calls of the permutation, lengths, places.
