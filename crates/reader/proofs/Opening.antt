@@ -1,147 +1,103 @@
--- What each answer of `open` says of sealed fields, opened into a buffer no longer than the line's. Assumes nothing.
-use mathlib.Core.Path.{_≡_, refl, sym, ap, subst, _∙_}
+-- What `open_line` finds of sealed fields is what judging them says: the sizes are right, so it opens them, and the line found is as long as the
+-- ciphertext. Assumes nothing.
+use mathlib.Core.Path.{_≡_, refl, sym, ap, _∙_}
 use mathlib.Core.Bool.{Bool, true, false, not, cond}
-use mathlib.Core.Logic.{_⊎_, inl, inr, ⊎-elim}
-use mathlib.Core.List.{List, [], _∷_}
-use Prim.Native.Nat.{ℕ, _-_, _≤_}
+use mathlib.Core.List.{List}
+use Prim.Native.Nat.{ℕ, _≤_}
 use native.Mathlib.Omega.{arith}
-use lib.ListN.{length, take, drop}
+use lib.ListN.{length, drop, replicate}
 use lib.Seq.{take-at, take-all}
-use denote.Enum.Declared.{tagOf}
-use types.Run.{OneOf}
-use Rattle.lists.specs.Buffers.{over, copied, cleared, same}
+use borrow.Author.Tests.{le-ltb}
+use Rattle.lists.specs.Buffers.{over, cleared, same}
+use Rattle.line.specs.Lines.{longest}
 use Rattle.layout.specs.declared.Judged as line-judged
 use Rattle.layout.specs.declared.Judged.the-variants.{Accepted, Unlisted, Trade}
 use Rattle.layout.specs.declared.Judged.the-variants as found-to-be
 use Rattle.layout.specs.declared.Layout.{Layout}
 use Rattle.layout.specs.Layouts.{layoutRule}
-use Rattle.ingage.specs.declared.Opened.{Opened}
 use Rattle.ingage.specs.declared.Opened.the-variants as opened
-use Rattle.cipher.specs.Instances.{named, FIRST, first, first-fits}
+use Rattle.cipher.specs.Instances.{first, first-fits}
 use Rattle.cipher.specs.Cipher.{Work, decrypted}
 use Rattle.cipher.specs.Results.{length-decrypted}
-use Rattle.ingage.specs.Answers.{OpenCall, openNamed}
+use Rattle.ingage.specs.Answers.{OpenCall}
 use Rattle.ingage.specs.Naming.{open-first}
 use Rattle.ingage.specs.Exactly.{Within, opened-within}
-use Rattle.ingage.proofs.Opened as opened-type
-use Rattle.reader.specs.declared.Answer.{Answer}
-use Rattle.reader.specs.declared.Answer.the-variants as answer-is
-use Rattle.reader.specs.declared.Verdict.{Verdict}
+use Rattle.opening.specs.declared.Found.the-variants as found-is
+use Rattle.opening.specs.Opened.{byRule, foundBy, LineCall, lineCall, opening, textIn, openLine}
 use Rattle.judging.specs.Judged.{Label, Judged, seal, unlisted, trade, layout, line}
-use Rattle.judging.specs.Judging.{judgeWork, judgeSealed}
-use Rattle.reader.proofs.Shown.{Shows, shown}
+use Rattle.judging.specs.Judging as judging
+use Rattle.judging.specs.Judging.{judgeSealed}
+use Rattle.reader.specs.Answers.{verdictOn, verdictOf, lineOver}
+use Rattle.reader.proofs.Shown.{Shows}
 
-abbrev verdict : Answer → Label → Verdict
-verdict a k = record { answer = a; edition = k .edition; job = k .job }
-
-module _ (f : Layout) (k : Label) (key nonce A C T : List ℕ) {room : List ℕ} (w : Within first key nonce A C T room) where
+module _ (f : Layout) (k : Label) (key nonce A C T o : List ℕ) (w : Within first key nonce A C T (replicate longest 0)) (h : longest ≤ length o) where
   abbrev work : Work
   work = decrypted first key nonce A C
 
-  abbrev there : OpenCall
-  there = openNamed (named FIRST) key nonce A C T room
+  abbrev found : LineCall
+  found = openLine f key nonce A C T o
 
   -- by whether the seal is the one worked out
   abbrev either : Bool → OpenCall
   either t =
-      cond (not t) (record { answer = opened.Seal (work .calls); out = cleared (length C) room })
-      (record { answer = opened.Done (work .calls); out = over (work .text) room })
+      cond (not t) (record { answer = opened.Seal (work .calls); out = cleared (length C) (replicate longest 0) })
+      (record { answer = opened.Done (work .calls); out = over (work .text) (replicate longest 0) })
 
-  is : there ≡ either (same (work .seal) T)
-  is = open-first key nonce A C T room ∙ opened-within first key nonce A C T room w
+  is : opening key nonce A C T ≡ either (same (work .seal) T)
+  is = open-first key nonce A C T (replicate longest 0) ∙ opened-within first key nonce A C T (replicate longest 0) w
 
-  module _ (r : Opened) (q : r ≡ there .answer) where
-    answers : (t : Bool) → same (work .seal) T ≡ t → r ≡ either t .answer
-    answers t p = q ∙ ap (λ (x : OpenCall). x .answer) is ∙ ap (λ (b : Bool). either b .answer) p
+  abbrev lineFrom : OpenCall → LineCall
+  lineFrom x = lineCall (foundBy f (x .answer) (textIn x C)) (textIn x C) o
 
-    -- another seal
-    pub told-seal : (n : ℕ) → r ≡ opened.Seal n → judgeSealed f k key nonce A C T ≡ seal n
+  opens : (t : Bool) → same (work .seal) T ≡ t → found ≡ lineFrom (either t)
+  unfolding openLine
+  opens t p =
+      rw (le-ltb longest (length C) (w .room), le-ltb (length o) (length C) (omega (arith, w .room, h)))
+      (ap lineFrom is ∙ ap (λ (b : Bool). lineFrom (either b)) p)
+
+  long : length (work .text) ≡ length C
+  long = length-decrypted first first-fits key nonce A (w .key-size) (w .nonce-size) C
+
+  text-is : textIn (either true) C ≡ work .text
+  text-is = take-at (work .text) (drop (length (work .text)) (replicate longest 0)) (length C) long
+
+  shows : (x : LineCall) → found ≡ x → (j : Judged) → judgeSealed f k key nonce A C T ≡ j → Shows j o (verdictOn k (length C) (x .answer)) (x .line)
+      → Shows (judgeSealed f k key nonce A C T) o (verdictOn k (length C) (found .answer)) (found .line)
+  shows x e j q m = (
+    ap (λ (y : LineCall). verdictOn k (length C) (y .answer)) e ∙ m .0 ∙ ap verdictOf (sym q),
+    ap (λ (y : LineCall). y .line) e ∙ m .1 ∙ ap (λ (i : Judged). lineOver i o) (sym q),
+  )
+
+  other-seal : same (work .seal) T ≡ false → judgeSealed f k key nonce A C T ≡ seal (work .calls)
+  unfolding judgeSealed
+  other-seal p = rw p
+
+  module _ (p : same (work .seal) T ≡ true) (r : line-judged.Judged) (e : layoutRule f (work .text) ≡ r) where
+    by-rule : judgeSealed f k key nonce A C T ≡ judging.byRule r k work
     unfolding judgeSealed
-    told-seal n e = go (same (work .seal) T) refl
-      where
-        go : (t : Bool) → same (work .seal) T ≡ t → judgeWork f k work T ≡ seal n
-        go true p = absurd (let z : _≡_ {A = ℕ} 0 1 = cc (e, answers true p) in omega arith)
-        go false p = let k : work .calls ≡ n = cc (e, answers false p) in rw (p, k)
+    by-rule = rw (p, e)
 
-    -- the sizes are right, so the call is never refused
-    pub told-other : {X : Type 0} → OneOf (1 ∷ 2 ∷ 3 ∷ 4 ∷ []) (tagOf opened-type.the-type r) → X
-    told-other {X} h = go (same (work .seal) T) refl
-      where
-        refused : (x : Opened) → r ≡ x → OneOf (1 ∷ 2 ∷ 3 ∷ 4 ∷ []) (tagOf opened-type.the-type x)
-        refused x e = subst (λ (y : Opened). OneOf (1 ∷ 2 ∷ 3 ∷ 4 ∷ []) (tagOf opened-type.the-type y)) e h
+    opens-rule : found ≡ lineCall (byRule r (work .calls)) (work .text) o
+    opens-rule =
+        opens true p
+        ∙ ap (λ (s : List ℕ). lineCall (foundBy f (opened.Done (work .calls)) s) s o) text-is
+        ∙ ap (λ (i : line-judged.Judged). lineCall (byRule i (work .calls)) (work .text) o) e
 
-        no : {i : ℕ} → (i ≡ 0) ⊎ (i ≡ 5) → OneOf (1 ∷ 2 ∷ 3 ∷ 4 ∷ []) i → X
-        no {i} (inl e) h = absurd (⊎-elim (λ g. omega (arith, g)) (⊎-elim (λ g. omega (arith, g)) (⊎-elim (λ g. omega (arith, g)) (λ g. omega (arith, g)))) h)
-        no {i} (inr e) h = absurd (⊎-elim (λ g. omega (arith, g)) (⊎-elim (λ g. omega (arith, g)) (⊎-elim (λ g. omega (arith, g)) (λ g. omega (arith, g)))) h)
-
-        go : (t : Bool) → same (work .seal) T ≡ t → X
-        go true p = no (inl refl) (refused (opened.Done (work .calls)) (answers true p))
-        go false p = no (inr refl) (refused (opened.Seal (work .calls)) (answers false p))
-
-    module _ (n : ℕ) (e : r ≡ opened.Done n) (o : List ℕ) (v : o ≡ there .out) where
-      -- the seal is the one worked out, and the line found stands at the buffer's start
-      record Opens : Type 0 where
-        sealed : same (work .seal) T ≡ true
-        calls : work .calls ≡ n
-        out : o ≡ over (work .text) room
-
-      opens : Opens
-      opens = go (same (work .seal) T) refl
-        where
-          go : (t : Bool) → same (work .seal) T ≡ t → Opens
-          go true p = record {
-            sealed = p;
-            calls = cc (e, answers true p);
-            out = v ∙ ap (λ (x : OpenCall). x .out) is ∙ ap (λ (b : Bool). either b .out) p;
-          }
-          go false p = absurd (let z : _≡_ {A = ℕ} 0 1 = cc (e, answers false p) in omega arith)
-
-      long : length (work .text) ≡ length C
-      long = length-decrypted first first-fits key nonce A (w .key-size) (w .nonce-size) C
-
-      -- what is lent on to the rule of a line
-      abbrev lent : List ℕ
-      lent = take (length C - 0) (drop 0 o)
-
-      found-is : lent ≡ work .text
-      found-is =
-          let z : length C - 0 ≡ length (work .text) = omega (arith, long) in
-          rw (opens .out, z) (take-at (work .text) (drop (length (work .text)) room) (length (work .text)) refl)
-
-      pub told-unlisted : (j : line-judged.Judged) → j ≡ layoutRule f lent → j ≡ Unlisted → judgeSealed f k key nonce A C T ≡ unlisted n
-      unfolding judgeSealed
-      told-unlisted j x y =
-          let u : layoutRule f (work .text) ≡ Unlisted = ap (layoutRule f) (sym found-is) ∙ sym x ∙ y in
-          rw (opens .sealed, u) (ap unlisted (opens .calls))
-
-      pub told-trade : (j : line-judged.Judged) → j ≡ layoutRule f lent → j ≡ Trade → judgeSealed f k key nonce A C T ≡ trade n
-      unfolding judgeSealed
-      told-trade j x y =
-          let u : layoutRule f (work .text) ≡ Trade = ap (layoutRule f) (sym found-is) ∙ sym x ∙ y in
-          rw (opens .sealed, u) (ap trade (opens .calls))
-
-      pub told-layout : (j : line-judged.Judged) → j ≡ layoutRule f lent → j ≡ found-to-be.Layout → judgeSealed f k key nonce A C T ≡ layout n
-      unfolding judgeSealed
-      told-layout j x v =
-          let u : layoutRule f (work .text) ≡ found-to-be.Layout = ap (layoutRule f) (sym found-is) ∙ sym x ∙ v in
-          rw (opens .sealed, u) (ap layout (opens .calls))
-
-      told-line : (j : line-judged.Judged) → j ≡ layoutRule f lent → j ≡ Accepted → judgeSealed f k key nonce A C T ≡ line k (work .text) n
-      unfolding judgeSealed
-      told-line j x y =
-          let u : layoutRule f (work .text) ≡ Accepted = ap (layoutRule f) (sym found-is) ∙ sym x ∙ y in
-          rw (opens .sealed, u) (ap (line k (work .text)) (opens .calls))
-
-      -- the line is as long as the ciphertext, and copied whole
-      pub gives : (j : line-judged.Judged) → j ≡ layoutRule f lent → j ≡ Accepted
-          → (l l′ : List ℕ) → length room ≤ length l → l′ ≡ copied lent l
-          → Shows (judgeSealed f k key nonce A C T) l (verdict (answer-is.Line (length C) n) k) l′
-      gives j x y l l′ h c =
-          let m =
-          shown (judgeSealed f k key nonce A C T) l (line k (work .text) n) (told-line j x y)
-          (verdict (answer-is.Line (length C) n) k)
-          (ap (λ (i : ℕ). verdict (answer-is.Line i n) k) (sym long)) in
-          let fits : length (work .text) ≤ length l = omega (arith, long, w .room) in (
-            m .0,
-            c ∙ ap (λ (s : List ℕ). copied s l) found-is ∙ ap (λ (s : List ℕ). over s l) (take-all (length l) (work .text) fits) ∙ m .1,
+  pub found-judged : Shows (judgeSealed f k key nonce A C T) o (verdictOn k (length C) (found .answer)) (found .line)
+  found-judged = by-seal (same (work .seal) T) refl
+    where
+      by-line : same (work .seal) T ≡ true → (r : line-judged.Judged) → layoutRule f (work .text) ≡ r
+          → Shows (judgeSealed f k key nonce A C T) o (verdictOn k (length C) (found .answer)) (found .line)
+      by-line p Unlisted e = shows _ (opens-rule p Unlisted e) (unlisted (work .calls)) (by-rule p Unlisted e) (refl, refl)
+      by-line p Trade e = shows _ (opens-rule p Trade e) (trade (work .calls)) (by-rule p Trade e) (refl, refl)
+      by-line p found-to-be.Layout e = shows _ (opens-rule p found-to-be.Layout e) (layout (work .calls)) (by-rule p found-to-be.Layout e) (refl, refl)
+      by-line p Accepted e =
+          shows _ (opens-rule p Accepted e) (line k (work .text) (work .calls)) (by-rule p Accepted e) (
+            ap (λ (n : ℕ). verdictOn k n (found-is.Line (work .calls))) (sym long),
+            ap (λ (s : List ℕ). over s o) (take-all (length o) (work .text) (omega (arith, long, w .room, h))),
           )
+
+      by-seal : (t : Bool) → same (work .seal) T ≡ t
+          → Shows (judgeSealed f k key nonce A C T) o (verdictOn k (length C) (found .answer)) (found .line)
+      by-seal true p = by-line p (layoutRule f (work .text)) refl
+      by-seal false p = shows _ (opens false p) (seal (work .calls)) (other-seal p) (refl, refl)

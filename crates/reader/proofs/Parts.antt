@@ -1,10 +1,12 @@
 -- The parts of a body that `judge_body` takes are its fields' values, and what the body is found to be by them. Assumes nothing.
 use mathlib.Core.Path.{_≡_, refl, sym, ap, subst, _∙_}
-use mathlib.Core.Bool.{true, false}
+use mathlib.Core.Bool.{Bool, true, false, not, cond}
 use mathlib.Core.List.{List, [], _∷_}
 use Prim.Native.Nat.{ℕ, _+_, _-_, _≤_, _<_}
 use native.Mathlib.Omega.{arith}
-use lib.ListN.{length, take, drop, length-drop}
+use lib.Dec.{ltb}
+use lib.ListN.{length, take, drop, length-drop, replicate}
+use borrow.Author.Tests.{ltb-true, ltb-false}
 use lib.Seq.{length-take-le}
 use Rattle.lists.specs.Below.{Below}
 use Rattle.lists.specs.Buffers.{same}
@@ -29,7 +31,16 @@ use Rattle.judging.specs.Judged.{Judged, label, shape, font, work, callsIn}
 use Rattle.judging.specs.Judging.{judgeSealed, judgeFields}
 use Rattle.judging.specs.Ceiling as ceiling
 use Rattle.judging.specs.Allowance.{no-ceiling, enough-allowed, not-enough, sealed-work}
-use Rattle.reader.specs.Parts.{nonceIn, digestIn, associatedIn, cipherIn, sealFrom, sealIn, jobIn, ownIn, Parts, judgeParts}
+use Rattle.asking.specs.declared.Bar.{Bar}
+use Rattle.asking.specs.declared.Bar.the-variants as bar-is
+use Rattle.asking.specs.Asked.{barIn, barred}
+use Rattle.opening.specs.declared.Found.{Found}
+use Rattle.opening.specs.Opened.{openLine}
+use Rattle.reader.specs.declared.Verdict.{Verdict}
+use Rattle.reader.specs.Answers.{verdictOn}
+use Rattle.reader.proofs.Opening.{found-judged}
+use Rattle.reader.proofs.Shown.{Shows, passed}
+use Rattle.reader.specs.Parts.{nonceIn, digestIn, associatedIn, cipherIn, sealFrom, sealIn, jobIn, ownIn, Parts, openParts, judgeParts}
 
 -- a job in edition one is empty
 no-job : (job : List ℕ) → length job ≡ 0 → [] ≡ job
@@ -83,16 +94,22 @@ pub no-fields : (t : Told) (ed a : ℕ) (b : List ℕ) → judged (fieldsOf b) �
     → ceiling.within a (judgeFields t (among ed (fieldsOf b))) ≡ shape
 no-fields t ed a b q = no-ceiling a shape (ap (λ (f : Fields). judgeFields t (among ed f)) (told-shape (fieldsOf b) q)) refl
 
+-- the ciphertext has the length told
+cipher-long : (b : List ℕ) (e : Edition) (n : ℕ) → Parts b e n → length (cipherIn (jobFieldLength e) n b) ≡ n
+cipher-long b e n p =
+    let at = cipherAt One + jobFieldLength e in
+    length-take-le (at + n - at) (drop at b) (omega (arith, length-drop at b, p .length-is)) ∙ omega arith
+
 module _ (t : Told) (ed a : ℕ) (b : List ℕ) (e : Edition) (n : ℕ) (p : Parts b e n) where
   -- an edition that is not allowed
-  pub not-allowed : allows ed e ≡ false → ceiling.within a (judgeFields t (among ed (fieldsOf b))) ≡ shape
+  not-allowed : allows ed e ≡ false → ceiling.within a (judgeFields t (among ed (fieldsOf b))) ≡ shape
   not-allowed h = no-ceiling a shape (ap (λ (f : Fields). judgeFields t (among ed f)) (p .fields-are) ∙ rw h) refl
 
   module _ (h : allows ed e ≡ true) where
     its-fields : among ed (fieldsOf b) ≡ fields (ownIn e b) (digestIn b) (cipherIn (jobFieldLength e) n b) (sealIn (jobFieldLength e) n b)
     its-fields = among-allowed ed (fieldsOf b) (p .fields-are) h
 
-    pub other-font : same (digestIn b) (t .font) ≡ false → ceiling.within a (judgeFields t (among ed (fieldsOf b))) ≡ font
+    other-font : same (digestIn b) (t .font) ≡ false → ceiling.within a (judgeFields t (among ed (fieldsOf b))) ≡ font
     other-font d = no-ceiling a font (ap (judgeFields t) its-fields ∙ rw d) refl
 
     its-font : same (digestIn b) (t .font) ≡ true → judgeFields t (among ed (fieldsOf b)) ≡ judgeParts (t .layout) e n (t .key) b
@@ -102,8 +119,6 @@ module _ (t : Told) (ed a : ℕ) (b : List ℕ) (e : Edition) (n : ℕ) (p : Par
     its-work : same (digestIn b) (t .font) ≡ true → callsIn (judgeFields t (among ed (fieldsOf b))) ≡ n + besideLine e
     its-work d =
         let more = jobFieldLength e in
-        let long : length (cipherIn more n b) ≡ n =
-        length-take-le (cipherAt One + more + n - (cipherAt One + more)) (drop (cipherAt One + more) b) (omega (arith, length-drop (cipherAt One + more) b, p .length-is)) ∙ omega arith in
         ap callsIn (its-font d)
         ∙ sealed-work (t .layout) (label (editionNumber e) (jobNumber (jobIn e b))) (t .key) (nonceIn b) (associatedIn more b) (cipherIn more n b) (sealIn more n b)
         ∙ omega (
@@ -111,31 +126,61 @@ module _ (t : Told) (ed a : ℕ) (b : List ℕ) (e : Edition) (n : ℕ) (p : Par
           open-calls-first (t .key) (nonceIn b) (associatedIn more b) (cipherIn more n b),
           ap length (p .associated-is),
           length-associated e (digestIn b) (jobIn e b) (p .sized .digest-is) (p .sized .job-is),
-          long,
+          cipher-long b e n p,
         )
 
-    pub over-work : same (digestIn b) (t .font) ≡ true → a < n + besideLine e → ceiling.within a (judgeFields t (among ed (fieldsOf b))) ≡ work
+    over-work : same (digestIn b) (t .font) ≡ true → a < n + besideLine e → ceiling.within a (judgeFields t (among ed (fieldsOf b))) ≡ work
     over-work d l = not-enough a (judgeFields t (among ed (fieldsOf b))) (omega (arith, its-work d, l))
 
-    pub in-work : same (digestIn b) (t .font) ≡ true → n + besideLine e ≤ a
+    in-work : same (digestIn b) (t .font) ≡ true → n + besideLine e ≤ a
         → ceiling.within a (judgeFields t (among ed (fieldsOf b))) ≡ judgeParts (t .layout) e n (t .key) b
     in-work d l = enough-allowed a (judgeFields t (among ed (fieldsOf b))) (omega (arith, its-work d, l)) ∙ its-font d
 
--- the parts as they are cut, with what was measured and numbered
-module _ (f : Layout) (b key : List ℕ) (e : Edition) (n : ℕ) (p : Parts b e n) (more : ℕ) (m : more ≡ jobFieldLength e) where
+  -- what `judge_asked` answers decides it
+  pub by-bar : (r : Bar) → r ≡ barIn ed a e n (digestIn b) (t .font)
+      → ceiling.within a (judgeFields t (among ed (fieldsOf b))) ≡ barred r (judgeParts (t .layout) e n (t .key) b)
+  unfolding barIn
+  by-bar r i =
+      go (allows ed e) refl (same (digestIn b) (t .font)) refl (ltb a (n + besideLine e)) refl ∙ ap (λ (x : Bar). barred x (judgeParts (t .layout) e n (t .key) b)) (sym i)
+    where
+      go : (x : Bool) → allows ed e ≡ x → (y : Bool) → same (digestIn b) (t .font) ≡ y → (z : Bool) → ltb a (n + besideLine e) ≡ z
+          → ceiling.within a (judgeFields t (among ed (fieldsOf b)))
+          ≡ barred (cond (not x) bar-is.Edition (cond (not y) bar-is.Font (cond z bar-is.Work bar-is.Nothing))) (judgeParts (t .layout) e n (t .key) b)
+      go false h y d z l = not-allowed h
+      go true h false d z l = other-font h d
+      go true h true d true l = over-work h d (ltb-true a (n + besideLine e) l)
+      go true h true d false l = in-work h d (ltb-false a (n + besideLine e) l)
+
+module _ (f : Layout) (b key : List ℕ) (e : Edition) (n : ℕ) (p : Parts b e n) where
+  abbrev more : ℕ
+  more = jobFieldLength e
+
+  -- the parts as they are cut, with what was measured
+  pub as-cut : (m : ℕ) → m ≡ more → (o : List ℕ) → (r : Found) (w : List ℕ)
+      → r ≡ openLine f key (nonceIn b) (associatedIn m b) (cipherIn m n b) (sealIn m n b) o .answer
+      → w ≡ openLine f key (nonceIn b) (associatedIn m b) (cipherIn m n b) (sealIn m n b) o .line
+      → (r ≡ openParts f e n key b o .answer) × (w ≡ openParts f e n key b o .line)
+  as-cut m e o r w x y = (x ∙ rw e, y ∙ rw e)
+
   -- what `open` asks of them
-  pub within : length key ≡ keyLength → (o : List ℕ) → length o ≡ longest → Within first key (nonceIn b) (associatedIn more b) (cipherIn more n b) (sealIn more n b) o
-  within z o l =
+  within : length key ≡ keyLength → Within first key (nonceIn b) (associatedIn more b) (cipherIn more n b) (sealIn more n b) (replicate longest 0)
+  within z =
       let y = p .sized in
-      rw m (record {
+      record {
         key-size = z;
         nonce-size = y .nonce-is;
         seal-size = y .seal-is;
         associated = omega (arith, ap length (p .associated-is), length-associated e (digestIn b) (jobIn e b) (y .digest-is) (y .job-is), job-field-most e);
         short = omega (arith, y .cipher-to);
-        room = omega (arith, y .cipher-to, l);
-      })
+        room = omega (arith, y .cipher-to);
+      }
 
-  pub found-by-parts : (i j : ℕ) → i ≡ editionNumber e → j ≡ jobNumber (jobIn e b)
-      → judgeParts f e n key b ≡ judgeSealed f (label i j) key (nonceIn b) (associatedIn more b) (cipherIn more n b) (sealIn more n b)
-  found-by-parts i j x y = rw (m, x, y)
+  -- what is found of them, with the numbers of edition and job
+  pub opened-fields : length key ≡ keyLength → (o : List ℕ) → longest ≤ length o → (i j : ℕ) → i ≡ editionNumber e → j ≡ jobNumber (jobIn e b)
+      → (x : Found) → x ≡ openParts f e n key b o .answer → (w : List ℕ) → w ≡ openParts f e n key b o .line
+      → (r : Verdict) → r ≡ verdictOn (label i j) n x → Shows (judgeParts f e n key b) o r w
+  opened-fields z o h i j u v x xe w we r re =
+      let m = found-judged f (label i j) key (nonceIn b) (associatedIn more b) (cipherIn more n b) (sealIn more n b) o (within z) h in
+      passed (judgeParts f e n key b) (judgeSealed f (label i j) key (nonceIn b) (associatedIn more b) (cipherIn more n b) (sealIn more n b)) o r w
+      (rw (u, v))
+      (re ∙ ap (λ (k : ℕ). verdictOn (label i j) k x) (sym (cipher-long b e n p)) ∙ ap (verdictOn (label i j) (length (cipherIn more n b))) xe ∙ m .0, we ∙ m .1)

@@ -16,7 +16,9 @@ use Rattle.reader.specs.declared.Answer.{Answer}
 use Rattle.reader.specs.declared.Reading.{Reading}
 use Rattle.reader.specs.declared.Verdict.{Verdict}
 use Rattle.reader.specs.declared.Answer.the-variants as answer-is
-use Rattle.judging.specs.Judged.{Judged, shape, stuffing, font, work, seal, unlisted, trade, layout, line, labelIn}
+use Rattle.opening.specs.declared.Found as opened-line
+use Rattle.opening.specs.declared.Found.the-variants as found-is
+use Rattle.judging.specs.Judged.{Label, Judged, shape, stuffing, font, work, seal, unlisted, trade, layout, line, labelIn}
 use Rattle.judging.specs.Readings.{ends}
 use Rattle.judging.specs.Judging.{judge}
 use Rattle.judging.specs.Ceiling.{within}
@@ -79,6 +81,15 @@ plain a = record { answer = a; edition = 0; job = 0 }
 -- the answer for a stretch, with the edition and the job that a line is given with (order W6)
 abbrev pub verdictOf : Judged → Verdict
 verdictOf j = record { answer = answerOf j; edition = labelIn j .edition; job = labelIn j .job }
+
+-- the answer for what opening a sealed line of n bytes finds; sizes are right where it is called, so it is never refused
+abbrev pub verdictOn : Label → ℕ → opened-line.Found → Verdict
+verdictOn k n found-is.Refused = plain answer-is.Shape
+verdictOn k n (found-is.Seal calls) = plain (answer-is.Seal calls)
+verdictOn k n (found-is.Unlisted calls) = plain (answer-is.Unlisted calls)
+verdictOn k n (found-is.Trade calls) = plain (answer-is.Trade calls)
+verdictOn k n (found-is.Layout calls) = plain (answer-is.Layout calls)
+verdictOn k n (found-is.Line calls) = record { answer = answer-is.Line n calls; edition = k .edition; job = k .job }
 
 -- with its places
 abbrev pub readingAt : Span → Verdict → Reading

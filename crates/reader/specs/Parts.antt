@@ -11,6 +11,7 @@ use Rattle.body.specs.Answers.{editionNumber}
 use Rattle.body.specs.Job.{jobNumber}
 use Rattle.body.specs.Lengths.{Sized, jobFieldLength, associatedLength, besideCipher}
 use Rattle.body.specs.Places.{nonceAt, associatedAt, digestAt, jobAt, cipherAt}
+use Rattle.opening.specs.Opened.{LineCall, openLine}
 use Rattle.judging.specs.Judged.{Judged, label}
 use Rattle.judging.specs.Judging.{judgeSealed}
 
@@ -46,6 +47,11 @@ pub record Parts (b : List ℕ) (e : Edition) (n : ℕ) : Type 0 where
   pub fields-are : fieldsOf b ≡ fields (ownIn e b) (digestIn b) (cipherIn (jobFieldLength e) n b) (sealIn (jobFieldLength e) n b)
   pub associated-is : associatedIn (jobFieldLength e) b ≡ associated e (digestIn b) (jobIn e b)
   pub length-is : length b ≡ besideCipher e + n
+
+-- what `open_line` makes of them with the line buffer o
+abbrev pub openParts : Layout → Edition → ℕ → List ℕ → List ℕ → List ℕ → LineCall
+openParts l e n key b o =
+    openLine l key (nonceIn b) (associatedIn (jobFieldLength e) b) (cipherIn (jobFieldLength e) n b) (sealIn (jobFieldLength e) n b) o
 
 -- what opening them finds
 abbrev pub judgeParts : Layout → Edition → ℕ → List ℕ → List ℕ → Judged

@@ -3,23 +3,22 @@
 ghost use mathlib.Core.Path.{_≡_};
 ghost use Prim.Native.Nat.{_+_, _≤_};
 ghost use lib.ListN.{length};
-ghost use Rattle.lists.specs.Buffers.{copied};
 ghost use Rattle.stream.specs.Stretches.{span};
 ghost use Rattle.line.specs.Lines.{longest};
-ghost use Rattle.cipher.specs.Instances.{first as firstInstance};
-ghost use Rattle.ingage.specs.Exactly.{Within};
 ghost use Rattle.body.specs.Fields.{jobLength, fieldsOf};
 ghost use Rattle.body.specs.Answers.{editionNumber, judged};
 ghost use Rattle.body.specs.Job.{jobNumber};
 ghost use Rattle.body.specs.Places.{jobAt};
-ghost use Rattle.judging.specs.Editions.{allows as allowed, among};
+ghost use Rattle.judging.specs.Editions.{among};
 ghost use Rattle.judging.specs.Judged.{label};
-ghost use Rattle.judging.specs.Judging.{judgeSealed, judgeFields, held};
+ghost use Rattle.judging.specs.Judging.{judgeFields, held};
 ghost use Rattle.judging.specs.Ceiling.{within};
 ghost use Rattle.judging.specs.Sizes.{Sizes};
 ghost use Rattle.framing.specs.Told.{keyLength, told};
-ghost use Rattle.reader.specs.Parts.{jobIn, Parts, judgeParts};
-ghost use Rattle.reader.specs.Answers.{plain, verdictOf, judgedWithin, judgeAnswer, judgeOut, lineOver, readingAt, readAnswer, readOut};
+ghost use Rattle.reader.specs.Parts.{jobIn, Parts, openParts, judgeParts};
+ghost use Rattle.reader.specs.Answers.{plain, verdictOn, verdictOf, judgedWithin, judgeAnswer, judgeOut, lineOver, readingAt, readAnswer, readOut};
+use asking::Bar;
+use asking::judge_asked;
 use body::ASSOCIATED_AT;
 use body::ASSOCIATED_LENGTH;
 use body::CIPHER_AT;
@@ -39,12 +38,9 @@ use body::judge_body;
 use escaping::unstuff;
 use frame::BESIDE_LINE;
 use frame::KEY_LENGTH;
-use ingage::Opened;
-use ingage::open;
 use layout::Layout;
-use layout::judge_line;
-use lists::compare;
-use lists::copy;
+use opening::Found;
+use opening::open_line;
 use stream::next_span;
 use stuffing::LONGEST_STRETCH;
 use stuffing::Unstuffed;
@@ -117,16 +113,6 @@ pub enum Answer {
     Line { length: usize, calls: usize },
 }
 
-// Whether the edition is among those allowed.
-fn allows(editions: usize, edition: Edition) -> bool
-    ensures { λ r. ⌜ r ≡ allowed editions edition ⌝ }
-{
-    match edition {
-        Edition::One => editions % 2 == 1,
-        Edition::Two => editions / 2 % 2 == 1,
-    }
-}
-
 // The edition's number.
 fn number_of(edition: Edition) -> usize
     ensures { λ r. ⌜ r ≡ editionNumber edition ⌝ }
@@ -152,13 +138,6 @@ fn job_of(body: &[u8], edition: Edition) -> usize
     }
 }
 
-// Hands out a line: over the start of the caller's buffer.
-fn hand_out(found: &[u8], line: &mut [u8])
-    ensures { λ _. ⌜ now (line .exit) ≡ copied (now (found .entry)) (now (line .entry)) ⌝ }
-{
-    copy(found, line);
-}
-
 // A refusal, which has no edition and no job.
 fn refused(answer: Answer) -> Verdict
     ensures { λ r. ⌜ r ≡ plain answer ⌝ }
@@ -170,51 +149,52 @@ fn refused(answer: Answer) -> Verdict
     }
 }
 
-// Opens sealed fields and judges the line found by its rule and the layout; it is given with this edition and job. They are opened into a buffer beside the caller's,
-// which is written only where a line is given.
-fn judge_sealed(
-    layout: Layout,
-    edition: usize,
-    job: usize,
-    key: &[u8],
-    nonce: &[u8],
-    assoc: &[u8],
-    cipher: &[u8],
-    seal: &[u8],
-    text: &mut [u8],
-    line: &mut [u8],
-) -> Verdict
-    requires { ⌜ Within firstInstance (now key) (now nonce) (now assoc) (now cipher) (now seal) (now text) ⌝ }
-    requires { ⌜ (length (now text) ≡ longest) × (longest ≤ length (now line)) ⌝ }
-    ensures { λ r. ⌜ r ≡ verdictOf (judgeSealed layout (label edition job) (now (key .entry)) (now (nonce .entry)) (now (assoc .entry)) (now (cipher .entry)) (now (seal .entry))) ⌝ }
-    ensures { λ _. ⌜ now (line .exit) ≡ lineOver (judgeSealed layout (label edition job) (now (key .entry)) (now (nonce .entry)) (now (assoc .entry)) (now (cipher .entry)) (now (seal .entry))) (now (line .entry)) ⌝ }
+// The verdict on a sealed line of so many bytes: it is given with this edition and job.
+fn verdict_on(found: Found, edition: usize, job: usize, length: usize) -> Verdict
+    ensures { λ r. ⌜ r ≡ verdictOn (label edition job) length found ⌝ }
 {
-    let length = cipher.len();
-    match open(frame::INSTANCE, key, nonce, assoc, cipher, seal, text) {
-        Opened::Seal(calls) => return refused(Answer::Seal(calls)),
-        Opened::Done(calls) => {
-            let found = &text[0..length];
-            match judge_line(layout, found) {
-                layout::Judged::Unlisted => return refused(Answer::Unlisted(calls)),
-                layout::Judged::Trade => return refused(Answer::Trade(calls)),
-                layout::Judged::Layout => return refused(Answer::Layout(calls)),
-                layout::Judged::Accepted => {
-                    hand_out(found, line);
-                    let answer = Answer::Line { length, calls };
-                    return Verdict {
-                        answer,
-                        edition,
-                        job,
-                    };
-                }
-            }
-        }
+    match found {
         // Never: sizes, lengths and room are right here.
-        _ => return refused(Answer::Shape),
+        Found::Refused => return refused(Answer::Shape),
+        Found::Seal(calls) => return refused(Answer::Seal(calls)),
+        Found::Unlisted(calls) => return refused(Answer::Unlisted(calls)),
+        Found::Trade(calls) => return refused(Answer::Trade(calls)),
+        Found::Layout(calls) => return refused(Answer::Layout(calls)),
+        Found::Line(calls) => {
+            let answer = Answer::Line { length, calls };
+            return Verdict {
+                answer,
+                edition,
+                job,
+            };
+        }
     }
 }
 
-// Opens the fields of a body of this edition, whose line ciphertext has n bytes, and judges the line found.
+// Opens the line of a body of this edition, whose ciphertext has n bytes.
+fn open_parts(
+    body: &[u8],
+    edition: Edition,
+    n: usize,
+    key: &[u8],
+    layout: Layout,
+    line: &mut [u8],
+) -> Found
+    requires { ⌜ Parts (now body) edition n ⌝ }
+    ensures { λ r. ⌜ r ≡ openParts layout edition n (now (key .entry)) (now (body .entry)) (now (line .entry)) .answer ⌝ }
+    ensures { λ _. ⌜ now (line .exit) ≡ openParts layout edition n (now (key .entry)) (now (body .entry)) (now (line .entry)) .line ⌝ }
+{
+    let more = job_field_length(edition);
+    let nonce = &body[NONCE_AT..NONCE_AT + NONCE_LENGTH];
+    let assoc = &body[ASSOCIATED_AT..ASSOCIATED_AT + ASSOCIATED_LENGTH + more];
+    let cipher_at = CIPHER_AT + more;
+    let cipher = &body[cipher_at..cipher_at + n];
+    let seal_at = cipher_at + n + HEAD_LENGTH;
+    let seal = &body[seal_at..seal_at + SEAL_LENGTH];
+    open_line(layout, key, nonce, assoc, cipher, seal, line)
+}
+
+// Opens the line of a body of this edition and says what it is found to be, with its edition and its job.
 fn open_fields(
     body: &[u8],
     edition: Edition,
@@ -228,28 +208,10 @@ fn open_fields(
     ensures { λ r. ⌜ r ≡ verdictOf (judgeParts layout edition n (now (key .entry)) (now (body .entry))) ⌝ }
     ensures { λ _. ⌜ now (line .exit) ≡ lineOver (judgeParts layout edition n (now (key .entry)) (now (body .entry))) (now (line .entry)) ⌝ }
 {
-    let more = job_field_length(edition);
-    let nonce = &body[NONCE_AT..NONCE_AT + NONCE_LENGTH];
-    let assoc = &body[ASSOCIATED_AT..ASSOCIATED_AT + ASSOCIATED_LENGTH + more];
-    let cipher_at = CIPHER_AT + more;
-    let cipher = &body[cipher_at..cipher_at + n];
-    let seal_at = cipher_at + n + HEAD_LENGTH;
-    let seal = &body[seal_at..seal_at + SEAL_LENGTH];
     let number = number_of(edition);
     let job = job_of(body, edition);
-    let mut text = [0u8; LONGEST_LINE];
-    judge_sealed(
-        layout,
-        number,
-        job,
-        key,
-        nonce,
-        assoc,
-        cipher,
-        seal,
-        &mut text,
-        line,
-    )
+    let found = open_parts(body, edition, n, key, layout, line);
+    verdict_on(found, number, job, n)
 }
 
 // Judges a body of this edition by whether it is allowed, the font it was sealed to, the work that opening it takes, its seal and its line. The
@@ -269,18 +231,16 @@ fn judge_edition(
     ensures { λ r. ⌜ r ≡ verdictOf (within (asked .allowed) (judgeFields (told (now (key .entry)) (now (font .entry)) (asked .layout)) (among (asked .editions) (fieldsOf (now (body .entry)))))) ⌝ }
     ensures { λ _. ⌜ now (line .exit) ≡ lineOver (within (asked .allowed) (judgeFields (told (now (key .entry)) (now (font .entry)) (asked .layout)) (among (asked .editions) (fieldsOf (now (body .entry)))))) (now (line .entry)) ⌝ }
 {
-    if !allows(asked.editions, edition) {
-        return refused(Answer::Shape);
-    }
     let digest = &body[DIGEST_AT..DIGEST_AT + DIGEST_LENGTH];
-    if !compare(digest, font) {
-        return refused(Answer::Font);
+    match judge_asked(asked.editions, asked.allowed, edition, n, digest, font) {
+        Bar::Edition => return refused(Answer::Shape),
+        Bar::Font => return refused(Answer::Font),
+        Bar::Work => return refused(Answer::Work),
+        Bar::Nothing => {
+            let layout = asked.layout;
+            return open_fields(body, edition, n, key, layout, line);
+        }
     }
-    if asked.allowed < n + BESIDE_LINE + job_field_length(edition) {
-        return refused(Answer::Work);
-    }
-    let layout = asked.layout;
-    open_fields(body, edition, n, key, layout, line)
 }
 
 // Judges a body by its fields.

@@ -1,75 +1,8 @@
--- `open_fields` meets its promise: edition and length fix where each value stands, so the parts lent on are the values. Assumes nothing.
-use mathlib.Core.Path.{refl}
-use native.Mathlib.Omega.{arith}
+-- `open_fields` meets its promise: what is found of the parts is what judging them says. Assumes nothing.
 use borrow.Author.Needs.{needs}
-use Rattle.reader.specs.Parts.{judgeParts}
-use Rattle.reader.proofs.Parts.{within, found-by-parts}
-use Rattle.reader.proofs.Shown.{passed}
+use Rattle.reader.proofs.Parts.{opened-fields}
 use Rattle.reader.proofs.open_fields.Statement.{statement}
 use Rattle.reader.proofs.open_fields.Tie as tie
-
-job-field-length-requires : tie.Need-job-field-length-requires
-job-field-length-requires c κs = search needs
-
-add-nonce : tie.Need-add-nonce
-add-nonce c = search needs
-
-sub-nonce : tie.Need-sub-nonce
-sub-nonce c = search needs
-
-part-nonce-start : tie.Need-part-nonce-start
-part-nonce-start c = search needs
-
-part-nonce-end : tie.Need-part-nonce-end
-part-nonce-end c = search needs
-
-add-assoc : tie.Need-add-assoc
-add-assoc c = search needs
-
-add-assoc-2 : tie.Need-add-assoc-2
-add-assoc-2 c = search needs
-
-sub-assoc : tie.Need-sub-assoc
-sub-assoc c = search needs
-
-part-assoc-start : tie.Need-part-assoc-start
-part-assoc-start c = search needs
-
-part-assoc-end : tie.Need-part-assoc-end
-part-assoc-end c = search needs
-
-add-cipher-at : tie.Need-add-cipher-at
-add-cipher-at c = search needs
-
-add-cipher : tie.Need-add-cipher
-add-cipher c = search needs
-
-sub-cipher : tie.Need-sub-cipher
-sub-cipher c = search needs
-
-part-cipher-start : tie.Need-part-cipher-start
-part-cipher-start c = search needs
-
-part-cipher-end : tie.Need-part-cipher-end
-part-cipher-end c = search needs
-
-add-seal-at : tie.Need-add-seal-at
-add-seal-at c = search needs
-
-add-seal-at-2 : tie.Need-add-seal-at-2
-add-seal-at-2 c = search needs
-
-add-seal : tie.Need-add-seal
-add-seal c = search needs
-
-sub-seal : tie.Need-sub-seal
-sub-seal c = search needs
-
-part-seal-start : tie.Need-part-seal-start
-part-seal-start c = search needs
-
-part-seal-end : tie.Need-part-seal-end
-part-seal-end c = search needs
 
 number-of-requires : tie.Need-number-of-requires
 number-of-requires c κs = search needs
@@ -77,56 +10,29 @@ number-of-requires c κs = search needs
 job-of-requires : tie.Need-job-of-requires
 job-of-requires c κs = search needs
 
-slice-aggregate-judge-sealed : tie.Need-slice-aggregate-judge-sealed
-slice-aggregate-judge-sealed c = search needs
+open-parts-requires : tie.Need-open-parts-requires
+open-parts-requires c κs = search needs
 
-judge-sealed-requires : tie.Need-judge-sealed-requires
-judge-sealed-requires c κs =
-    let s = c .before .before .before .before .before .before .before .before .before .before .before .before in
-    let a = s .args in (
-      within (a .layout) (a .body .now) (a .key .now) (a .edition) (a .n) (s .pre .0) _ (c .before .before .before .before .before .before .before .before .job-field-length .ensures) (s .pre .1 .0) _ refl,
-      (refl, s .pre .1 .1),
-    )
+verdict-on-requires : tie.Need-verdict-on-requires
+verdict-on-requires c κs = search needs
 
 same-length : tie.Need-same-length
 same-length c = search needs
 
 returns : tie.Need-returns
 returns c =
-    let s = c .before .before .before .before .before .before .before .before .before .before .before .before .before .before .before .before in
+    let s = c .before .before .before .before .before .before .before .before .before .before in
     let a = s .args in
-    passed (judgeParts (a .layout) (a .edition) (a .n) (a .key .now) (a .body .now)) _ (a .line .now) _ _
-    (found-by-parts (a .layout) (a .body .now) (a .key .now) (a .edition) (a .n) (s .pre .0) _ (c .before .before .before .before .before .before .before .before .before .before .before .before .job-field-length .ensures) _ _ (c .before .before .before .before .before .before .before .number-of .ensures) (c .before .before .before .before .before .before .job-of .ensures))
-    (c .before .before .before .judge-sealed .ensures)
+    opened-fields (a .layout) (a .body .now) (a .key .now) (a .edition) (a .n) (s .pre .0) (s .pre .1 .0) (a .line .now) (s .pre .1 .1) _ _ (c .before .before .before .before .before .before .number-of .ensures) (c .before .before .before .before .before .job-of .ensures)
+    _ (c .before .before .before .open-parts .ensures .0) _ (c .before .before .before .open-parts .ensures .1) _ (c .verdict-on .ensures)
 
 pub open-fields-spec : {M : Type 1} → statement M
 open-fields-spec =
     tie.close
     (tie.spec
-    job-field-length-requires
-    add-nonce
-    sub-nonce
-    part-nonce-start
-    part-nonce-end
-    add-assoc
-    add-assoc-2
-    sub-assoc
-    part-assoc-start
-    part-assoc-end
-    add-cipher-at
-    add-cipher
-    sub-cipher
-    part-cipher-start
-    part-cipher-end
-    add-seal-at
-    add-seal-at-2
-    add-seal
-    sub-seal
-    part-seal-start
-    part-seal-end
     number-of-requires
     job-of-requires
-    slice-aggregate-judge-sealed
-    judge-sealed-requires
+    open-parts-requires
+    verdict-on-requires
     same-length
     returns)

@@ -1,8 +1,8 @@
 -- `allows` meets its promise: each edition has its bit. Assumes nothing.
 use borrow.Author.Needs.{needs}
 use Rattle.judging.specs.Editions.{allows}
-use Rattle.reader.proofs.allows.Statement.{statement}
-use Rattle.reader.proofs.allows.Tie as tie
+use Rattle.asking.proofs.allows.Statement.{statement}
+use Rattle.asking.proofs.allows.Tie as tie
 
 enum-told : tie.Need-enum-told
 enum-told c = search needs

@@ -1,0 +1,65 @@
+-- What opening a sealed line finds, and what the line buffer then holds (document 01, 'Numbers returned'; orders W2 and W7): nothing where a size is
+-- wrong, then 5, 9, 13, 17, else the line. Assumes nothing: these are definitions.
+use mathlib.Core.Bool.{cond}
+use mathlib.Core.List.{List, []}
+use Prim.Native.Nat.{ℕ}
+use lib.Dec.{ltb}
+use lib.ListN.{length, take, replicate}
+use Rattle.lists.specs.Buffers.{copied}
+use Rattle.line.specs.Lines.{longest}
+use Rattle.layout.specs.declared.Layout as layouts
+use Rattle.layout.specs.declared.Judged as line-judged
+use Rattle.layout.specs.declared.Judged.the-variants.{Accepted, Unlisted, Trade, Layout}
+use Rattle.layout.specs.Layouts.{layoutRule}
+use Rattle.cipher.specs.Instances.{named, FIRST}
+use Rattle.ingage.specs.declared.Opened.{Opened}
+use Rattle.ingage.specs.declared.Opened.the-variants as opened
+use Rattle.ingage.specs.Answers.{OpenCall, openNamed}
+use Rattle.opening.specs.declared.Found.{Found}
+use Rattle.opening.specs.declared.Found.the-variants as found
+
+-- by the rule of a line and its layout, with the count: 9, 13, 17
+abbrev pub byRule : line-judged.Judged → ℕ → Found
+byRule Unlisted n = found.Unlisted n
+byRule Trade n = found.Trade n
+byRule Layout n = found.Layout n
+byRule Accepted n = found.Line n
+
+-- by what `open` answers, of the bytes that it left
+abbrev pub foundBy : layouts.Layout → Opened → List ℕ → Found
+foundBy l (opened.Done n) s = byRule (layoutRule l s) n
+foundBy l opened.Instance s = found.Refused
+foundBy l opened.Sizes s = found.Refused
+foundBy l opened.TooLong s = found.Refused
+foundBy l opened.NoRoom s = found.Refused
+foundBy l (opened.Seal n) s = found.Seal n
+
+-- a line that is given goes over the buffer's start; nothing else is written
+abbrev pub lineBy : Found → List ℕ → List ℕ → List ℕ
+lineBy found.Refused s o = o
+lineBy (found.Seal n) s o = o
+lineBy (found.Unlisted n) s o = o
+lineBy (found.Trade n) s o = o
+lineBy (found.Layout n) s o = o
+lineBy (found.Line n) s o = copied s o
+
+pub record LineCall : Type 0 where
+  pub answer : Found
+  pub line : List ℕ
+
+abbrev pub lineCall : Found → List ℕ → List ℕ → LineCall
+lineCall f s o = record { answer = f; line = lineBy f s o }
+
+-- what `open` makes of it, in a buffer for the longest line
+abbrev pub opening : List ℕ → List ℕ → List ℕ → List ℕ → List ℕ → OpenCall
+opening key nonce A C T = openNamed (named FIRST) key nonce A C T (replicate longest 0)
+
+-- the text found, as long as the ciphertext
+abbrev pub textIn : OpenCall → List ℕ → List ℕ
+textIn w C = take (length C) (w .out)
+
+unfoldable pub openLine : layouts.Layout → List ℕ → List ℕ → List ℕ → List ℕ → List ℕ → List ℕ → LineCall
+openLine l key nonce A C T o =
+    cond (ltb longest (length C)) (lineCall found.Refused [] o)
+    (cond (ltb (length o) (length C)) (lineCall found.Refused [] o)
+    (lineCall (foundBy l (opening key nonce A C T .answer) (textIn (opening key nonce A C T) C)) (textIn (opening key nonce A C T) C) o))

@@ -1,0 +1,81 @@
+// Opening a sealed line (document 01, 'A frame and a stream'; orders W2 and W7): it is opened under the instance that frames are sealed by, and
+// judged by the rule of a line and the layout. The promise cites specs/Opened.antt.
+ghost use mathlib.Core.Path.{_≡_};
+ghost use Rattle.lists.specs.Buffers.{copied};
+ghost use Rattle.opening.specs.Opened.{foundBy, lineBy, openLine};
+use body::LONGEST_LINE;
+use frame::INSTANCE;
+use ingage::Opened;
+use ingage::open;
+use layout::Layout;
+use layout::judge_line;
+use lists::copy;
+
+// What opening a sealed line finds; all but Refused with the calls of the permutation made.
+pub enum Found {
+    // Nothing is opened: key, nonce or seal are not of their sizes, something is too long, or the buffer has no room for the line.
+    Refused,
+    // The seal is not the one worked out.
+    Seal(usize),
+    // The line holds a byte that is not listed.
+    Unlisted(usize),
+    // The line's bytes are listed, but it is not the trade's line.
+    Trade(usize),
+    // It is the trade's line, but not of the layout named.
+    Layout(usize),
+    // A line is given, as long as the ciphertext.
+    Line(usize),
+}
+
+// Hands out a line: over the start of the caller's buffer.
+fn hand_out(found: &[u8], line: &mut [u8])
+    ensures { λ _. ⌜ now (line .exit) ≡ copied (now (found .entry)) (now (line .entry)) ⌝ }
+{
+    copy(found, line);
+}
+
+// Judges what was opened: the answer of `open`, and the bytes that it left. The caller's buffer is written only where a line is given.
+fn judge_opened(opened: Opened, layout: Layout, found: &[u8], line: &mut [u8]) -> Found
+    ensures { λ r. ⌜ r ≡ foundBy layout opened (now (found .entry)) ⌝ }
+    ensures { λ _. ⌜ now (line .exit) ≡ lineBy (foundBy layout opened (now (found .entry))) (now (found .entry)) (now (line .entry)) ⌝ }
+{
+    match opened {
+        Opened::Seal(calls) => return Found::Seal(calls),
+        Opened::Done(calls) => {
+            match judge_line(layout, found) {
+                layout::Judged::Unlisted => return Found::Unlisted(calls),
+                layout::Judged::Trade => return Found::Trade(calls),
+                layout::Judged::Layout => return Found::Layout(calls),
+                layout::Judged::Accepted => {
+                    hand_out(found, line);
+                    return Found::Line(calls);
+                }
+            }
+        }
+        _ => return Found::Refused,
+    }
+}
+
+// Opens a sealed line and judges it. It is opened into a buffer beside the caller's, which is written only where a line is given.
+pub fn open_line(
+    layout: Layout,
+    key: &[u8],
+    nonce: &[u8],
+    assoc: &[u8],
+    cipher: &[u8],
+    seal: &[u8],
+    line: &mut [u8],
+) -> Found
+    ensures answer { λ r. ⌜ r ≡ openLine layout (now (key .entry)) (now (nonce .entry)) (now (assoc .entry)) (now (cipher .entry)) (now (seal .entry)) (now (line .entry)) .answer ⌝ }
+    ensures line { λ _. ⌜ now (line .exit) ≡ openLine layout (now (key .entry)) (now (nonce .entry)) (now (assoc .entry)) (now (cipher .entry)) (now (seal .entry)) (now (line .entry)) .line ⌝ }
+{
+    if cipher.len() > LONGEST_LINE {
+        return Found::Refused;
+    }
+    if line.len() < cipher.len() {
+        return Found::Refused;
+    }
+    let mut text = [0u8; LONGEST_LINE];
+    let opened = open(INSTANCE, key, nonce, assoc, cipher, seal, &mut text);
+    judge_opened(opened, layout, &text[0..cipher.len()], line)
+}
