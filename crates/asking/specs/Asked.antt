@@ -1,5 +1,6 @@
 -- What bars a body from being opened, in document 01's order with orders W5's and W6's: 7 for its edition, 8, 15; and what it is found to be then.
--- Assumes nothing: these are definitions.
+-- Assumes nothing.
+use mathlib.Core.Path.{_≡_, refl}
 use mathlib.Core.Bool.{not, cond}
 use mathlib.Core.List.{List}
 use Prim.Native.Nat.{ℕ, _+_}
@@ -8,7 +9,7 @@ use Rattle.lists.specs.Buffers.{same}
 use Rattle.body.specs.declared.Edition.{Edition}
 use Rattle.framing.specs.Lengths.{besideLine}
 use Rattle.judging.specs.Editions.{allows}
-use Rattle.judging.specs.Judged.{Judged, shape, font, work}
+use Rattle.judging.specs.Judged.{Judged, shape, font, work, numberIn}
 use Rattle.asking.specs.declared.Bar.{Bar}
 use Rattle.asking.specs.declared.Bar.the-variants as bar-is
 
@@ -24,3 +25,17 @@ barred bar-is.Edition j = shape
 barred bar-is.Font j = font
 barred bar-is.Work j = work
 barred bar-is.Nothing j = j
+
+-- the number of each answer (document 01, 'Numbers returned'; order W5)
+abbrev pub barNumber : Bar → ℕ
+barNumber bar-is.Edition = 7
+barNumber bar-is.Font = 8
+barNumber bar-is.Work = 15
+barNumber bar-is.Nothing = 0
+
+-- what is barred has the bar's number, whatever it would be found to be
+pub barred-number : (b : Bar) (j : Judged) → (barNumber b ≡ 0 → ⊥) → numberIn (barred b j) ≡ barNumber b
+barred-number bar-is.Edition j n = refl
+barred-number bar-is.Font j n = refl
+barred-number bar-is.Work j n = refl
+barred-number bar-is.Nothing j n = absurd (n refl)

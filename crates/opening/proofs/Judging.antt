@@ -29,19 +29,19 @@ module _ (l : layouts.Layout) (x : Opened) (s o : List ℕ) where
   by-seal n e = met (found.Seal n) (ap (λ (y : Opened). foundBy l y s) e)
 
   -- any other refusal of `open`
-  pub by-other : OneOf (1 ∷ 2 ∷ 3 ∷ 4 ∷ []) (tagOf opened-type.the-type x) → Met found.Refused o
+  pub by-other : OneOf (1 ∷ 2 ∷ 3 ∷ 4 ∷ []) (tagOf opened-type.the-type x) → Met found.Sizes o
   by-other h = go x refl
     where
       none : {X : Type 0} (y : Opened) → x ≡ y → (OneOf (1 ∷ 2 ∷ 3 ∷ 4 ∷ []) (tagOf opened-type.the-type y) → X) → X
       none y e f = f (subst (λ (z : Opened). OneOf (1 ∷ 2 ∷ 3 ∷ 4 ∷ []) (tagOf opened-type.the-type z)) e h)
 
-      go : (y : Opened) → x ≡ y → Met found.Refused o
+      go : (y : Opened) → x ≡ y → Met found.Sizes o
       go (opened.Done n) e = none (opened.Done n) e (λ g. absurd (⊎-elim (λ i. omega (arith, i)) (⊎-elim (λ i. omega (arith, i)) (⊎-elim (λ i. omega (arith, i)) (λ i. omega (arith, i)))) g))
       go (opened.Seal n) e = none (opened.Seal n) e (λ g. absurd (⊎-elim (λ i. omega (arith, i)) (⊎-elim (λ i. omega (arith, i)) (⊎-elim (λ i. omega (arith, i)) (λ i. omega (arith, i)))) g))
-      go opened.Instance e = met found.Refused (ap (λ (y : Opened). foundBy l y s) e)
-      go opened.Sizes e = met found.Refused (ap (λ (y : Opened). foundBy l y s) e)
-      go opened.TooLong e = met found.Refused (ap (λ (y : Opened). foundBy l y s) e)
-      go opened.NoRoom e = met found.Refused (ap (λ (y : Opened). foundBy l y s) e)
+      go opened.Instance e = met found.Sizes (ap (λ (y : Opened). foundBy l y s) e)
+      go opened.Sizes e = met found.Sizes (ap (λ (y : Opened). foundBy l y s) e)
+      go opened.TooLong e = met found.Sizes (ap (λ (y : Opened). foundBy l y s) e)
+      go opened.NoRoom e = met found.Sizes (ap (λ (y : Opened). foundBy l y s) e)
 
   module _ (n : ℕ) (e : x ≡ opened.Done n) (j : line-judged.Judged) (p : j ≡ layoutRule l s) where
     ruled : (k : line-judged.Judged) → j ≡ k → Met (byRule k n) (lineBy (byRule k n) s o)

@@ -19,14 +19,14 @@ module _ (l : Layout) (key nonce A C T o : List ℕ) where
   met : (x : LineCall) → openLine l key nonce A C T o ≡ x → Met (x .answer) (x .line)
   met x e = (ap (λ (y : LineCall). y .answer) (sym e), ap (λ (y : LineCall). y .line) (sym e))
 
-  pub too-long : longest < length C → Met found.Refused o
+  pub too-long : longest < length C → Met found.Sizes o
   unfolding openLine
-  too-long h = met (lineCall found.Refused [] o) (rw (lt-ltb longest (length C) h))
+  too-long h = met (lineCall found.Sizes [] o) (rw (lt-ltb longest (length C) h))
 
   module _ (h : length C ≤ longest) where
-    pub no-room : length o < length C → Met found.Refused o
+    pub no-room : length o < length C → Met found.Sizes o
     unfolding openLine
-    no-room g = met (lineCall found.Refused [] o) (rw (le-ltb longest (length C) h, lt-ltb (length o) (length C) g))
+    no-room g = met (lineCall found.Sizes [] o) (rw (le-ltb longest (length C) h, lt-ltb (length o) (length C) g))
 
     -- what `open` answered and left, judged
     pub judged : length C ≤ length o → (a : Opened) (w : List ℕ) → a ≡ opening key nonce A C T .answer → w ≡ opening key nonce A C T .out

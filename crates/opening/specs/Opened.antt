@@ -1,5 +1,5 @@
--- What opening a sealed line finds, and what the line buffer then holds (document 01, 'Numbers returned'; orders W2 and W7): nothing where a size is
--- wrong, then 5, 9, 13, 17, else the line. Assumes nothing: these are definitions.
+-- What opening a sealed line finds, and what the line buffer then holds (document 01, 'Numbers returned'; orders W2 and W7): 2 where a size is none
+-- that a frame's has, then 5, 9, 13, 17, else the line. Assumes nothing: these are definitions.
 use mathlib.Core.Bool.{cond}
 use mathlib.Core.List.{List, []}
 use Prim.Native.Nat.{ℕ}
@@ -28,15 +28,15 @@ byRule Accepted n = found.Line n
 -- by what `open` answers, of the bytes that it left
 abbrev pub foundBy : layouts.Layout → Opened → List ℕ → Found
 foundBy l (opened.Done n) s = byRule (layoutRule l s) n
-foundBy l opened.Instance s = found.Refused
-foundBy l opened.Sizes s = found.Refused
-foundBy l opened.TooLong s = found.Refused
-foundBy l opened.NoRoom s = found.Refused
+foundBy l opened.Instance s = found.Sizes
+foundBy l opened.Sizes s = found.Sizes
+foundBy l opened.TooLong s = found.Sizes
+foundBy l opened.NoRoom s = found.Sizes
 foundBy l (opened.Seal n) s = found.Seal n
 
 -- a line that is given goes over the buffer's start; nothing else is written
 abbrev pub lineBy : Found → List ℕ → List ℕ → List ℕ
-lineBy found.Refused s o = o
+lineBy found.Sizes s o = o
 lineBy (found.Seal n) s o = o
 lineBy (found.Unlisted n) s o = o
 lineBy (found.Trade n) s o = o
@@ -60,6 +60,15 @@ textIn w C = take (length C) (w .out)
 
 unfoldable pub openLine : layouts.Layout → List ℕ → List ℕ → List ℕ → List ℕ → List ℕ → List ℕ → LineCall
 openLine l key nonce A C T o =
-    cond (ltb longest (length C)) (lineCall found.Refused [] o)
-    (cond (ltb (length o) (length C)) (lineCall found.Refused [] o)
+    cond (ltb longest (length C)) (lineCall found.Sizes [] o)
+    (cond (ltb (length o) (length C)) (lineCall found.Sizes [] o)
     (lineCall (foundBy l (opening key nonce A C T .answer) (textIn (opening key nonce A C T) C)) (textIn (opening key nonce A C T) C) o))
+
+-- the number of each answer
+abbrev pub foundNumber : Found → ℕ
+foundNumber found.Sizes = 2
+foundNumber (found.Seal n) = 5
+foundNumber (found.Unlisted n) = 9
+foundNumber (found.Trade n) = 13
+foundNumber (found.Layout n) = 17
+foundNumber (found.Line n) = 0

@@ -11,10 +11,10 @@ use layout::Layout;
 use layout::judge_line;
 use lists::copy;
 
-// What opening a sealed line finds; all but Refused with the calls of the permutation made.
+// What opening a sealed line finds; all but Sizes with the calls of the permutation made.
 pub enum Found {
-    // Nothing is opened: key, nonce or seal are not of their sizes, something is too long, or the buffer has no room for the line.
-    Refused,
+    // Nothing is opened: key, nonce, associated data, ciphertext, seal or buffer is not of a size that a frame's has.
+    Sizes,
     // The seal is not the one worked out.
     Seal(usize),
     // The line holds a byte that is not listed.
@@ -52,7 +52,7 @@ fn judge_opened(opened: Opened, layout: Layout, found: &[u8], line: &mut [u8]) -
                 }
             }
         }
-        _ => return Found::Refused,
+        _ => return Found::Sizes,
     }
 }
 
@@ -70,10 +70,10 @@ pub fn open_line(
     ensures line { λ _. ⌜ now (line .exit) ≡ openLine layout (now (key .entry)) (now (nonce .entry)) (now (assoc .entry)) (now (cipher .entry)) (now (seal .entry)) (now (line .entry)) .line ⌝ }
 {
     if cipher.len() > LONGEST_LINE {
-        return Found::Refused;
+        return Found::Sizes;
     }
     if line.len() < cipher.len() {
-        return Found::Refused;
+        return Found::Sizes;
     }
     let mut text = [0u8; LONGEST_LINE];
     let opened = open(INSTANCE, key, nonce, assoc, cipher, seal, &mut text);

@@ -1,5 +1,6 @@
 -- What `read` answers, with its places, and what the lent line buffer then holds: document 01's refusals of a call in its order (2, 3, 4, 10), one line
--- each, then the end of the stream or the next stretch. Assumes nothing: these are definitions.
+-- each, then the end of the stream or the next stretch. Assumes nothing.
+use mathlib.Core.Path.{_≡_, refl}
 use mathlib.Core.Bool.{Bool, false, not, cond}
 use mathlib.Core.List.{List}
 use Prim.Native.Nat.{ℕ}
@@ -18,6 +19,7 @@ use Rattle.reader.specs.declared.Verdict.{Verdict}
 use Rattle.reader.specs.declared.Answer.the-variants as answer-is
 use Rattle.opening.specs.declared.Found as opened-line
 use Rattle.opening.specs.declared.Found.the-variants as found-is
+use Rattle.opening.specs.Opened.{foundNumber}
 use Rattle.judging.specs.Judged.{Label, Judged, shape, stuffing, font, work, seal, unlisted, trade, layout, line, labelIn}
 use Rattle.judging.specs.Readings.{ends}
 use Rattle.judging.specs.Judging.{judge}
@@ -84,7 +86,7 @@ verdictOf j = record { answer = answerOf j; edition = labelIn j .edition; job = 
 
 -- the answer for what opening a sealed line of n bytes finds; sizes are right where it is called, so it is never refused
 abbrev pub verdictOn : Label → ℕ → opened-line.Found → Verdict
-verdictOn k n found-is.Refused = plain answer-is.Shape
+verdictOn k n found-is.Sizes = plain answer-is.Shape
 verdictOn k n (found-is.Seal calls) = plain (answer-is.Seal calls)
 verdictOn k n (found-is.Unlisted calls) = plain (answer-is.Unlisted calls)
 verdictOn k n (found-is.Trade calls) = plain (answer-is.Trade calls)
@@ -189,3 +191,12 @@ givenOf (answer-is.Unlisted n) = 0
 givenOf (answer-is.Trade n) = 0
 givenOf (answer-is.Layout n) = 0
 givenOf (answer-is.Line k n) = 1
+
+-- what opening a sealed line finds has its number
+pub verdict-number : (k : Label) (n : ℕ) (f : opened-line.Found) → (foundNumber f ≡ foundNumber found-is.Sizes → ⊥) → numberOf (verdictOn k n f .answer) ≡ foundNumber f
+verdict-number k n found-is.Sizes h = absurd (h refl)
+verdict-number k n (found-is.Seal calls) h = refl
+verdict-number k n (found-is.Unlisted calls) h = refl
+verdict-number k n (found-is.Trade calls) h = refl
+verdict-number k n (found-is.Layout calls) h = refl
+verdict-number k n (found-is.Line calls) h = refl

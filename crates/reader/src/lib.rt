@@ -155,7 +155,7 @@ fn verdict_on(found: Found, edition: usize, job: usize, length: usize) -> Verdic
 {
     match found {
         // Never: sizes, lengths and room are right here.
-        Found::Refused => return refused(Answer::Shape),
+        Found::Sizes => return refused(Answer::Shape),
         Found::Seal(calls) => return refused(Answer::Seal(calls)),
         Found::Unlisted(calls) => return refused(Answer::Unlisted(calls)),
         Found::Trade(calls) => return refused(Answer::Trade(calls)),
