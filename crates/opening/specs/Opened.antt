@@ -50,19 +50,24 @@ pub record LineCall : Type 0 where
 abbrev pub lineCall : Found → List ℕ → List ℕ → LineCall
 lineCall f s o = record { answer = f; line = lineBy f s o }
 
--- what `open` makes of it, in a buffer for the longest line
-abbrev pub opening : List ℕ → List ℕ → List ℕ → List ℕ → List ℕ → OpenCall
-opening key nonce A C T = openNamed (named FIRST) key nonce A C T (replicate longest 0)
-
 -- the text found, as long as the ciphertext
 abbrev pub textIn : OpenCall → List ℕ → List ℕ
 textIn w C = take (length C) (w .out)
 
+-- what `open` answers and leaves, judged
+abbrev pub lineFrom : layouts.Layout → List ℕ → List ℕ → OpenCall → LineCall
+lineFrom l C o w = lineCall (foundBy l (w .answer) (textIn w C)) (textIn w C) o
+
+-- opened into a buffer beside that of the line
+unfoldable pub openBeside : layouts.Layout → List ℕ → List ℕ → List ℕ → List ℕ → List ℕ → List ℕ → List ℕ → LineCall
+openBeside l key nonce A C T text o = lineFrom l C o (openNamed (named FIRST) key nonce A C T text)
+
+-- which is as long as the longest line
 unfoldable pub openLine : layouts.Layout → List ℕ → List ℕ → List ℕ → List ℕ → List ℕ → List ℕ → LineCall
 openLine l key nonce A C T o =
     cond (ltb longest (length C)) (lineCall found.Sizes [] o)
     (cond (ltb (length o) (length C)) (lineCall found.Sizes [] o)
-    (lineCall (foundBy l (opening key nonce A C T .answer) (textIn (opening key nonce A C T) C)) (textIn (opening key nonce A C T) C) o))
+    (openBeside l key nonce A C T (replicate longest 0) o))
 
 -- the number of each answer
 abbrev pub foundNumber : Found → ℕ

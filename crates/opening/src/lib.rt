@@ -1,8 +1,10 @@
 // Opening a sealed line (document 01, 'A frame and a stream'; orders W2 and W7): it is opened under the instance that frames are sealed by, and
 // judged by the rule of a line and the layout. The promise cites specs/Opened.antt.
 ghost use mathlib.Core.Path.{_≡_};
+ghost use Prim.Native.Nat.{_≤_};
+ghost use lib.ListN.{length};
 ghost use Rattle.lists.specs.Buffers.{copied};
-ghost use Rattle.opening.specs.Opened.{foundBy, lineBy, openLine};
+ghost use Rattle.opening.specs.Opened.{foundBy, lineBy, openBeside, openLine};
 use body::LONGEST_LINE;
 use frame::INSTANCE;
 use ingage::Opened;
@@ -56,6 +58,25 @@ fn judge_opened(opened: Opened, layout: Layout, found: &[u8], line: &mut [u8]) -
     }
 }
 
+// Opens a sealed line into text, which has room for it, and judges it.
+fn open_beside(
+    layout: Layout,
+    key: &[u8],
+    nonce: &[u8],
+    assoc: &[u8],
+    cipher: &[u8],
+    seal: &[u8],
+    text: &mut [u8],
+    line: &mut [u8],
+) -> Found
+    requires { ⌜ length (now cipher) ≤ length (now text) ⌝ }
+    ensures answer { λ r. ⌜ r ≡ openBeside layout (now (key .entry)) (now (nonce .entry)) (now (assoc .entry)) (now (cipher .entry)) (now (seal .entry)) (now (text .entry)) (now (line .entry)) .answer ⌝ }
+    ensures line { λ _. ⌜ now (line .exit) ≡ openBeside layout (now (key .entry)) (now (nonce .entry)) (now (assoc .entry)) (now (cipher .entry)) (now (seal .entry)) (now (text .entry)) (now (line .entry)) .line ⌝ }
+{
+    let opened = open(INSTANCE, key, nonce, assoc, cipher, seal, text);
+    judge_opened(opened, layout, &text[0..cipher.len()], line)
+}
+
 // Opens a sealed line and judges it. It is opened into a buffer beside the caller's, which is written only where a line is given.
 pub fn open_line(
     layout: Layout,
@@ -76,6 +97,5 @@ pub fn open_line(
         return Found::Sizes;
     }
     let mut text = [0u8; LONGEST_LINE];
-    let opened = open(INSTANCE, key, nonce, assoc, cipher, seal, &mut text);
-    judge_opened(opened, layout, &text[0..cipher.len()], line)
+    open_beside(layout, key, nonce, assoc, cipher, seal, &mut text, line)
 }

@@ -16,14 +16,14 @@ use Rattle.layout.specs.declared.Judged.the-variants as found-to-be
 use Rattle.layout.specs.declared.Layout.{Layout}
 use Rattle.layout.specs.Layouts.{layoutRule}
 use Rattle.ingage.specs.declared.Opened.the-variants as opened
-use Rattle.cipher.specs.Instances.{first, first-fits}
+use Rattle.cipher.specs.Instances.{named, FIRST, first, first-fits}
 use Rattle.cipher.specs.Cipher.{Work, decrypted}
 use Rattle.cipher.specs.Results.{length-decrypted}
-use Rattle.ingage.specs.Answers.{OpenCall}
+use Rattle.ingage.specs.Answers.{OpenCall, openNamed}
 use Rattle.ingage.specs.Naming.{open-first}
 use Rattle.ingage.specs.Exactly.{Within, opened-within}
 use Rattle.opening.specs.declared.Found.the-variants as found-is
-use Rattle.opening.specs.Opened.{byRule, foundBy, LineCall, lineCall, opening, textIn, openLine}
+use Rattle.opening.specs.Opened.{byRule, foundBy, LineCall, lineCall, lineFrom, textIn, openBeside, openLine}
 use Rattle.judging.specs.Judged.{Label, Judged, seal, unlisted, trade, layout, line}
 use Rattle.judging.specs.Judging as judging
 use Rattle.judging.specs.Judging.{judgeSealed}
@@ -43,17 +43,14 @@ module _ (f : Layout) (k : Label) (key nonce A C T o : List ℕ) (w : Within fir
       cond (not t) (record { answer = opened.Seal (work .calls); out = cleared (length C) (replicate longest 0) })
       (record { answer = opened.Done (work .calls); out = over (work .text) (replicate longest 0) })
 
-  is : opening key nonce A C T ≡ either (same (work .seal) T)
+  is : openNamed (named FIRST) key nonce A C T (replicate longest 0) ≡ either (same (work .seal) T)
   is = open-first key nonce A C T (replicate longest 0) ∙ opened-within first key nonce A C T (replicate longest 0) w
 
-  abbrev lineFrom : OpenCall → LineCall
-  lineFrom x = lineCall (foundBy f (x .answer) (textIn x C)) (textIn x C) o
-
-  opens : (t : Bool) → same (work .seal) T ≡ t → found ≡ lineFrom (either t)
-  unfolding openLine
+  opens : (t : Bool) → same (work .seal) T ≡ t → found ≡ lineFrom f C o (either t)
+  unfolding openLine openBeside
   opens t p =
       rw (le-ltb longest (length C) (w .room), le-ltb (length o) (length C) (omega (arith, w .room, h)))
-      (ap lineFrom is ∙ ap (λ (b : Bool). lineFrom (either b)) p)
+      (ap (lineFrom f C o) is ∙ ap (λ (b : Bool). lineFrom f C o (either b)) p)
 
   long : length (work .text) ≡ length C
   long = length-decrypted first first-fits key nonce A (w .key-size) (w .nonce-size) C
