@@ -67,6 +67,11 @@ pub const EDITION_TWO: usize = 2;
 
 pub const BOTH_EDITIONS: usize = 3;
 
+// What is reported for edition and job where no line is given (order W6).
+const NO_EDITION: usize = 0;
+
+const NO_JOB: usize = 0;
+
 // What one read call answers: the place of the stretch's first byte, that of its closing mark, where the next call starts, what is found there,
 // and the edition and the job of a line that is given; both are 0 unless one is.
 pub struct Reading {
@@ -144,8 +149,8 @@ fn refused(answer: Answer) -> Verdict
 {
     Verdict {
         answer,
-        edition: 0,
-        job: 0,
+        edition: NO_EDITION,
+        job: NO_JOB,
     }
 }
 
@@ -317,8 +322,8 @@ fn at(place: usize, answer: Answer) -> Reading
         first: place,
         closing: place,
         answer,
-        edition: 0,
-        job: 0,
+        edition: NO_EDITION,
+        job: NO_JOB,
     }
 }
 
