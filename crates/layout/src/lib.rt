@@ -1,14 +1,14 @@
-// The layouts of a line (order W7): under A it has ten account digits, under B twelve. A line is judged by the rule of a line, which stands in
-// line, and then by the layout named. The promises cite specs/Layouts.antt.
+// The layouts of a line (order W7): under A it has ten account digits, under B twelve. A line is judged by the rule of a line, in
+// trade, and then by the layout named. The promises cite specs/Layouts.antt.
 ghost use mathlib.Core.Path.{_≡_};
 ghost use Prim.Native.Nat.{_≤_};
 ghost use Rattle.line.specs.Lines.{isDigit, allDigits};
 ghost use Rattle.layout.specs.Layouts.{digitsA, digitsB, isLaid, hasLayout, layoutRule, layoutOf};
-use line::BETWEEN;
 use line::FIRST_DIGIT;
 use line::LAST_DIGIT;
 use line::ON_US;
 use line::TRANSIT;
+use trade::BETWEEN;
 
 // The account digits of each layout (order W7).
 const DIGITS_A: usize = 10;
@@ -116,7 +116,7 @@ fn has_layout(layout: Layout, line: &[u8]) -> bool
 pub fn judge_line(layout: Layout, line: &[u8]) -> Judged
     ensures { λ r. ⌜ r ≡ layoutRule layout (now (line .entry)) ⌝ }
 {
-    match line::judge_line(line) {
+    match trade::judge_line(line) {
         line::Judged::Unlisted => return Judged::Unlisted,
         line::Judged::Trade => return Judged::Trade,
         line::Judged::Accepted => {}

@@ -2,4 +2,3 @@ pub mod Lines
 pub mod Bytewise
 pub mod Trade
 pub mod Rule
-pub mod Passing

@@ -8,12 +8,12 @@ use lib.Dec.{eqb, ltb}
 use lib.ListN.{length}
 use borrow.Author.Tests.{eqb-true, eqb-false, eq-eqb, ne-eqb, ltb-false}
 use Rattle.lists.specs.Never.{never}
 use Rattle.line.specs.declared.Judged.{Judged}
 use Rattle.line.specs.declared.Judged.the-variants.{Accepted, Unlisted, Trade}
-use Rattle.line.specs.declared.Met.{Met}
-use Rattle.line.specs.declared.Met.the-variants.{Nothing, Digit, Inside, Closed, Broken}
+use Rattle.trade.specs.declared.Met.{Met}
+use Rattle.trade.specs.declared.Met.the-variants.{Nothing, Digit, Inside, Closed, Broken}
 use Rattle.line.specs.Lines.{isListed, isDigit, isTransit, nine, allListed, anyDigit, allDigits, transits, before, transitsRight, isTrade, lineRule}
 use Rattle.line.specs.Bytewise.{transits-more, before-none, behind-all, transits-same, before-more, behind-same, any-found, all-same, any-same, all-broken, digit-apart}
 
 -- a transit symbol opens the nine digits or closes them; a third is one too many
 abbrev pub atTransit : Met → Met

@@ -5,11 +5,11 @@ use Prim.Native.Nat.{_-_}
 use lib.ListN.{length, drop}
 use borrow.Author.Tests.{not-true, not-false}
 use borrow.Author.Needs.{needs}
 use Rattle.line.specs.Lines.{lineRule}
-use Rattle.line.specs.Passing.{passed, pass-rule}
-use Rattle.line.proofs.Steps.{pass-on, pass-stop, pass-end}
-use Rattle.line.proofs.judge_line.Statement.{statement}
-use Rattle.line.proofs.judge_line.Tie as tie
+use Rattle.trade.specs.Passing.{passed, pass-rule}
+use Rattle.trade.proofs.Steps.{pass-on, pass-stop, pass-end}
+use Rattle.trade.proofs.judge_line.Statement.{statement}
+use Rattle.trade.proofs.judge_line.Tie as tie
 
 abbrev Inv-loop : tie.InvT-loop
 Inv-loop line met₀ i₀ met i = passed met (drop i line) ≡ lineRule line

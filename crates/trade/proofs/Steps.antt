@@ -7,12 +7,12 @@ use Prim.Native.Nat.{ℕ, _+_, _≤_, _<_}
 use lib.ListN.{length, getD, drop, drop-of-length-le}
 use borrow.Author.Tests.{lt-ltb, le-ltb, ne-eqb}
 use Rattle.lists.specs.Walk.{at}
 use Rattle.line.specs.declared.Judged.the-variants.{Unlisted}
-use Rattle.line.specs.declared.Met.{Met}
-use Rattle.line.specs.declared.Met.the-variants.{Inside, Broken}
+use Rattle.trade.specs.declared.Met.{Met}
+use Rattle.trade.specs.declared.Met.the-variants.{Inside, Broken}
 use Rattle.line.specs.Lines.{firstDigit, lastDigit, transit, isListed, isTransit, nine}
 use Rattle.line.specs.Bytewise.{digit-is, digit-not, digit-apart, transit-apart}
-use Rattle.line.specs.Passing.{atTransit, atDigit, atOther, passing, judgedBy, passed}
+use Rattle.trade.specs.Passing.{atTransit, atDigit, atOther, passing, judgedBy, passed}
 
 module _ (m : Met) (s : List ℕ) (i : ℕ) where
   pub pass-on : i < length s → isListed (getD s i 0) ≡ true → passed m (drop i s) ≡ passed (passing m (getD s i 0)) (drop (i + 1) s)

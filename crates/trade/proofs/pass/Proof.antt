@@ -1,11 +1,11 @@
 -- `pass` meets its promise: each arm is a kind of byte. Assumes nothing.
 use mathlib.Core.Path.{_∙_}
 use mathlib.Core.Logic.{⊎-elim}
-use Rattle.line.proofs.Steps.{at-transit, at-digit, at-other}
+use Rattle.trade.proofs.Steps.{at-transit, at-digit, at-other}
 use native.Mathlib.Omega.{arith}
 use borrow.Author.Needs.{needs}
-use Rattle.line.proofs.pass.Statement.{statement}
-use Rattle.line.proofs.pass.Tie as tie
+use Rattle.trade.proofs.pass.Statement.{statement}
+use Rattle.trade.proofs.pass.Tie as tie
 
 at-transit-requires : tie.Need-at-transit-requires
 at-transit-requires c κs = search needs
