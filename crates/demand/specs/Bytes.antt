@@ -1,4 +1,4 @@
--- Bytes by their type: what a `&[u8]` that is passed holds is below 256. `given-is-written` and `open-exactly` (ingage/specs/Exactly.antt) ask it
+-- Bytes by their type: what a `&[u8]` that is passed holds is below 256. `given-is-written` and `open-exactly` (sealing/specs/Exactly.antt) ask it
 -- of lists of numbers, which do not say it. Whoever calls `read` or `open` has it of the arguments: it follows from what there is on entry by the
 -- call's signature alone, and nothing of that is lost. Assumes nothing.
 use mathlib.Core.List.{List, [], _∷_}
@@ -22,7 +22,7 @@ use denote.RattleType.{owns}
 use denote.Slice.{sliceVal, ShrSlice, MutSlice}
 use denote.Triple.Entry.{Args, Vals, onEntry}
 use Rattle.lists.specs.Below.{Below}
-use Rattle.ingage.specs.Exactly.{Bytes}
+use Rattle.sealing.specs.Exactly.{Bytes}
 use Rattle.ingage.proofs.«open» as opens
 use Rattle.reader.proofs.Asked as Q
 use Rattle.reader.proofs.read as reads

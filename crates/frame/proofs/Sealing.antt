@@ -6,11 +6,11 @@ use native.Mathlib.Omega.{arith}
 use lib.ListN.{length, take, drop}
 use Rattle.lists.specs.Buffers.{over}
 use Rattle.lists.specs.Over.{take-over}
-use Rattle.ingage.specs.declared.Sealed.the-variants as sealed-is
+use Rattle.sealing.specs.declared.Sealed.the-variants as sealed-is
 use Rattle.cipher.specs.Instances.{named, FIRST, first}
-use Rattle.ingage.specs.Answers.{SealCall, sealCall, sealNamed}
-use Rattle.ingage.specs.Naming.{seal-first}
-use Rattle.ingage.specs.Exactly.{sealed-within}
+use Rattle.sealing.specs.Answers.{SealCall, sealCall, sealNamed}
+use Rattle.sealing.specs.Naming.{seal-first}
+use Rattle.sealing.specs.Exactly.{sealed-within}
 use Rattle.body.specs.declared.Edition.the-variants.{Two}
 use Rattle.body.specs.Fields.{Own, associated}
 use Rattle.body.specs.Lengths.{associatedLength, longestBody, job-field-most, length-associated}

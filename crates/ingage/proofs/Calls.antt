@@ -2,30 +2,32 @@
 use mathlib.Core.Path.{_≡_, refl, sym, ap, _∙_}
 use mathlib.Core.Bool.{Bool, true, false, cond}
 use mathlib.Core.List.{List, append-nil}
-use Prim.Native.Nat.{ℕ, _+_, _-_, _/_, _≤_, _<_}
+use Prim.Native.Nat.{ℕ, _+_, _-_, _≤_, _<_}
 use native.Mathlib.Nat.{min-eq-left}
 use native.Mathlib.Omega.{arith}
-use lib.Dec.{eqb, ltb}
+use lib.Dec.{eqb}
 use lib.ListN.{length, take, drop, length-replicate, drop-of-length-le}
 use lib.Seq.{take-all, drop-at, length-take-le, take-take, take-add}
-use borrow.Author.Tests.{eqb-true, ltb-false, lt-ltb}
+use borrow.Author.Tests.{eqb-true, lt-ltb}
 use Rattle.lists.specs.Buffers.{over, copied, cleared, same}
 use Rattle.lists.specs.Over.{over-length}
 use Rattle.gage.specs.Permutation.{LARGEST}
 use Rattle.sponge.specs.Padding.{blockCount}
 use Rattle.sponge.specs.Absorbing.{Run, from}
 use Rattle.cipher.specs.declared.Instance.{Instance}
-use Rattle.ingage.specs.declared.Sealed.the-variants as sealed
-use Rattle.ingage.specs.declared.Opened.the-variants as opened
+use Rattle.sealing.specs.declared.Sealed.the-variants as sealed
+use Rattle.sealing.specs.declared.Opened.the-variants as opened
 use Rattle.cipher.specs.declared.Named.{Named}
 use Rattle.cipher.specs.declared.Named.the-variants.{Unknown, Known}
 use Rattle.cipher.specs.Instances.{Fitting, named, named-fits}
 use Rattle.cipher.specs.Cipher.{begun, encrypting, decrypting, finished, sealOf, encrypted, decrypted, accepted}
-use Rattle.ingage.specs.Answers.{LONGEST-ASSOCIATED, LONGEST-TEXT, sized, tooLong, SealCall, sealCall, sealNamed, OpenCall, openCall, openNamed}
+use Rattle.sealing.specs.Answers.{sized, tooLong, callsOf, SealCall, sealCall, sealNamed, OpenCall, openCall, openNamed}
 use Rattle.cipher.specs.Runs.{encrypting-from, decrypting-from}
-use Rattle.cipher.specs.Results.{seal-calls, open-calls, length-seal, length-decrypted}
-use Rattle.ingage.specs.Naming.{seal-unnamed, open-unnamed, seal-named, open-named}
-use Rattle.ingage.specs.Exactly.{Within, sealed-within, opened-within}
+use Rattle.cipher.specs.Results.{length-seal, length-decrypted}
+use Rattle.sealing.specs.Naming.{seal-unnamed, open-unnamed, seal-named, open-named}
+use Rattle.sealing.specs.Exactly.{Within, not-too-long, seal-counted, open-counted, sealed-within, opened-within}
+use Rattle.steps.specs.Arrays.{finishOf}
+use Rattle.steps.specs.First.{finish-first}
 
 never : {P : Type 0} → _≡_ {A = Bool} true false → P
 never e = absurd (let z : _≡_ {A = ℕ} 0 1 = cc e in omega arith)
@@ -34,10 +36,6 @@ all-three : (a b c : Bool) → cond a (cond b c false) false ≡ true → (a ≡
 all-three true true c e = (refl, refl, e)
 all-three true false c e = never (sym e)
 all-three false b c e = never (sym e)
-
-neither : (a b : Bool) → cond a true b ≡ false → (a ≡ false) × (b ≡ false)
-neither true b e = never e
-neither false b e = (refl, e)
 
 -- a promise in parts
 pub seal-met : {c x : SealCall} → c ≡ x → (x .answer ≡ c .answer) × ((x .out ≡ c .out) × (x .seal ≡ c .seal))
@@ -79,16 +77,16 @@ module _ (z : Instance) (key nonce A text out seal : List ℕ) where
 
       -- within the sizes and with room
       pub within : length text ≤ length out → Within z key nonce A text seal out
-      unfolding sized tooLong
+      unfolding sized
       within room =
           let s = all-three (eqb (length key) (z .key)) (eqb (length nonce) (z .nonce)) (eqb (length seal) (z .seal)) right in
-          let l = neither (ltb LONGEST-ASSOCIATED (length A)) (ltb LONGEST-TEXT (length text)) short in
+          let l = not-too-long (length A) (length text) short in
           record {
             key-size = eqb-true (length key) (z .key) (s .0);
             nonce-size = eqb-true (length nonce) (z .nonce) (s .1);
             seal-size = eqb-true (length seal) (z .seal) (s .2);
-            associated = ltb-false LONGEST-ASSOCIATED (length A) (l .0);
-            short = ltb-false LONGEST-TEXT (length text) (l .1);
+            associated = l .0;
+            short = l .1;
             room = room;
           }
 
@@ -133,37 +131,38 @@ module _ (z : Instance) (fits : Fitting z) (key nonce A text seal out : List ℕ
   -- sealing, step after step
   pub seal-done : (e f T out′ seal′ : List ℕ) (count : ℕ) → take n e ≡ encrypting R (from (take n s)) text k .run .state
       → out′ ≡ over (take (length text) (encrypting R (from (take n s)) text k .text)) out
-      → take n f ≡ finished (from (take n e)) .state → T ≡ sealOf z (take n f) → seal′ ≡ copied T seal
-      → count ≡ 1 + (length A / R + 1) + (length text / R + 1) + 1
+      → length e ≡ LARGEST → f ≡ finishOf n e → T ≡ sealOf z (take n f) → seal′ ≡ copied T seal → count ≡ callsOf z (length A) (length text)
       → sealCall z key nonce A text out seal ≡ record { answer = sealed.Done count; out = out′; seal = seal′ }
   unfolding encrypted finished
-  seal-done e f T out′ seal′ count state write end place put calls =
+  seal-done e f T out′ seal′ count state write long end place put calls =
       let same = encrypting-from R start text k in
       let last : take n e ≡ encrypting R start text k .run .state = state ∙ rw begins (same .0) in
       let t : out′ ≡ over (encrypted z key nonce A text .text) out = write ∙ rw (begins, same .1) in
-      let tag : T ≡ encrypted z key nonce A text .seal = place ∙ ap (sealOf z) (end ∙ rw last) in
+      let done : take n f ≡ finished (from (take n e)) .state = rw end (finish-first z e fits long) in
+      let tag : T ≡ encrypted z key nonce A text .seal = place ∙ ap (sealOf z) (done ∙ rw last) in
       let p : seal′ ≡ encrypted z key nonce A text .seal =
       put ∙ rw tag (filled (encrypted z key nonce A text .seal) seal (length-seal z fits key nonce A (w .key-size) (w .nonce-size) text ∙ sym (w .seal-size))) in
-      let c : count ≡ encrypted z key nonce A text .calls = calls ∙ sym (seal-calls z key nonce A text) in
+      let c : count ≡ encrypted z key nonce A text .calls = calls ∙ seal-counted z key nonce A text seal out w (fits .moves) in
       sealed-within z key nonce A text seal out w ∙ rw (c, t, p)
 
   -- opening, step after step
   module _ (d f T out′ : List ℕ) (count : ℕ) (state : take n d ≡ decrypting R (from (take n s)) text k .run .state)
       (write : out′ ≡ over (decrypting R (from (take n s)) text k .text) out)
-      (end : take n f ≡ finished (from (take n d)) .state) (place : T ≡ sealOf z (take n f)) (calls : count ≡ 1 + (length A / R + 1) + (length text / R + 1) + 1) where
+      (long : length d ≡ LARGEST) (end : f ≡ finishOf n d) (place : T ≡ sealOf z (take n f)) (calls : count ≡ callsOf z (length A) (length text)) where
     -- the seal worked out, the message and the count
     worked-out : T ≡ decrypted z key nonce A text .seal
     unfolding decrypted finished
     worked-out =
         let last : take n d ≡ decrypting R start text k .run .state = state ∙ rw begins (decrypting-from R start text k .0) in
-        place ∙ ap (sealOf z) (end ∙ rw last)
+        let done : take n f ≡ finished (from (take n d)) .state = rw end (finish-first z d fits long) in
+        place ∙ ap (sealOf z) (done ∙ rw last)
 
     given : out′ ≡ over (decrypted z key nonce A text .text) out
     unfolding decrypted
     given = write ∙ rw (begins, decrypting-from R start text k .1)
 
     counted : count ≡ decrypted z key nonce A text .calls
-    counted = calls ∙ sym (open-calls z key nonce A text)
+    counted = calls ∙ open-counted z key nonce A text seal out w (fits .moves)
 
     pub open-done : accepted T seal ≡ true
         → openCall z key nonce A text seal out ≡ record { answer = opened.Done count; out = out′ }

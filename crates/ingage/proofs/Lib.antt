@@ -1,4 +1,3 @@
-pub mod Arrays
 pub mod Pads
 pub mod Writing
 pub mod Passing

@@ -16,7 +16,7 @@ use Rattle.cipher.specs.declared.Instance.{Instance}
 use Rattle.cipher.specs.Instances.{Fitting}
 use Rattle.cipher.specs.Cipher.{piece, associatedBlock}
 use Rattle.cipher.specs.Pieces.{length-piece, cut}
-use Rattle.ingage.specs.Ways.{markedBlock}
+use Rattle.steps.specs.Arrays.{markedBlock}
 
 -- the part of a text that the code takes for piece i
 pub piece-part : (R : ℕ) (m : List ℕ) (i end : ℕ) → i * R ≤ length m → end ≡ min (i * R + R) (length m) → take (end - i * R) (drop (i * R) m) ≡ piece R m i

@@ -18,9 +18,11 @@ use Rattle.sponge.specs.Xor.{xored-front}
 use Rattle.cipher.specs.declared.Instance.{Instance}
 use Rattle.cipher.specs.Instances.{Fitting}
 use Rattle.cipher.specs.Cipher.{AFTER-ASSOCIATED, half, lastXored, absorbing, absorbed, encrypting, piece, masked, decrypting}
-use Rattle.ingage.specs.declared.steps.Way.{Way}
-use Rattle.ingage.specs.declared.steps.Way.the-variants.{Absorb, Encrypt, Decrypt}
-use Rattle.ingage.specs.Ways.{markedBlock, pieceBlock, pieceText, given, flow}
+use Rattle.ingage.specs.declared.texts.Way.{Way}
+use Rattle.ingage.specs.declared.texts.Way.the-variants.{Absorb, Encrypt, Decrypt}
+use Rattle.ingage.specs.Ways.{pieceBlock, pieceText, given, flow}
+use Rattle.steps.specs.Arrays.{lastOf, markedBlock}
+use Rattle.steps.specs.First.{last-first}
 use Rattle.cipher.specs.Masking.{masked-take, length-masked}
 use Rattle.cipher.specs.Pieces.{piece-starts, length-piece}
 use Rattle.cipher.specs.Runs.{length-encrypting, length-decrypting}
@@ -267,7 +269,12 @@ lent w at end a b m out h k g e f =
     }
 
 -- the associated data whole, and the constant after it
-pub absorbed-all : (z : Instance) (A s r r′ : List ℕ) → take (z .state) r ≡ flow Absorb z (from (take (z .state) s)) A (blockCount (z .rate) A) .run .state
-    → take (z .state) r′ ≡ lastXored AFTER-ASSOCIATED (take (z .state) r) → take (z .state) r′ ≡ absorbed z (from (take (z .state) s)) A .state
+pub absorbed-all : (z : Instance) (A s r r′ : List ℕ) → Fitting z → length r ≡ LARGEST
+    → take (z .state) r ≡ flow Absorb z (from (take (z .state) s)) A (blockCount (z .rate) A) .run .state
+    → r′ ≡ lastOf AFTER-ASSOCIATED (z .state) r → take (z .state) r′ ≡ absorbed z (from (take (z .state) s)) A .state
 unfolding absorbed
-absorbed-all z A s r r′ e f = f ∙ ap (lastXored AFTER-ASSOCIATED) e
+absorbed-all z A s r r′ fits l e f =
+    let m = fits .moves in
+    let d = fits .ends in
+    let h = fits .held in
+    ap (λ (x : List ℕ). take (z .state) x) f ∙ last-first AFTER-ASSOCIATED (z .state) r (omega arith) (omega arith) ∙ ap (lastXored AFTER-ASSOCIATED) e

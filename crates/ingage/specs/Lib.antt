@@ -1,4 +1,1 @@
-pub mod Answers
-pub mod Naming
 pub mod Ways
-pub mod Exactly

@@ -1,20 +1,15 @@
--- What the one loop over the blocks of a text (src/steps.rt) works out, by what the text is passed for: the steps of the crate cipher's
+-- What the one loop over the blocks of a text (src/texts.rt) works out, by what the text is passed for: the steps of the crate cipher's
 -- definitions, each block as its piece of the text. Assumes nothing: these are definitions.
 use Prim.Native.Nat.{ℕ}
-use mathlib.Core.Bool.{cond}
 use mathlib.Core.List.{List, []}
-use lib.Dec.{ltb}
 use lib.ListN.{length, take}
 use Rattle.sponge.specs.Padding.{lastBlock}
 use Rattle.sponge.specs.Absorbing.{Run}
 use Rattle.cipher.specs.declared.Instance.{Instance}
-use Rattle.cipher.specs.Cipher.{LAST-BLOCK, lastXored, absorbing, Flow, encrypting, masked, decrypting}
-use Rattle.ingage.specs.declared.steps.Way.{Way}
-use Rattle.ingage.specs.declared.steps.Way.the-variants.{Absorb, Encrypt, Decrypt}
-
--- the block of R bytes of a piece p of the associated data: the last, which alone is shorter than a block, has its last bit set
-unfoldable pub markedBlock : ℕ → List ℕ → List ℕ
-markedBlock R p = cond (ltb (length p) R) (lastXored LAST-BLOCK (take R (lastBlock p))) (take R (lastBlock p))
+use Rattle.cipher.specs.Cipher.{absorbing, Flow, encrypting, masked, decrypting}
+use Rattle.steps.specs.Arrays.{markedBlock}
+use Rattle.ingage.specs.declared.texts.Way.{Way}
+use Rattle.ingage.specs.declared.texts.Way.the-variants.{Absorb, Encrypt, Decrypt}
 
 -- the block XORed into a state s for a piece p of a text: of a ciphertext, that of the piece of the message it is found to be
 abbrev pub pieceBlock : Way → ℕ → List ℕ → List ℕ → List ℕ

@@ -1,37 +1,17 @@
 // InGAGE's cipher (document 000, section 2.1; document 01, 'The cipher'): seal and open, at each instance of the crate cipher's table. The
-// steps, over the sizes of any of them, are the module steps. The promises cite specs/Answers.antt and the definitions of the crate cipher.
-mod steps;
+// texts are passed by the module texts, and the steps between them are the crate steps. The promises cite the definitions of the crates
+// sealing and cipher.
+mod texts;
 
 use cipher::Instance;
 use cipher::Named;
-use steps::Way;
+use sealing::Opened;
+use sealing::Sealed;
+use sealing::is_too_long;
+use texts::Way;
 ghost use mathlib.Core.Path.{_≡_};
 ghost use Rattle.cipher.specs.Instances.{named};
-ghost use Rattle.ingage.specs.Answers.{sized, tooLong, sealNamed, openNamed};
-
-// The longest associated data, and the longest message or ciphertext, in bytes (document 01, number 3).
-const LONGEST_ASSOCIATED: usize = 1024;
-
-const LONGEST_TEXT: usize = 4096;
-
-// Done with so many calls of the permutation, or refused: Instance is a number that names none.
-pub enum Sealed {
-    Done(usize),
-    Instance,
-    Sizes,
-    TooLong,
-    NoRoom,
-}
-
-// The same; Seal is a seal that is not the one worked out, with the calls of the finished work.
-pub enum Opened {
-    Done(usize),
-    Instance,
-    Sizes,
-    TooLong,
-    NoRoom,
-    Seal(usize),
-}
+ghost use Rattle.sealing.specs.Answers.{sized, sealNamed, openNamed};
 
 // Whether key, nonce and seal have the instance's sizes.
 fn is_sized(z: Instance, key: usize, nonce: usize, seal: usize) -> bool
@@ -44,15 +24,6 @@ fn is_sized(z: Instance, key: usize, nonce: usize, seal: usize) -> bool
         return false;
     }
     seal == z.seal
-}
-
-fn is_too_long(assoc: usize, text: usize) -> bool
-    ensures { λ r. ⌜ r ≡ tooLong assoc text ⌝ }
-{
-    if assoc > LONGEST_ASSOCIATED {
-        return true;
-    }
-    text > LONGEST_TEXT
 }
 
 // Seals a message at an instance: the ciphertext goes over the start of out, the seal into its own buffer, which it fills.
@@ -82,11 +53,11 @@ pub fn seal(
     if out.len() < message.len() {
         return Sealed::NoRoom;
     }
-    let s = steps::begin(z, key, nonce, assoc);
-    let e = steps::pass(z, s, Way::Encrypt, message, out);
-    let f = steps::finish(z, e);
-    lists::copy(steps::seal_of(z, &f), seal);
-    Sealed::Done(steps::calls(z, assoc.len(), message.len()))
+    let s = texts::begin(z, key, nonce, assoc);
+    let e = texts::pass(z, s, Way::Encrypt, message, out);
+    let f = steps::finish(e, z.state);
+    lists::copy(texts::seal_of(z, &f), seal);
+    Sealed::Done(sealing::calls(z, assoc.len(), message.len()))
 }
 
 // Opens a ciphertext at an instance: where its seal is the one worked out, the message goes over the start of out; where it is not, as many bytes of
@@ -115,11 +86,11 @@ pub fn open(
     if out.len() < cipher.len() {
         return Opened::NoRoom;
     }
-    let count = steps::calls(z, assoc.len(), cipher.len());
-    let s = steps::begin(z, key, nonce, assoc);
-    let d = steps::pass(z, s, Way::Decrypt, cipher, out);
-    let f = steps::finish(z, d);
-    if !lists::compare(steps::seal_of(z, &f), seal) {
+    let count = sealing::calls(z, assoc.len(), cipher.len());
+    let s = texts::begin(z, key, nonce, assoc);
+    let d = texts::pass(z, s, Way::Decrypt, cipher, out);
+    let f = steps::finish(d, z.state);
+    if !lists::compare(texts::seal_of(z, &f), seal) {
         lists::clear(out, cipher.len());
         return Opened::Seal(count);
     }

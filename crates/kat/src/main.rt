@@ -6,9 +6,9 @@ use cipher::Instance;
 use cipher::Named;
 use digest::DIGEST;
 use digest::Digested;
-use ingage::Sealed;
 use libc::STDERR_FILENO;
 use libc::STDOUT_FILENO;
+use sealing::Sealed;
 use text::Digit;
 
 // The longest message of a hash file, and the longest text and associated data of an aead file, in bytes.

@@ -9,7 +9,7 @@ ghost use Rattle.digest.specs.Answers as hashing;
 ghost use Rattle.cells.specs.Sizes.{LARGEST};
 ghost use Rattle.gage.specs.Permutation.{permute, unpermute};
 ghost use Rattle.cipher.specs.Instances.{named};
-ghost use Rattle.ingage.specs.Answers.{sealNamed, openNamed, sealNumber, sealCount, openNumber, openCount};
+ghost use Rattle.sealing.specs.Answers.{sealNamed, openNamed, sealNumber, sealCount, openNumber, openCount};
 ghost use Rattle.frame.specs.Answers.{writeCall};
 ghost use Rattle.frame.specs.Answers as writing;
 ghost use mathlib.Core.List.{[]};

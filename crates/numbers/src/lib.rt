@@ -1,15 +1,15 @@
 // The number and values of what each call answers (document 01, 'Numbers returned'; order W2), for callers that report them. The promises
-// cite the definitions beside those answers: specs/Answers.antt of digest, ingage, frame and reader.
+// cite the definitions beside those answers: specs/Answers.antt of digest, sealing, frame and reader.
 ghost use mathlib.Core.Path.{_≡_};
 ghost use Rattle.digest.specs.Answers as hashing;
-ghost use Rattle.ingage.specs.Answers.{sealNumber, sealCount, openNumber, openCount};
+ghost use Rattle.sealing.specs.Answers.{sealNumber, sealCount, openNumber, openCount};
 ghost use Rattle.frame.specs.Answers as writing;
 ghost use Rattle.reader.specs.Answers as reading;
 use digest::Digested;
 use frame::Written;
-use ingage::Opened;
-use ingage::Sealed;
 use reader::Answer;
+use sealing::Opened;
+use sealing::Sealed;
 
 // What a refusal that makes no call of the permutation counts, and the end of the stream.
 const NO_CALLS: usize = 0;

@@ -11,9 +11,9 @@ use Rattle.layout.specs.declared.Layout as layouts
 use Rattle.layout.specs.declared.Judged as line-judged
 use Rattle.layout.specs.declared.Judged.the-variants.{Accepted, Unlisted, Trade, Layout}
 use Rattle.layout.specs.Layouts.{layoutRule}
-use Rattle.ingage.specs.declared.Opened.{Opened}
-use Rattle.ingage.specs.declared.Opened.the-variants as opened
-use Rattle.ingage.proofs.Opened as opened-type
+use Rattle.sealing.specs.declared.Opened.{Opened}
+use Rattle.sealing.specs.declared.Opened.the-variants as opened
+use Rattle.sealing.proofs.Opened as opened-type
 use Rattle.opening.specs.declared.Found.{Found}
 use Rattle.opening.specs.declared.Found.the-variants as found
 use Rattle.opening.specs.Opened.{foundBy, lineBy, byRule}

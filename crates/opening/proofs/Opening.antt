@@ -8,8 +8,8 @@ use borrow.Author.Tests.{lt-ltb, le-ltb}
 use Rattle.line.specs.Lines.{longest}
 use Rattle.layout.specs.declared.Layout.{Layout}
 use Rattle.cipher.specs.Instances.{named, FIRST}
-use Rattle.ingage.specs.declared.Opened.{Opened}
-use Rattle.ingage.specs.Answers.{OpenCall, openNamed}
+use Rattle.sealing.specs.declared.Opened.{Opened}
+use Rattle.sealing.specs.Answers.{OpenCall, openNamed}
 use Rattle.opening.specs.declared.Found.{Found}
 use Rattle.opening.specs.declared.Found.the-variants as found
 use Rattle.opening.specs.Opened.{foundBy, lineBy, LineCall, lineCall, openBeside, openLine}

@@ -12,9 +12,9 @@ use Rattle.layout.specs.declared.Judged as line-judged
 use Rattle.layout.specs.declared.Judged.the-variants.{Accepted, Unlisted, Trade, Layout}
 use Rattle.layout.specs.Layouts.{layoutRule}
 use Rattle.cipher.specs.Instances.{named, FIRST}
-use Rattle.ingage.specs.declared.Opened.{Opened}
-use Rattle.ingage.specs.declared.Opened.the-variants as opened
-use Rattle.ingage.specs.Answers.{OpenCall, openNamed}
+use Rattle.sealing.specs.declared.Opened.{Opened}
+use Rattle.sealing.specs.declared.Opened.the-variants as opened
+use Rattle.sealing.specs.Answers.{OpenCall, openNamed}
 use Rattle.opening.specs.declared.Found.{Found}
 use Rattle.opening.specs.declared.Found.the-variants as found
 

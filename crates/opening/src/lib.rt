@@ -7,11 +7,11 @@ ghost use Rattle.lists.specs.Buffers.{copied};
 ghost use Rattle.opening.specs.Opened.{foundBy, lineBy, openBeside, openLine};
 use body::LONGEST_LINE;
 use frame::INSTANCE;
-use ingage::Opened;
 use ingage::open;
 use layout::Layout;
 use layout::judge_line;
 use lists::copy;
+use sealing::Opened;
 
 // What opening a sealed line finds; all but Sizes with the calls of the permutation made.
 pub enum Found {

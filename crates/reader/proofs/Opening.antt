@@ -15,13 +15,13 @@ use Rattle.layout.specs.declared.Judged.the-variants.{Accepted, Unlisted, Trade
 use Rattle.layout.specs.declared.Judged.the-variants as found-to-be
 use Rattle.layout.specs.declared.Layout.{Layout}
 use Rattle.layout.specs.Layouts.{layoutRule}
-use Rattle.ingage.specs.declared.Opened.the-variants as opened
+use Rattle.sealing.specs.declared.Opened.the-variants as opened
 use Rattle.cipher.specs.Instances.{named, FIRST, first, first-fits}
 use Rattle.cipher.specs.Cipher.{Work, decrypted}
 use Rattle.cipher.specs.Results.{length-decrypted}
-use Rattle.ingage.specs.Answers.{OpenCall, openNamed}
-use Rattle.ingage.specs.Naming.{open-first}
-use Rattle.ingage.specs.Exactly.{Within, opened-within}
+use Rattle.sealing.specs.Answers.{OpenCall, openNamed}
+use Rattle.sealing.specs.Naming.{open-first}
+use Rattle.sealing.specs.Exactly.{Within, opened-within}
 use Rattle.opening.specs.declared.Found.the-variants as found-is
 use Rattle.opening.specs.Opened.{byRule, foundBy, LineCall, lineCall, lineFrom, textIn, openBeside, openLine}
 use Rattle.judging.specs.Judged.{Label, Judged, seal, unlisted, trade, layout, line}

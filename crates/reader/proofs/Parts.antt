@@ -13,7 +13,7 @@ use Rattle.lists.specs.Buffers.{same}
 use Rattle.line.specs.Lines.{longest}
 use Rattle.cipher.specs.Instances.{first}
 use Rattle.cipher.specs.Results.{open-calls-first}
-use Rattle.ingage.specs.Exactly.{Within}
+use Rattle.sealing.specs.Exactly.{Within}
 use Rattle.layout.specs.declared.Layout.{Layout}
 use Rattle.body.specs.declared.Edition.{Edition}
 use Rattle.body.specs.declared.Edition.the-variants.{One, Two}

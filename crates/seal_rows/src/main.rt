@@ -5,12 +5,12 @@
 use converter::Converted;
 use digest::DIGEST;
 use frame::Written;
-use ingage::Opened;
-use ingage::Sealed;
 use layout::Layout;
 use layout::layout_of;
 use libc::STDIN_FILENO;
 use libc::STDOUT_FILENO;
+use sealing::Opened;
+use sealing::Sealed;
 ghost use Prim.Native.Nat.{_<_};
 
 // More cases than standard input has: where it ends, so do the rows.

@@ -1,6 +1,6 @@
 -- `is_sized` meets its promise: each test of the code is the definition's. Assumes nothing.
 use borrow.Author.Tests.{eq-eqb, ne-eqb}
-use Rattle.ingage.specs.Answers.{sized}
+use Rattle.sealing.specs.Answers.{sized}
 use Rattle.ingage.proofs.is_sized.Statement.{statement}
 use Rattle.ingage.proofs.is_sized.Tie as tie
 

@@ -2,8 +2,8 @@
 use Rattle.cipher.specs.declared.Instance.{Instance}
 use Rattle.cipher.specs.Instances.{Fitting, named}
 use Rattle.ingage.proofs.Calls.{within, fits-known, held-in, open-met, open-unknown, open-known, open-sizes, open-long, open-room, open-done, open-wrong}
-use Rattle.ingage.specs.Answers.{OpenCall, openCall, openNamed}
-use Rattle.ingage.specs.Exactly.{Within}
+use Rattle.sealing.specs.Answers.{OpenCall, openCall, openNamed}
+use Rattle.sealing.specs.Exactly.{Within}
 use borrow.Author.Needs.{needs}
 use borrow.Author.Tests.{not-true, not-false}
 use mathlib.Core.Path.{_≡_, sym, _∙_}
@@ -60,7 +60,7 @@ returns-4 : tie.Need-returns-4
 returns-4 c = open-met (known (c .before .before .before .before .before) (open-room _ _ _ _ _ _ _ (sym (c .before .before .before .before .is-sized .ensures) ∙ not-false _ (c .before .before .before .if1 .left)) (sym (c .before .before .is-too-long .ensures) ∙ c .before .if2 .left) (c .if3 .taken)))
 
 calls-requires : tie.Need-calls-requires
-calls-requires c κs = let w = inside c in (fits (told c) .moves, w .associated, w .short)
+calls-requires c κs = tt
 
 begin-requires : tie.Need-begin-requires
 begin-requires c κs = let w = inside (c .before) in (fits (c .before .before .before .before .before .before), w .key-size, w .nonce-size)
@@ -69,7 +69,7 @@ pass-requires : tie.Need-pass-requires
 pass-requires c κs = (fits (c .before .before .before .before .before .before .before .before), inside (c .before .before .before) .room)
 
 finish-requires : tie.Need-finish-requires
-finish-requires c κs = fits (c .before .before .before .before .before .before .before .before .before .before .before)
+finish-requires c κs = tt
 
 slice-aggregate-seal-of : tie.Need-slice-aggregate-seal-of
 slice-aggregate-seal-of c = sym (c .before .finish .ok .1 .0 .1)
@@ -94,7 +94,7 @@ returns-5 c =
     let t = c .before .before .before .before .before .before .before .before .before .before .before in
     let f = c .before .before .before .before .before .before .before .before in
     let n = c .before .before .before .before .before .before .before .before .before .before .before .before .before .before in
-    open-met (known k (open-wrong (z-of k) (fits k) (begins k .args .key .now) (begins k .args .nonce .now) (begins k .args .assoc .now) (begins k .args .cipher .now) (begins k .args .seal .now) (begins k .args .out .now) (inside e) (b .begin .result) (b .begin .ensures) (t .pass .result) (f .finish .result) _ _ (n .calls .result) (t .pass .ensures .0) (t .pass .ensures .1) (f .finish .ensures) (c .before .before .before .before .before .before .seal-of .ensures) (n .calls .ensures) _ (sym (c .before .before .before .before .before .compare .ensures) ∙ not-true _ (c .before .before .before .before .if4 .taken)) (c .before .before .clear .ensures)))
+    open-met (known k (open-wrong (z-of k) (fits k) (begins k .args .key .now) (begins k .args .nonce .now) (begins k .args .assoc .now) (begins k .args .cipher .now) (begins k .args .seal .now) (begins k .args .out .now) (inside e) (b .begin .result) (b .begin .ensures) (t .pass .result) (f .finish .result) _ _ (n .calls .result) (t .pass .ensures .0) (t .pass .ensures .1) (t .pass .ok .1 .0 .1) (f .finish .ensures) (c .before .before .before .before .before .before .seal-of .ensures) (n .calls .ensures) _ (sym (c .before .before .before .before .before .compare .ensures) ∙ not-true _ (c .before .before .before .before .if4 .taken)) (c .before .before .clear .ensures)))
 
 same-length-2 : tie.Need-same-length-2
 same-length-2 c = c .before .before .before .before .before .before .out .given
@@ -107,7 +107,7 @@ returns-6 c =
     let t = c .before .before .before .before .before .before .before in
     let f = c .before .before .before .before in
     let n = c .before .before .before .before .before .before .before .before .before .before in
-    open-met (known k (open-done (z-of k) (fits k) (begins k .args .key .now) (begins k .args .nonce .now) (begins k .args .assoc .now) (begins k .args .cipher .now) (begins k .args .seal .now) (begins k .args .out .now) (inside e) (b .begin .result) (b .begin .ensures) (t .pass .result) (f .finish .result) _ _ (n .calls .result) (t .pass .ensures .0) (t .pass .ensures .1) (f .finish .ensures) (c .before .before .seal-of .ensures) (n .calls .ensures) (sym (c .before .compare .ensures) ∙ not-false _ (c .if4 .left))))
+    open-met (known k (open-done (z-of k) (fits k) (begins k .args .key .now) (begins k .args .nonce .now) (begins k .args .assoc .now) (begins k .args .cipher .now) (begins k .args .seal .now) (begins k .args .out .now) (inside e) (b .begin .result) (b .begin .ensures) (t .pass .result) (f .finish .result) _ _ (n .calls .result) (t .pass .ensures .0) (t .pass .ensures .1) (t .pass .ok .1 .0 .1) (f .finish .ensures) (c .before .before .seal-of .ensures) (n .calls .ensures) (sym (c .before .compare .ensures) ∙ not-false _ (c .if4 .left))))
 
 pub open-spec : {M : Type 1} → statement M
 open-spec =

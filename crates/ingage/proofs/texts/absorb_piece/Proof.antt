@@ -1,0 +1,33 @@
+-- `absorb_piece` meets its promise: the piece's block is mixed in, and the permutation runs. Assumes nothing.
+use Prim.Native.Nat.{ℕ}
+use mathlib.Core.List.{List}
+use mathlib.Core.Path.{_≡_}
+use native.Mathlib.Omega.{arith}
+use lib.ListN.{take}
+use Rattle.cipher.specs.declared.Instance.{Instance}
+use Rattle.cipher.specs.Instances.{Fitting}
+use Rattle.steps.specs.Arrays.{markedBlock, markedOf}
+use Rattle.steps.specs.First.{marked-first}
+use Rattle.ingage.proofs.Passing.{piece-absorbed}
+use Rattle.ingage.proofs.texts.absorb_piece.Statement.{statement}
+use Rattle.ingage.proofs.texts.absorb_piece.Tie as tie
+
+-- the block's first bytes
+marked : (z : Instance) (p : List ℕ) {b : List ℕ} → Fitting z → b ≡ markedOf (z .rate) p → take (z .rate) b ≡ markedBlock (z .rate) p
+marked z p fits e = let s = fits .small in rw e (marked-first (z .rate) p (fits .moves) (omega arith))
+
+associated-block-requires : tie.Need-associated-block-requires
+associated-block-requires c κs = tt
+
+mix-block-requires : tie.Need-mix-block-requires
+mix-block-requires c κs = c .before .before .pre
+
+half-requires : tie.Need-half-requires
+half-requires c κs = c .before .before .before .pre .allowed
+
+returns : tie.Need-returns
+returns c = piece-absorbed (c .before .before .before .before .args .z) (c .before .before .before .before .pre) (c .before .before .before .before .args .p .now) (c .before .before .before .before .args .s) (c .before .before .associated-block .result) (c .before .mix-block .result) (c .half .result) (marked (c .before .before .before .before .args .z) (c .before .before .before .before .args .p .now) (c .before .before .before .before .pre) (c .before .before .associated-block .ensures)) (c .before .mix-block .ensures) (c .half .ensures)
+
+pub absorb-piece-spec : {M : Type 1} → statement M
+absorb-piece-spec =
+    tie.close (tie.spec associated-block-requires mix-block-requires half-requires returns)
