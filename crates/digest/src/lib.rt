@@ -85,7 +85,7 @@ fn turned(s: [u8; LARGEST], n: usize) -> [u8; LARGEST]
     requires { ⌜ permitted n ≡ true ⌝ }
     ensures { λ r. ⌜ take n r ≡ permute ROUNDS (take n s) ⌝ }
 {
-    let p = gage::permute(s, n, gage::ROUNDS);
+    let p = rounds::permute(s, n, gage::ROUNDS);
     p.state
 }
 

@@ -1,27 +1,19 @@
--- The promises of `permute`, `unpermute` and `number`, as the check reads them (`Post`), admit a single answer.
--- Assumes nothing.
+-- The promises of `number` and `judge`, as the check reads them (`Post`), admit a single answer. Assumes nothing.
 use mathlib.Core.Path.{_≡_, sym, _∙_}
+use Prim.Native.Nat.{ℕ}
 use contract.Lifetimes.{Lfts}
 use denote.Triple.Clauses.{AtExit}
 use borrow.Fn.Kinds.{Dens, endedOf}
-use Rattle.gage.specs.declared.Permuted.{Permuted}
-use Prim.Native.Nat.{ℕ}
+use Rattle.gage.specs.declared.Answer.{Answer}
 use Rattle.gage.proofs.number.Kinds as number-kinds
 use Rattle.gage.proofs.number.Reads as number-reads
-use Rattle.gage.proofs.permute.Kinds as permute-kinds
-use Rattle.gage.proofs.permute.Reads as permute-reads
-use Rattle.gage.proofs.unpermute.Kinds as unpermute-kinds
-use Rattle.gage.proofs.unpermute.Reads as unpermute-reads
-
-pub permute-single : (κs : Lfts 0) (a : Dens κs permute-kinds.ps) (r r′ : Permuted) (x x′ : AtExit (endedOf 0 permute-kinds.ps permute-kinds.r) κs)
-    → permute-reads.Post κs a r x → permute-reads.Post κs a r′ x′ → r ≡ r′
-permute-single κs a r r′ x x′ p q = p ∙ sym q
-
-pub unpermute-single : (κs : Lfts 0) (a : Dens κs unpermute-kinds.ps) (r r′ : Permuted)
-    (x x′ : AtExit (endedOf 0 unpermute-kinds.ps unpermute-kinds.r) κs)
-    → unpermute-reads.Post κs a r x → unpermute-reads.Post κs a r′ x′ → r ≡ r′
-unpermute-single κs a r r′ x x′ p q = p ∙ sym q
+use Rattle.gage.proofs.judge.Kinds as judge-kinds
+use Rattle.gage.proofs.judge.Reads as judge-reads
 
 pub number-single : (κs : Lfts 0) (a : Dens κs number-kinds.ps) (r r′ : ℕ) (x x′ : AtExit (endedOf 0 number-kinds.ps number-kinds.r) κs)
     → number-reads.Post κs a r x → number-reads.Post κs a r′ x′ → r ≡ r′
 number-single κs a r r′ x x′ p q = p ∙ sym q
+
+pub judge-single : (κs : Lfts 0) (a : Dens κs judge-kinds.ps) (r r′ : Answer) (x x′ : AtExit (endedOf 0 judge-kinds.ps judge-kinds.r) κs)
+    → judge-reads.Post κs a r x → judge-reads.Post κs a r′ x′ → r ≡ r′
+judge-single κs a r r′ x x′ p q = p ∙ sym q

@@ -30,7 +30,7 @@ fn half(s: [u8; LARGEST], n: usize) -> [u8; LARGEST]
     requires { ⌜ permitted n ≡ true ⌝ }
     ensures { λ r. ⌜ take n r ≡ half (take n s) ⌝ }
 {
-    let p = gage::permute(s, n, ROUNDS / 2);
+    let p = rounds::permute(s, n, ROUNDS / 2);
     p.state
 }
 

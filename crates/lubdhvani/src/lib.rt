@@ -68,7 +68,7 @@ pub extern "C" fn lubdhvani_permute(state: &mut [u8], rounds: usize) -> u32
     if n > LARGEST {
         return gage::number(Answer::Size);
     }
-    let r = gage::permute(widened(state), n, rounds);
+    let r = rounds::permute(widened(state), n, rounds);
     let permuted = r.state;
     let answer = r.answer;
     lists::copy(&permuted, state);
@@ -85,7 +85,7 @@ pub extern "C" fn lubdhvani_unpermute(state: &mut [u8], rounds: usize) -> u32
     if n > LARGEST {
         return gage::number(Answer::Size);
     }
-    let r = gage::unpermute(widened(state), n, rounds);
+    let r = rounds::unpermute(widened(state), n, rounds);
     let permuted = r.state;
     let answer = r.answer;
     lists::copy(&permuted, state);

@@ -53,10 +53,10 @@ fn begin(call: &[u8], n: usize, k: usize, kind: &[u8]) {
 // One state, permuted and unpermuted.
 fn rows(n: usize, k: usize, kind: &[u8], s: [u8; LARGEST]) {
     begin(b"permute ", n, k, kind);
-    let there = gage::permute(s, n, k).state;
+    let there = rounds::permute(s, n, k).state;
     hex(there, n);
     begin(b"\nunpermute ", n, k, kind);
-    let back = gage::unpermute(s, n, k).state;
+    let back = rounds::unpermute(s, n, k).state;
     hex(back, n);
     say(b"\n");
 }
@@ -76,10 +76,10 @@ fn permuted(n: usize) {
 // Refused by both calls, and the state as it was.
 fn refused(n: usize, k: usize) {
     let before = ramp(n);
-    let p = gage::permute(before, n, k);
+    let p = rounds::permute(before, n, k);
     let there = p.answer;
     let between = p.state;
-    let q = gage::unpermute(between, n, k);
+    let q = rounds::unpermute(between, n, k);
     let back = q.answer;
     let after = q.state;
     say(b"refused ");

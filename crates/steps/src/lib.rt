@@ -21,7 +21,7 @@ const AFTER_MESSAGE: u8 = 0x02;
 fn whole(s: [u8; LARGEST], n: usize) -> [u8; LARGEST]
     ensures { λ r. ⌜ r ≡ wholeOf n s ⌝ }
 {
-    let p = gage::permute(s, n, ROUNDS);
+    let p = rounds::permute(s, n, ROUNDS);
     p.state
 }
 

@@ -151,7 +151,7 @@ pub fn forth(size: &[u8], rounds: &[u8], text: &[u8]) -> Trial
     let Number::Is(k) = k else {
         return refuse(Outcome::NoNumber);
     };
-    tell(gage::permute(state(text), n, k), n, text)
+    tell(rounds::permute(state(text), n, k), n, text)
 }
 
 // Its inverse.
@@ -166,5 +166,5 @@ pub fn back(size: &[u8], rounds: &[u8], text: &[u8]) -> Trial
     let Number::Is(k) = k else {
         return refuse(Outcome::NoNumber);
     };
-    tell(gage::unpermute(state(text), n, k), n, text)
+    tell(rounds::unpermute(state(text), n, k), n, text)
 }

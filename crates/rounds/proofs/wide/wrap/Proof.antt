@@ -1,8 +1,8 @@
 -- `wrap` meets its promise: what is copied out and back are the first eight bytes (`wrap-is`). Assumes nothing.
-use Rattle.gage.proofs.Rounds.{wrap-is}
+use Rattle.rounds.proofs.Rounds.{wrap-is}
 use borrow.Author.Needs.{needs}
-use Rattle.gage.proofs.wide.wrap.Statement.{statement}
-use Rattle.gage.proofs.wide.wrap.Tie as tie
+use Rattle.rounds.proofs.wide.wrap.Statement.{statement}
+use Rattle.rounds.proofs.wide.wrap.Tie as tie
 
 sub-copy : tie.Need-sub-copy
 sub-copy c = search needs

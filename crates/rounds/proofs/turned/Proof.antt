@@ -1,13 +1,13 @@
 -- `turned` meets its promise: the first substitution, the turns in a wide state, and the first n bytes put back (`turned-is`). Assumes nothing.
-use Rattle.gage.proofs.Rounds.{cell-at, turned-is}
+use Rattle.rounds.proofs.Rounds.{cell-at, turned-is}
 use lib.ListN.{getD}
 use mathlib.Core.List.{List}
 use mathlib.Core.Path.{ap}
 use Prim.Native.Nat.{ℕ}
 use native.Mathlib.Omega.{arith}
 use borrow.Author.Needs.{needs}
-use Rattle.gage.proofs.turned.Statement.{statement}
-use Rattle.gage.proofs.turned.Tie as tie
+use Rattle.rounds.proofs.turned.Statement.{statement}
+use Rattle.rounds.proofs.turned.Tie as tie
 
 table-requires : tie.Need-table-requires
 table-requires c κs = search needs

@@ -1,8 +1,8 @@
 -- `turn` meets its promise: a turn of the wrapped bytes is shuffle and substitution (`turn-is`). Assumes nothing.
-use Rattle.gage.proofs.Rounds.{turn-is}
+use Rattle.rounds.proofs.Rounds.{turn-is}
 use borrow.Author.Needs.{needs}
-use Rattle.gage.proofs.wide.turn.Statement.{statement}
-use Rattle.gage.proofs.wide.turn.Tie as tie
+use Rattle.rounds.proofs.wide.turn.Statement.{statement}
+use Rattle.rounds.proofs.wide.turn.Tie as tie
 
 wrap-requires : tie.Need-wrap-requires
 wrap-requires c κs = search needs

@@ -1,8 +1,8 @@
 -- `gathered_at` meets its promise: the eight bytes are those from place i on. Assumes nothing.
 use Rattle.shuffling.specs.Wrapped.{gatheredAt}
 use borrow.Author.Needs.{needs}
-use Rattle.gage.proofs.wide.gathered_at.Statement.{statement}
-use Rattle.gage.proofs.wide.gathered_at.Tie as tie
+use Rattle.rounds.proofs.wide.gathered_at.Statement.{statement}
+use Rattle.rounds.proofs.wide.gathered_at.Tie as tie
 
 shared-slice-read-gather : tie.Need-shared-slice-read-gather
 shared-slice-read-gather c = search needs

@@ -1,9 +1,9 @@
 -- `unturned` meets its promise. The invariant: the turns of the leaders from i on are undone (`Undone`); the measure is i. Assumes nothing.
-use Rattle.gage.proofs.Turning.{by-leader, by-width, Undone, undone-none, undone-more, undone-all}
-use Rattle.gage.proofs.Rounds.{cell-at, leader-at}
+use Rattle.rounds.proofs.Turning.{by-leader, by-width, Undone, undone-none, undone-more, undone-all}
+use Rattle.rounds.proofs.Rounds.{cell-at, leader-at}
 use Rattle.cells.specs.States.{length-restore}
 use Rattle.shuffling.specs.States.{length-unshuffle}
 use Rattle.gage.specs.Permutation.{leaders, unpermute}
 use Rattle.leaders.specs.Rule.{length-leaders}
 use Rattle.shuffling.specs.Shuffling.{unshuffle}
 use Rattle.cells.specs.Cells.{table, restore}
@@ -13,8 +13,8 @@ use Prim.Native.Nat.{_-_, _≤_}
 use mathlib.Core.Path.{_≡_}
 use native.Mathlib.Omega.{arith}
 use borrow.Author.Needs.{needs}
-use Rattle.gage.proofs.unturned.Statement.{statement}
-use Rattle.gage.proofs.unturned.Tie as tie
+use Rattle.rounds.proofs.unturned.Statement.{statement}
+use Rattle.rounds.proofs.unturned.Tie as tie
 
 abbrev Inv-loop : tie.InvT-loop
 Inv-loop n k ls a₀ i₀ a i = (i ≤ k) × Undone (take k leaders) n a₀ a i

@@ -4,13 +4,13 @@ use Prim.Native.Nat.{ℕ, _+_, _-_, _≤_}
 use lib.ListN.{length, take}
 use lib.Seq.{length-take-le}
 use Rattle.cells.specs.Sizes.{WIDE}
 use Rattle.gage.specs.Permutation.{MOST-ROUNDS, leaders}
 use Rattle.leaders.specs.Rule.{length-leaders}
-use Rattle.gage.proofs.Rounds.{cell-at, leader-at, Left, left-more, left-two, left-none}
+use Rattle.rounds.proofs.Rounds.{cell-at, leader-at, Left, left-more, left-two, left-none}
 use native.Mathlib.Omega.{arith}
 use borrow.Author.Needs.{needs}
-use Rattle.gage.proofs.turns.Statement.{statement}
-use Rattle.gage.proofs.turns.Tie as tie
+use Rattle.rounds.proofs.turns.Statement.{statement}
+use Rattle.rounds.proofs.turns.Tie as tie
 
 -- as many leaders as rounds
 long : (k : ℕ) → k ≤ MOST-ROUNDS → length (take k leaders) ≡ k

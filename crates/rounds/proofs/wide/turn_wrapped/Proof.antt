@@ -10,8 +10,8 @@ use Rattle.shuffling.specs.Shuffling.{tabled}
 use Rattle.shuffling.specs.States.{length-tabled, tabled-at}
 use Rattle.shuffling.specs.Wrapped.{gatheredAt}
 use borrow.Author.Needs.{needs}
-use Rattle.gage.proofs.wide.turn_wrapped.Statement.{statement}
-use Rattle.gage.proofs.wide.turn_wrapped.Tie as tie
+use Rattle.rounds.proofs.wide.turn_wrapped.Statement.{statement}
+use Rattle.rounds.proofs.wide.turn_wrapped.Tie as tie
 
 abbrev Inv-loop : tie.InvT-loop
 Inv-loop e out₀ n leader end p₀ i₀ out p i = (length out ≡ WIDE) × Substituting (leader % 4) (gatheredAt e) out p i

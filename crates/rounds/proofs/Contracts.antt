@@ -19,17 +19,17 @@ use borrow.Kind.Array.{eInt, good-length}
 use borrow.Fn.Kinds.{Dens, GoodsP, endedOf}
 use Rattle.lists.specs.Below.{Below, below-take}
 use Rattle.shuffling.specs.Sizes.{SMALLEST}
 use Rattle.gage.specs.declared.Answer.the-variants.{Done}
 use Rattle.gage.specs.declared.Permuted.{Permuted}
 use Rattle.gage.specs.Permutation.{LARGEST, judged, permute, unpermute, answered}
 use Rattle.gage.specs.States.{length-permute, length-unpermute}
 use Rattle.gage.specs.Inverse.{rounds-undone, rounds-redone}
 use Rattle.gage.specs.Answers.{answered-back}
-use Rattle.gage.proofs.Judging.{allowed}
-use Rattle.gage.proofs.permute.Kinds as permute-kinds
-use Rattle.gage.proofs.permute.Reads as permute-reads
-use Rattle.gage.proofs.unpermute.Kinds as unpermute-kinds
-use Rattle.gage.proofs.unpermute.Reads as unpermute-reads
+use Rattle.rounds.proofs.Judging.{allowed}
+use Rattle.rounds.proofs.permute.Kinds as permute-kinds
+use Rattle.rounds.proofs.permute.Reads as permute-reads
+use Rattle.rounds.proofs.unpermute.Kinds as unpermute-kinds
+use Rattle.rounds.proofs.unpermute.Reads as unpermute-reads
 
 -- an array of bytes holds bytes
 each-byte : (xs : List ℕ) (us : List Val) → shadow (each ℕ (UInt w8 .own) xs us) → Below 256 xs
