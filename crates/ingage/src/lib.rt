@@ -41,7 +41,7 @@ pub fn seal(
     ensures ciphertext { λ _. ⌜ now (out .exit) ≡ sealNamed (named instance) (now (key .entry)) (now (nonce .entry)) (now (assoc .entry)) (now (message .entry)) (now (out .entry)) (now (seal .entry)) .out ⌝ }
     ensures seal { λ _. ⌜ now (seal .exit) ≡ sealNamed (named instance) (now (key .entry)) (now (nonce .entry)) (now (assoc .entry)) (now (message .entry)) (now (out .entry)) (now (seal .entry)) .seal ⌝ }
 {
-    let Named::Known(z) = cipher::sizes_of(instance) else {
+    let Named::Known(z) = instances::sizes_of(instance) else {
         return Sealed::Instance;
     };
     if !is_sized(z, key.len(), nonce.len(), seal.len()) {
@@ -74,7 +74,7 @@ pub fn open(
     ensures answer { λ r. ⌜ r ≡ openNamed (named instance) (now (key .entry)) (now (nonce .entry)) (now (assoc .entry)) (now (cipher .entry)) (now (seal .entry)) (now (out .entry)) .answer ⌝ }
     ensures message { λ _. ⌜ now (out .exit) ≡ openNamed (named instance) (now (key .entry)) (now (nonce .entry)) (now (assoc .entry)) (now (cipher .entry)) (now (seal .entry)) (now (out .entry)) .out ⌝ }
 {
-    let Named::Known(z) = cipher::sizes_of(instance) else {
+    let Named::Known(z) = instances::sizes_of(instance) else {
         return Opened::Instance;
     };
     if !is_sized(z, key.len(), nonce.len(), seal.len()) {

@@ -241,7 +241,7 @@ fn aead_text(instance: usize, z: Instance, bytes: &[u8], p: usize) -> Entry
 }
 
 fn aead(instance: usize) -> Entry {
-    let Named::Known(z) = cipher::sizes_of(instance) else {
+    let Named::Known(z) = instances::sizes_of(instance) else {
         return Entry::Unknown;
     };
     let bytes = ramp();

@@ -3,9 +3,9 @@ use mathlib.Core.Path.{_≡_, sym, _∙_}
 use contract.Lifetimes.{Lfts}
 use denote.Triple.Clauses.{AtExit}
 use borrow.Fn.Kinds.{Dens, endedOf}
 use Rattle.cipher.specs.declared.Named.{Named}
-use Rattle.cipher.proofs.sizes_of.Kinds as kinds
-use Rattle.cipher.proofs.sizes_of.Reads as reads
+use Rattle.instances.proofs.sizes_of.Kinds as kinds
+use Rattle.instances.proofs.sizes_of.Reads as reads
 
 pub sizes-of-single : (κs : Lfts 0) (a : Dens κs kinds.ps) (r r′ : Named) (x x′ : AtExit (endedOf 0 kinds.ps kinds.r) κs)
     → reads.Post κs a r x → reads.Post κs a r′ x′ → r ≡ r′

@@ -1,11 +1,11 @@
 -- `sizes_of` meets its promise: the comparisons are those of `unknown`, and the row is the definition's. Assumes nothing.
 use Rattle.cipher.specs.Instances.{instances, unknown, instanceOf, named}
 use lib.ListN.{length}
 use borrow.Author.Tests.{lt-ltb, le-ltb}
 use native.Mathlib.Omega.{arith}
 use borrow.Author.Needs.{needs}
-use Rattle.cipher.proofs.sizes_of.Statement.{statement}
-use Rattle.cipher.proofs.sizes_of.Tie as tie
+use Rattle.instances.proofs.sizes_of.Statement.{statement}
+use Rattle.instances.proofs.sizes_of.Tie as tie
 
 returns : tie.Need-returns
 unfolding named unknown
