@@ -1,4 +1,2 @@
 pub mod Formula
-pub mod Restoring
-pub mod Firsts
 pub mod Single

@@ -45,7 +45,7 @@ fn turned(s: [u8; LARGEST], n: usize, k: usize) -> [u8; LARGEST]
     ensures { λ r. ⌜ r ≡ permute k (take n s) ++ drop n s ⌝ }
 {
     let leaders = leaders::table();
-    let first = cells::substitute(s, n, leaders[0]);
+    let first = substitution::substitute(s, n, leaders[0]);
     let mut w = [0u8; WIDE];
     lists::copy(&first, &mut w);
     let done = turns(w, n, k);
@@ -64,10 +64,10 @@ fn unturned(s: [u8; LARGEST], n: usize, k: usize) -> [u8; LARGEST]
     let mut i = k;
     while i > 1 {
         i -= 1;
-        let b = cells::restore(a, n, leaders[i]);
+        let b = substitution::restore(a, n, leaders[i]);
         a = shuffling::unshuffle(b, n);
     }
-    cells::restore(a, n, leaders[0])
+    substitution::restore(a, n, leaders[0])
 }
 
 // k rounds of the permutation.

@@ -1,13 +1,19 @@
 -- `has_products` meets its promise. The invariant: what is left to test is the pairs from i on (`productsFrom`); the measure is their number.
 -- Assumes nothing.
 use mathlib.Core.Path.{_≡_, sym, _∙_}
-use Prim.Native.Nat.{_/_, _%_, _-_, _≤_}
+use Prim.Native.Nat.{ℕ, _/_, _%_, _-_, _≤_, _<_}
+use native.Mathlib.Omega.{arith}
 use borrow.Author.Tests.{eq-eqb, ne-eqb}
 use Rattle.cells.specs.Cells.{table, star}
+use Rattle.cells.specs.Pair.{product, product-is}
 use Rattle.cells.specs.Products.{hasProducts, productsFrom, products-none, products-more, products-differ, products-all}
 use borrow.Author.Needs.{needs}
 use Rattle.cells.proofs.has_products.Statement.{statement}
 use Rattle.cells.proofs.has_products.Tie as tie
+
+-- both numbers of a pair are cells
+small : (i : ℕ) → i < 16 → {r : ℕ} → r ≡ product (i / 4) (i % 4) → r ≡ star table (i / 4) (i % 4)
+small i h e = e ∙ product-is (i / 4) (i % 4) (omega arith) (omega arith)
 
 abbrev Inv-loop : tie.InvT-loop
 Inv-loop t i₀ i = (i ≤ 16) × (hasProducts t ≡ productsFrom t i)
@@ -43,7 +49,7 @@ returns c =
     sym
     (c .before .before .before .before .loop .inv .1
     ∙ products-differ t i (search needs)
-    (ne-eqb (star t (i / 4) (i % 4)) (star table (i / 4) (i % 4)) (λ e. c .if1 .taken (e ∙ sym (c .before .star .ensures .0)))))
+    (ne-eqb (star t (i / 4) (i % 4)) (star table (i / 4) (i % 4)) (λ e. c .if1 .taken (e ∙ sym (small i (search needs) (c .before .star .ensures))))))
 
 add-i : tie.Need-add-i Inv-loop μ-loop
 add-i c = search needs
@@ -58,7 +64,7 @@ loop-again c =
       search needs,
       c .before .before .before .before .loop .inv .1
           ∙ products-more t i (search needs)
-          (eq-eqb (star t (i / 4) (i % 4)) (star table (i / 4) (i % 4)) (c .if1 .left ∙ c .before .star .ensures .0)),
+          (eq-eqb (star t (i / 4) (i % 4)) (star table (i / 4) (i % 4)) (c .if1 .left ∙ small i (search needs) (c .before .star .ensures))),
     )
 
 returns-2 : tie.Need-returns-2 Inv-loop μ-loop

@@ -1,13 +1,13 @@
 -- `substitute` meets its promise: the first n bytes are substituted in a wide state, and put back. Assumes nothing.
 use Prim.Native.Nat.{_%_}
 use lib.ListN.{replicate}
 use Rattle.cells.specs.Sizes.{WIDE}
 use Rattle.cells.specs.Cells.{table, substitute}
 use Rattle.cells.specs.States.{length-substitute}
-use Rattle.cells.proofs.Firsts.{put-first}
+use Rattle.substitution.proofs.Firsts.{put-first}
 use borrow.Author.Needs.{needs}
-use Rattle.cells.proofs.substitute.Statement.{statement}
-use Rattle.cells.proofs.substitute.Tie as tie
+use Rattle.substitution.proofs.substitute.Statement.{statement}
+use Rattle.substitution.proofs.substitute.Tie as tie
 
 within-requires : tie.Need-within-requires
 within-requires c κs = search needs

@@ -4,11 +4,11 @@ use mathlib.Core.Path.{_≡_, refl, sym}
 use Prim.Native.Nat.{_-_, _%_}
 use lib.ListN.{length, take, getD}
 use lib.Seq.{length-take-le, getD-take}
 use Rattle.cells.specs.Sizes.{WIDE}
 use Rattle.cells.specs.Wide.{Substituting, substituting-none, substituting-more, substituted-first}
 use borrow.Author.Needs.{needs}
-use Rattle.cells.proofs.substitute_wide.Statement.{statement}
-use Rattle.cells.proofs.substitute_wide.Tie as tie
+use Rattle.substitution.proofs.substitute_wide.Statement.{statement}
+use Rattle.substitution.proofs.substitute_wide.Tie as tie
 
 abbrev Inv-loop : tie.InvT-loop
 Inv-loop n leader w end out₀ p₀ i₀ out p i = (length out ≡ WIDE) × Substituting (leader % 4) (λ k. getD w k 0) out p i

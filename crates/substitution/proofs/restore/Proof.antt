@@ -3,11 +3,11 @@ use mathlib.Core.Path.{_≡_, _∙_}
 use Prim.Native.Nat.{_%_}
 use native.Mathlib.Omega.{arith}
 use lib.Bits.{bitAnd, and-mask, mask-lt}
 use Rattle.cells.specs.Cells.{table, restore}
-use Rattle.cells.proofs.Firsts.{first-within}
+use Rattle.substitution.proofs.Firsts.{first-within}
 use borrow.Author.Needs.{needs}
-use Rattle.cells.proofs.restore.Statement.{statement}
-use Rattle.cells.proofs.restore.Tie as tie
+use Rattle.substitution.proofs.restore.Statement.{statement}
+use Rattle.substitution.proofs.restore.Tie as tie
 
 within-requires : tie.Need-within-requires
 within-requires c κs = search needs

@@ -1,0 +1,4 @@
+pub mod Joined
+pub mod Restoring
+pub mod Firsts
+pub mod Single
