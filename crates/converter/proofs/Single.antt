@@ -4,7 +4,7 @@ use Prim.Native.Nat.{ℕ}
 use contract.Lifetimes.{Lfts}
 use denote.Triple.Clauses.{AtExit}
 use borrow.Fn.Kinds.{Dens, endedOf}
-use Rattle.converter.specs.declared.Converted.{Converted}
+use Rattle.converting.specs.declared.Converted.{Converted}
 use Rattle.converter.proofs.convert.Kinds as convert-kinds
 use Rattle.converter.proofs.convert.Reads as convert-reads
 use Rattle.converter.proofs.to_one.Kinds as one-kinds

@@ -7,16 +7,15 @@ use Prim.Native.Nat.{ℕ, _+_, _≤_}
 use native.Mathlib.Omega.{arith}
 use lib.Dec.{ltb}
 use lib.ListN.{length}
-use borrow.Author.Tests.{ltb-false}
 use Rattle.lists.specs.Below.{Below}
 use Rattle.lists.specs.Buffers.{over}
-use Rattle.stuffing.specs.Stuffing.{stuffed, unstuffed}
+use Rattle.stuffing.specs.Stuffing.{stuffed}
 use Rattle.stuffing.specs.RoundTrip.{unstuff-stuff}
 use Rattle.stuffing.specs.GoodStuffing.{stuff-well}
 use Rattle.stuffing.specs.Outcomes.{length-good}
 use Rattle.body.specs.declared.Edition.{Edition}
 use Rattle.body.specs.declared.Edition.the-variants.{One, Two}
-use Rattle.body.specs.Fields.{Own, Fields, fields, fieldsOf}
+use Rattle.body.specs.Fields.{Own, fields, fieldsOf}
 use Rattle.body.specs.OneToOne.{fields-body}
 use Rattle.framing.specs.Told.{Told}
 use Rattle.framing.specs.Frames.{sealedLine, sealedBody, frameOf}
@@ -24,14 +23,14 @@ use Rattle.framing.specs.Lengths.{besideLine, frameRoom, stretch-within, sealed
 use Rattle.frame.specs.Answers.{sizesRight}
 use Rattle.frame.specs.Outcomes.{Accepts, sizes-right}
 use Rattle.judging.specs.Sizes.{Sizes}
-use Rattle.judging.specs.Editions.{allows, only, allows-only, only-allows}
+use Rattle.judging.specs.Editions.{only, allows-only, only-allows}
 use Rattle.judging.specs.Judged.{Label, labelOf, Judged, shape, stuffing, font, work, seal, unlisted, trade, layout, line}
 use Rattle.judging.specs.Judging.{judge, held}
-use Rattle.demand.specs.Written.{marked, WrittenWith, written-given, given-made}
-use Rattle.converter.specs.declared.Converted.{Converted}
-use Rattle.converter.specs.declared.Converted.the-variants as converted-is
-use Rattle.converter.specs.Answers.{other, sameEdition, otherThan, Sorted, misnamed, judged, sorted, foundOf, refused, bySort, sealedAnew, ConvertCall, convertCall}
-use Rattle.converter.specs.Sorting.{sorted-judged, sorted-line, found-accepts, some-line, convert-sorted}
+use Rattle.demand.specs.Written.{marked, written-given, given-made}
+use Rattle.converting.specs.declared.Converted.the-variants as converted-is
+use Rattle.converting.specs.Answers.{other, sameEdition, otherThan, Sorted, misnamed, judged, sorted, refused, bySort, sealedAnew, convertCall}
+use Rattle.converting.specs.Sorting.{sorted-judged, sorted-line, convert-sorted}
+use Rattle.converter.specs.Accepting.{found-accepts}
 
 -- what a call that is done found
 pub record Took (t : Told) (own : Own) (s : List ℕ) : Type 0 where

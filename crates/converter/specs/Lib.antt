@@ -1,4 +1,3 @@
-pub mod Answers
-pub mod Sorting
+pub mod Accepting
 pub mod Back
 pub mod Narrowing

@@ -1,6 +1,6 @@
 -- `layout-narrows` of the converter (order W7): with a layout named a call comes to what it does with none, or that was done and now it is 17 and
 -- the buffer is as it was. Assumes nothing.
-use mathlib.Core.Path.{_≡_, refl, ap, _∙_}
+use mathlib.Core.Path.{_≡_, refl}
 use mathlib.Core.Bool.{Bool, true, false, not, cond}
 use mathlib.Core.List.{List}
 use Prim.Native.Nat.{ℕ}
@@ -21,8 +21,8 @@ use Rattle.frame.specs.Answers.{sizesRight}
 use Rattle.judging.specs.Judged.{Label, Judged, shape, stuffing, font, work, seal, unlisted, trade, layout, line}
 use Rattle.judging.specs.Judging.{judgeFields}
 use Rattle.judging.specs.Narrowing.{Narrower, alike, narrowed, fields-narrows}
-use Rattle.converter.specs.declared.Converted.the-variants as converted-is
-use Rattle.converter.specs.Answers.{other, sameEdition, Sorted, misnamed, judged, sortFields, sortStuffing, sorted, ConvertCall, refused, sealedAnew, bySort, convertCall}
+use Rattle.converting.specs.declared.Converted.the-variants as converted-is
+use Rattle.converting.specs.Answers.{other, sameEdition, Sorted, misnamed, judged, sortFields, sortStuffing, sorted, refused, bySort, convertCall}
 
 -- what a stretch is found to be with a layout named, beside what it is found to be with none
 data Beside : Sorted → Sorted → Type 0 where

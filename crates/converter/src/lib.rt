@@ -1,172 +1,21 @@
 // The converter (orders W6 and W7): the line of a stretch of one edition sealed anew in the other, under a nonce and where needed a job given to it.
-// The promises cite specs/Answers.antt.
+// The promises cite converting/specs/Answers.antt.
 ghost use mathlib.Core.Path.{_≡_};
 ghost use mathlib.Core.List.{[]};
-ghost use Prim.Native.Nat.{_≤_};
-ghost use lib.ListN.{length};
-ghost use Rattle.line.specs.Lines.{longest};
 ghost use Rattle.body.specs.declared.Edition.the-variants.{One, Two};
 ghost use Rattle.body.specs.Fields.{ownOf};
 ghost use Rattle.framing.specs.Told.{told};
-ghost use Rattle.judging.specs.Sizes.{Sizes};
-ghost use Rattle.judging.specs.Judging.{held};
-ghost use Rattle.judging.specs.Editions.{only as onlyOf};
-ghost use Rattle.converter.specs.Answers.{other as otherOf, sameEdition, otherThan, convertedOf, foundOf, sorted, lineOut, convertCall, numberOf, lengthIn};
+ghost use Rattle.converting.specs.Answers.{convertCall, numberOf, lengthIn};
 use body::Edition;
 use body::LONGEST_LINE;
-use body::job_field_length;
-use frame::FRAME_ROOM;
+use converting::Converted;
+use editions::frame_room;
+use editions::other;
+use finding::line_in;
 use frame::sizes_right;
 use frame::write_edition;
 use layout::Layout;
-use numbers::read_given;
-use numbers::read_length;
 use numbers::write_length;
-use reader::ALL_WORK;
-use reader::Answer;
-use reader::Asked;
-use reader::EDITION_ONE;
-use reader::EDITION_TWO;
-use reader::fields_in;
-use reader::judge;
-
-// What converting a stretch comes to.
-pub enum Converted {
-    // The new frame's length.
-    Done(usize),
-    // Key, font digest, nonce or, for edition two, job not of its size.
-    Sizes,
-    // A buffer with too little room for a frame.
-    NoRoom,
-    // A stretch that is too long, or whose fields are not as they must be.
-    Shape,
-    // Bad stuffing.
-    Stuffing,
-    // A frame that is not of the edition named.
-    Edition,
-    // Sealed to another font.
-    Font,
-    // The seal is not the one worked out.
-    Seal,
-    // The line holds a byte that is not listed.
-    Unlisted,
-    // The line's bytes are listed, but it is not the trade's line.
-    Trade,
-    // It is the trade's line, but not of the layout named.
-    Layout,
-}
-
-// What the line of a stretch comes to: an answer, whether a line was given (1) or not, and its length.
-pub struct Found {
-    pub answer: Converted,
-    pub given: u32,
-    pub length: usize,
-}
-
-// The other edition.
-fn other(edition: Edition) -> Edition
-    ensures { λ r. ⌜ r ≡ otherOf edition ⌝ }
-{
-    match edition {
-        Edition::One => Edition::Two,
-        Edition::Two => Edition::One,
-    }
-}
-
-// That edition alone, as a reader is told it.
-fn only(edition: Edition) -> usize
-    ensures { λ r. ⌜ r ≡ onlyOf edition ⌝ }
-{
-    match edition {
-        Edition::One => EDITION_ONE,
-        Edition::Two => EDITION_TWO,
-    }
-}
-
-// Whether two editions are the same.
-fn same(one: Edition, two: Edition) -> bool
-    ensures { λ r. ⌜ r ≡ sameEdition one two ⌝ }
-{
-    match one {
-        Edition::One => match two {
-            Edition::One => true,
-            Edition::Two => false,
-        },
-        Edition::Two => match two {
-            Edition::One => false,
-            Edition::Two => true,
-        },
-    }
-}
-
-// The converter's answer for what a stretch is judged to be; a line is done with its length.
-fn converted_of(answer: Answer) -> Converted
-    ensures { λ r. ⌜ r ≡ convertedOf answer ⌝ }
-{
-    match answer {
-        Answer::Sizes => Converted::Sizes,
-        Answer::NoRoom => Converted::NoRoom,
-        Answer::TooLong => Converted::Shape,
-        Answer::Beyond => Converted::Shape,
-        Answer::End => Converted::Shape,
-        Answer::Shape => Converted::Shape,
-        Answer::Work => Converted::Shape,
-        Answer::Stuffing => Converted::Stuffing,
-        Answer::Font => Converted::Font,
-        Answer::Seal(_) => Converted::Seal,
-        Answer::Unlisted(_) => Converted::Unlisted,
-        Answer::Trade(_) => Converted::Trade,
-        Answer::Layout(_) => Converted::Layout,
-        Answer::Line { length, calls: _ } => Converted::Done(length),
-    }
-}
-
-// Whether a stretch holds fields of the edition not named.
-fn misnamed(stretch: &[u8], named: Edition) -> bool
-    ensures { λ r. ⌜ r ≡ otherThan named (held (now (stretch .entry))) ⌝ }
-{
-    match fields_in(stretch) {
-        body::Judged::Shape => false,
-        body::Judged::Fields(edition, _) => !same(named, edition),
-    }
-}
-
-// Finds the line of a stretch of the edition named and writes it to the start of line; where there is none, line stays.
-fn line_in(
-    stretch: &[u8],
-    named: Edition,
-    key: &[u8],
-    font: &[u8],
-    layout: Layout,
-    line: &mut [u8],
-) -> Found
-    requires { ⌜ Sizes (told (now key) (now font) layout) ⌝ }
-    requires { ⌜ longest ≤ length (now line) ⌝ }
-    ensures { λ r. ⌜ r ≡ foundOf (sorted (told (now (key .entry)) (now (font .entry)) layout) named (now (stretch .entry))) ⌝ }
-    ensures { λ _. ⌜ now (line .exit) ≡ lineOut (sorted (told (now (key .entry)) (now (font .entry)) layout) named (now (stretch .entry))) (now (line .entry)) ⌝ }
-{
-    if misnamed(stretch, named) {
-        let answer = Converted::Edition;
-        return Found {
-            answer,
-            given: 0,
-            length: 0,
-        };
-    }
-    let asked = Asked {
-        editions: only(named),
-        allowed: ALL_WORK,
-        layout,
-    };
-    let verdict = judge(stretch, key, font, asked, line);
-    let judged = verdict.answer;
-    let answer = converted_of(judged);
-    Found {
-        answer,
-        given: read_given(judged),
-        length: read_length(judged),
-    }
-}
 
 // Seals the line of a stretch of the other edition anew in this one, and writes its frame to the start of frame; the rest of it stays. A refusal
 // writes nothing.
@@ -186,7 +35,7 @@ pub fn convert(
     if !sizes_right(edition, key, nonce, font, job) {
         return Converted::Sizes;
     }
-    if frame.len() < FRAME_ROOM + 2 * job_field_length(edition) {
+    if frame.len() < frame_room(edition) {
         return Converted::NoRoom;
     }
     let mut line = [0u8; LONGEST_LINE];

@@ -7,8 +7,8 @@ use Rattle.body.specs.Fields.{Own}
 use Rattle.framing.specs.Told.{told}
 use Rattle.frame.specs.declared.Written.{Written}
 use Rattle.frame.specs.Answers.{writeCall}
-use Rattle.converter.specs.declared.Converted.{Converted}
-use Rattle.converter.specs.Answers.{convertCall}
+use Rattle.converting.specs.declared.Converted.{Converted}
+use Rattle.converting.specs.Answers.{convertCall}
 use Rattle.reader.specs.declared.Asked.{Asked}
 use Rattle.reader.specs.declared.Reading.{Reading}
 use Rattle.reader.specs.Answers.{readAnswer, readOut}

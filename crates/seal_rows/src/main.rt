@@ -2,7 +2,7 @@
 // writing or converting gives for each case on standard input. A case is its head, its name and the call's five parts: key, nonce, associated
 // data (of a frame the font digest), text (or line, or stretch), seal (of a frame the job). The head has the lengths of those, the room for
 // what comes out, which call, the cipher's instance and a frame's layout: four bytes each, the high byte first.
-use converter::Converted;
+use converting::Converted;
 use digest::DIGEST;
 use frame::Written;
 use layout::Layout;

@@ -1,5 +1,5 @@
 -- `lubdhvani_to_one` meets its promise: the converter's answer, read off as number and length. Assumes nothing.
-use Rattle.converter.specs.Answers as converting
+use Rattle.converting.specs.Answers as converting
 use mathlib.Core.Path.{_∙_, ap}
 use mathlib.Core.List.{[]}
 use Rattle.body.specs.declared.Edition.the-variants.{One}

@@ -2,9 +2,9 @@
 use mathlib.Core.Path.{sym, _∙_}
 use borrow.Author.Needs.{needs}
 use Rattle.judging.specs.Judging.{held}
-use Rattle.converter.proofs.Converting.{shape-other, fields-other}
-use Rattle.converter.proofs.misnamed.Statement.{statement}
-use Rattle.converter.proofs.misnamed.Tie as tie
+use Rattle.editions.proofs.Telling.{shape-other, fields-other}
+use Rattle.editions.proofs.misnamed.Statement.{statement}
+use Rattle.editions.proofs.misnamed.Tie as tie
 
 fields-in-requires : tie.Need-fields-in-requires
 fields-in-requires c κs = search needs

@@ -1,6 +1,6 @@
 -- A stretch that is not misnamed is what a reader of the edition named alone judges it to be; and what converting comes to, case by case.
 -- Assumes nothing.
-use mathlib.Core.Path.{_≡_, refl, sym, ap, _∙_}
+use mathlib.Core.Path.{_≡_, refl, sym, _∙_}
 use mathlib.Core.Bool.{Bool, true, false, not, cond}
 use mathlib.Core.List.{List}
 use Prim.Native.Nat.{ℕ, _≤_}
@@ -8,8 +8,6 @@ use native.Mathlib.Omega.{arith}
 use lib.Dec.{eqb, ltb}
 use lib.ListN.{length}
 use borrow.Author.Tests.{eqb-true, le-ltb}
-use Rattle.lists.specs.Below.{Below}
-use Rattle.lists.specs.Buffers.{over}
 use Rattle.lists.specs.Never.{never}
 use Rattle.stuffing.specs.declared.Unstuffed.{Unstuffed}
 use Rattle.stuffing.specs.declared.Unstuffed.the-variants as unstuffed-is
@@ -19,18 +17,14 @@ use Rattle.body.specs.declared.Edition.{Edition}
 use Rattle.body.specs.declared.Edition.the-variants.{One, Two}
 use Rattle.body.specs.Fields.{nonceLength, digestLength, jobSize, Own, Fields, fields, no-body, fieldsOf}
 use Rattle.framing.specs.Told.{keyLength, Told}
-use Rattle.framing.specs.Frames.{frameOf}
-use Rattle.framing.specs.Lengths.{frameRoom, Sealable}
+use Rattle.framing.specs.Lengths.{frameRoom}
 use Rattle.frame.specs.Answers.{sizesRight}
-use Rattle.frame.specs.Outcomes.{Accepts, right-sealable, length-right}
 use Rattle.judging.specs.Sizes.{Sizes}
 use Rattle.judging.specs.Editions.{allows, only, among}
-use Rattle.judging.specs.Judged.{Label, Judged, shape, stuffing, font, work, seal, unlisted, trade, layout, line}
+use Rattle.judging.specs.Judged.{Label, shape, stuffing, font, work, seal, unlisted, trade, layout, line}
 use Rattle.judging.specs.Judging.{judgeFields, byStuffing, judge, heldBy, held}
-use Rattle.reader.specs.Answers.{answerOf, givenOf}
-use Rattle.demand.specs.Written.{given-made}
-use Rattle.converter.specs.declared.Converted.the-variants as converted-is
-use Rattle.converter.specs.Answers.{other, sameEdition, otherThan, Sorted, misnamed, judged, sortFields, sortStuffing, sorted, foundOf, refused, bySort, sealedAnew, ConvertCall, convertCall}
+use Rattle.converting.specs.declared.Converted.the-variants as converted-is
+use Rattle.converting.specs.Answers.{other, sameEdition, otherThan, Sorted, misnamed, judged, sortFields, sortStuffing, sorted, foundOf, refused, bySort, convertCall}
 
 -- the edition named is allowed to a reader of it alone, and the other is not
 same-allows : (e e′ : Edition) → sameEdition e e′ ≡ allows (only e) e′
@@ -82,13 +76,6 @@ module _ (t : Told) (named : Edition) where
       go : (b : Bool) → otherThan named (held s) ≡ b → judge t (only named) s ≡ line k L n
       go true h = absurd (let z : _≡_ {A = ℕ} 0 1 = cc (e, sorted-misnamed s h) in omega arith)
       go false h = cc (e, sorted-judged s h)
-
--- what the writer makes of a line that was found
-pub found-accepts : (t : Told) → Sizes t → (ed : ℕ) (s : List ℕ) → Below 256 s → (own : Own) → sizesRight t own ≡ true
-    → (k : Label) (L : List ℕ) (n : ℕ) → judge t ed s ≡ line k L n → Accepts t own L
-found-accepts t z ed s bytes own r k L n e =
-    let w = given-made t z ed s bytes k L n e .1 .accepts in
-    record { sealable = right-sealable t own L r (length-right (w .sealable)); ruled = w .ruled }
 
 -- sizes that are right are right for a reader too
 pub sizes-told : (t : Told) (own : Own) → sizesRight t own ≡ true → Sizes t

@@ -1,20 +1,18 @@
 -- `line_in` meets its promise: 16 where the stretch is misnamed, else what a reader of the edition named alone finds. Assumes nothing.
 use mathlib.Core.Path.{sym, _∙_}
-use native.Mathlib.Omega.{arith}
 use borrow.Author.Needs.{needs}
-use Rattle.lists.specs.Below.{below-all}
 use Rattle.framing.specs.Told.{told}
-use Rattle.converter.proofs.Converting.{at-misnamed, at-judged}
-use Rattle.converter.proofs.line_in.Statement.{statement}
-use Rattle.converter.proofs.line_in.Tie as tie
+use Rattle.finding.specs.Finding.{foundIn, lineIn}
+use Rattle.finding.proofs.Judged.{at-judged}
+use Rattle.finding.proofs.line_in.Statement.{statement}
+use Rattle.finding.proofs.line_in.Tie as tie
 
 misnamed-requires : tie.Need-misnamed-requires
 misnamed-requires c κs = search needs
 
 returns : tie.Need-returns
-returns c =
-    let a = c .before .before .before .before .before .before .args in
-    at-misnamed (told (a .key .now) (a .font .now) (a .layout)) (a .named) (a .stretch .now) (a .line .now) (sym (c .before .misnamed .ensures) ∙ c .if1 .taken)
+unfolding foundIn lineIn
+returns c = let h = sym (c .before .misnamed .ensures) ∙ c .if1 .taken in (rw h, rw h)
 
 only-requires : tie.Need-only-requires
 only-requires c κs = search needs
@@ -36,12 +34,11 @@ same-length c = search needs
 
 returns-2 : tie.Need-returns-2
 returns-2 c =
-    let s = c .before .before .before .before .before .before .before .before .before .before .before .before .before .before in
-    let a = s .args in
+    let a = c .before .before .before .before .before .before .before .before .before .before .before .before .before .before .args in
     let j = c .before .before .before .before .before .judge in
     at-judged (told (a .key .now) (a .font .now) (a .layout)) (a .named) (a .stretch .now) (a .line .now)
-    (sym (c .before .before .before .before .before .before .before .before .before .misnamed .ensures) ∙ c .before .before .before .before .before .before .before .before .if1 .left) (s .pre .0)
-    (below-all 256 (a .stretch .now) (λ k h. omega (arith, c .before .before .before .before .before .before .before .before .before .before .before .before .before .shared-slice-known .given k))) (s .pre .1) _ (c .before .before .before .before .before .before .before .only .ensures) (omega arith)
+    (sym (c .before .before .before .before .before .before .before .before .before .misnamed .ensures) ∙ c .before .before .before .before .before .before .before .before .if1 .left)
+    _ (c .before .before .before .before .before .before .before .only .ensures)
     _ _ (j .ensures .0) (j .ensures .1) _ _ _ (c .before .before .converted-of .ensures) (c .before .read-given .ensures) (c .read-length .ensures)
 
 pub line-in-spec : {M : Type 1} → statement M

@@ -1,8 +1,7 @@
 -- `converted_of` meets its promise, case by case. Assumes nothing.
-use native.Mathlib.Omega.{arith}
 use borrow.Author.Needs.{needs}
-use Rattle.converter.proofs.converted_of.Statement.{statement}
-use Rattle.converter.proofs.converted_of.Tie as tie
+use Rattle.finding.proofs.converted_of.Statement.{statement}
+use Rattle.finding.proofs.converted_of.Tie as tie
 
 enum-told : tie.Need-enum-told
 enum-told c = search needs

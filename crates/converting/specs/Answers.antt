@@ -22,9 +22,9 @@ use Rattle.judging.specs.Judging.{judgeFields}
 use Rattle.reader.specs.declared.Answer.{Answer}
 use Rattle.reader.specs.declared.Answer.the-variants as answer-is
 use Rattle.reader.specs.Answers.{answerOf, lineOver, lengthOf, givenOf}
-use Rattle.converter.specs.declared.Converted.{Converted}
-use Rattle.converter.specs.declared.Converted.the-variants as converted-is
-use Rattle.converter.specs.declared.Found.{Found}
+use Rattle.converting.specs.declared.Converted.{Converted}
+use Rattle.converting.specs.declared.Converted.the-variants as converted-is
+use Rattle.converting.specs.declared.Found.{Found}
 
 -- the other edition
 abbrev pub other : Edition → Edition
