@@ -3,8 +3,7 @@ use mathlib.Core.Path.{_≡_, refl, sym, ap, _∙_}
 use mathlib.Core.Bool.{false}
 use mathlib.Core.List.{List, [], _∷_, _++_}
 use mathlib.Core.Logic.{⊎-elim}
-use Prim.Native.Nat.{ℕ, _+_, _-_, _/_, _%_, _≤_, _<_}
-use native.Mathlib.Nat.{mod-lt}
+use Prim.Native.Nat.{ℕ, _+_, _/_, _%_, _≤_}
 use native.Mathlib.Omega.{arith}
 use types.Run.{OneOf}
 use denote.Enum.Declared.{tagOf}
@@ -13,17 +12,17 @@ use lib.ListN.{length, take}
 use Rattle.lists.specs.Buffers.{copied, over}
 use Rattle.lists.specs.Over.{copied-all}
 use Rattle.gage.specs.Permutation.{LARGEST}
-use Rattle.sponge.specs.Padding.{LARGEST-RATE}
 use Rattle.sponge.specs.Absorbing.{from}
 use Rattle.hashing.specs.Instances.{DIGEST, unknown, sizeOf, rateOf, outputsOf}
 use Rattle.digest.specs.Answers.{LONGEST-MESSAGE}
 use Rattle.digest.specs.Calls as digest-calls
-use Rattle.hashing.specs.Shapes.{known-whole}
 use Rattle.digest.specs.Parts.{spongeOf, takenIn, closedBy, within}
 use Rattle.digest.specs.Joining.{taken-state, closed-calls, closed-state}
 use Rattle.digest.specs.declared.Shape.{Shape}
-use Rattle.running.specs.Running.{written, soFar, unfinished, unfed, takenUp, leftOf, grown, feedAnswer, feedRecord, concluded, finishAnswer, finishOut, onFinish, ended}
-use Rattle.feeding.specs.Growing.{Growing}
+use Rattle.running.specs.Running.{written, soFar, unfinished, unfed, takenUp, grown, feedAnswer, feedRecord, concluded, finishAnswer, finishOut, onFinish, ended}
+use Rattle.growing.specs.declared.Grown.{Grown}
+use Rattle.growing.specs.Growing.{grownBy}
+use Rattle.growing.specs.Held.{rate-is, outputs-is}
 use Rattle.running.specs.Order.{finish-passes}
 use Rattle.running.specs.declared.Record.{Record}
 use Rattle.running.specs.declared.Fed.{Fed}
@@ -48,30 +47,8 @@ finish-refused r finished-is.AfterFinish k = refl
 finish-refused r finished-is.Unknown k = refl
 finish-refused r finished-is.NoRoom k = refl
 
--- what the code works out of a record that is fed
-module _ (r : Record) (known : unknown (r .instance) ≡ false) {shape : Shape} (shape-is : shape ≡ spongeOf (r .instance)) where
-  pub rate-is : shape .rate ≡ rateOf (r .instance)
-  unfolding spongeOf
-  rate-is = rw (shape-is, known)
-
-  pub outputs-is : shape .outputs ≡ outputsOf (r .instance)
-  unfolding spongeOf
-  outputs-is = rw (shape-is, known)
-
-  pub some : 0 < shape .rate
-  some = rw rate-is (known-whole (r .instance) known .fits .some)
-
-  pub held-less : r .total % shape .rate < shape .rate
-  held-less = mod-lt (r .total) some
-
-  pub held-fits : r .total % shape .rate ≤ LARGEST-RATE
-  held-fits =
-      let l : shape .rate ≤ LARGEST-RATE = rw rate-is (known-whole (r .instance) known .fits .least) in
-      omega (arith, held-less)
-
-  pub growing : Growing (r .instance) (r .total % shape .rate) (shape .rate - r .total % shape .rate)
-  growing = let h = held-less in record { known = known; whole = rw (sym rate-is) (omega arith); lacks = omega arith }
-
+-- a record that is fed, and what `grow` gives for it
+module _ (r : Record) (known : unknown (r .instance) ≡ false) where
   -- the state grown by a step is the one after the full blocks
   grown-state : (x : List ℕ) → takenIn (r .instance) (r .state) x ≡ within LARGEST (takenUp r x)
   unfolding takenIn takenUp soFar
@@ -80,34 +57,38 @@ module _ (r : Record) (known : unknown (r .instance) ≡ false) {shape : Shape} 
       (ap (within LARGEST) (taken-state (rateOf (r .instance)) x (from (take (sizeOf (r .instance)) (r .state))) (soFar r)
       (length x / rateOf (r .instance)) refl))
 
-  pub feed-done : (b state block : List ℕ) → fed-is.Done ≡ feedAnswer r b
-      → state ≡ takenIn (r .instance) (r .state) (take (r .total % shape .rate) (r .block) ++ b)
-      → block ≡ within LARGEST-RATE (leftOf (r .instance) (take (r .total % shape .rate) (r .block) ++ b))
-      → record { total = r .total + length b; instance = r .instance; finished = 0; state = state; block = block } ≡ feedRecord r b
-  unfolding feedRecord grown written unfinished
-  feed-done b state block e s-is b-is =
-      let s : state ≡ within LARGEST (takenUp r (take (r .total % shape .rate) (r .block) ++ b)) =
-      s-is ∙ grown-state (take (r .total % shape .rate) (r .block) ++ b) in
-      rw (s, b-is, sym e, rate-is)
+  pub feed-done : (b : List ℕ) (g : Grown) → fed-is.Done ≡ feedAnswer r b → g ≡ grownBy (r .instance) (r .state) (r .block) (r .total) b
+      → record { total = r .total + length b; instance = r .instance; finished = 0; state = g .state; block = g .block } ≡ feedRecord r b
+  unfolding feedRecord grown written unfinished grownBy
+  feed-done b g e g-is =
+      rw (g-is, known, grown-state (take (r .total % rateOf (r .instance)) (r .block) ++ b), sym e)
+
+-- what the code works out of a record that is finished
+module _ (r : Record) (known : unknown (r .instance) ≡ false) {shape : Shape} (shape-is : shape ≡ spongeOf (r .instance)) where
+  rate : shape .rate ≡ rateOf (r .instance)
+  rate = rate-is (r .instance) (r .total) known shape-is
+
+  outputs : shape .outputs ≡ outputsOf (r .instance)
+  outputs = outputs-is (r .instance) (r .total) known shape-is
 
   -- the digest that is given out, and its count
   given-out : (hash : List ℕ) → hash ≡ closedBy (r .instance) (r .state) (take (r .total % shape .rate) (r .block))
       → hash ≡ concluded r .hash
   unfolding closedBy concluded unfinished soFar
   given-out hash e =
-      e ∙ rw (known, rate-is)
+      e ∙ rw (known, rate)
       (closed-state (rateOf (r .instance)) (outputsOf (r .instance)) (take (r .total % rateOf (r .instance)) (r .block))
       (from (take (sizeOf (r .instance)) (r .state))) (soFar r) refl)
 
   counted : r .total / shape .rate + 1 + shape .outputs ≡ concluded r .run .calls
   unfolding concluded soFar
   counted =
-      rw (rate-is, outputs-is)
+      rw (rate, outputs)
       (sym (closed-calls (rateOf (r .instance)) (outputsOf (r .instance)) (unfinished r) (soFar r)))
 
   -- the count is far below the machine's largest number
   pub count-fits : r .total ≤ LONGEST-MESSAGE → r .total / shape .rate + shape .outputs ≤ LONGEST-MESSAGE + DIGEST
-  count-fits h = rw (rate-is, outputs-is) (digest-calls.count-fits (r .instance) (r .total) known h .1)
+  count-fits h = rw (rate, outputs) (digest-calls.count-fits (r .instance) (r .total) known h .1)
 
   pub finish-done : (o hash w : List ℕ) → length hash ≡ DIGEST → unfed r ≡ false → r .finished ≤ 0 → DIGEST ≤ length o
       → hash ≡ closedBy (r .instance) (r .state) (take (r .total % shape .rate) (r .block)) → w ≡ copied hash o

@@ -1,15 +1,13 @@
-// The steps of the running digest (order W4) by value: what start, feed and finish answer, and the record that each leaves. A block is taken
-// in as it fills, so that the record holds no more of the message than its unfinished block. The promises cite running/specs/Running.antt.
+// The steps of the running digest (order W4) by value: what start, feed and finish answer, and the record that each leaves. The record holds no more
+// of the message than its unfinished block. The promises cite running/specs/Running.antt.
 ghost use mathlib.Core.Path.{_≡_};
-ghost use mathlib.Core.List.{_++_};
 ghost use Prim.Native.Nat.{_≤_};
 ghost use lib.ListN.{take};
 ghost use Rattle.sponge.specs.Padding.{LARGEST-RATE};
-ghost use Rattle.digest.specs.Parts.{within, takenIn, closedBy};
-ghost use Rattle.running.specs.Running.{unfed, leftOf, startAnswer, startRecord, feedAnswer, feedRecord, ended};
-ghost use Rattle.running.specs.Running.{finishAnswer, finishOut, finishRecord, onFinish};
+ghost use Rattle.digest.specs.Parts.{closedBy};
+ghost use Rattle.running.specs.Running.{startAnswer, startRecord, feedAnswer, feedRecord, ended};
+ghost use Rattle.running.specs.Running.{finishAnswer, finishOut, onFinish};
 ghost use Rattle.running.specs.Running.{startNumber, feedNumber, finishNumber, finishCount};
-ghost use Rattle.feeding.specs.Growing.{Growing};
 use digest::DIGEST;
 use digest::LONGEST_MESSAGE;
 use gage::LARGEST;
@@ -55,16 +53,6 @@ pub fn after_start(running: Record, instance: usize) -> Record
     }
 }
 
-// Whether a record has no known instance, or counts more than can be fed.
-fn is_unfed(running: Record) -> bool
-    ensures { λ r. ⌜ r ≡ unfed running ⌝ }
-{
-    if digest::is_unknown(running.instance as usize) {
-        return true;
-    }
-    running.total > LONGEST_MESSAGE
-}
-
 // What `feed` answers.
 pub fn feed_answer(running: Record, bytes: &[u8]) -> Fed
     ensures { λ r. ⌜ r ≡ feedAnswer running (now (bytes .entry)) ⌝ }
@@ -72,66 +60,13 @@ pub fn feed_answer(running: Record, bytes: &[u8]) -> Fed
     if running.finished > NOT_FINISHED {
         return Fed::AfterFinish;
     }
-    if is_unfed(running) {
+    if claims::is_unfed(running) {
         return Fed::Unknown;
     }
     if bytes.len() > LONGEST_MESSAGE - running.total {
         return Fed::TooLong;
     }
     Fed::Done
-}
-
-// The first bytes of a block and as many more as fit, zeros behind them.
-fn joined(block: [u8; LARGEST_RATE], held: usize, bytes: &[u8]) -> [u8; LARGEST_RATE]
-    requires { ⌜ held ≤ LARGEST-RATE ⌝ }
-    ensures { λ r. ⌜ r ≡ within LARGEST-RATE (take held block ++ now (bytes .entry)) ⌝ }
-{
-    let mut out = [0u8; LARGEST_RATE];
-    lists::copy(&block[0..held], &mut out);
-    lists::copy(bytes, &mut out[held..]);
-    out
-}
-
-// A state after the blocks that fill: the one begun, of which some bytes are held and some missing, and those whole in the bytes fed.
-fn grow_state(
-    instance: usize,
-    state: [u8; LARGEST],
-    block: [u8; LARGEST_RATE],
-    held: usize,
-    missing: usize,
-    bytes: &[u8],
-) -> [u8; LARGEST]
-    requires { ⌜ Growing instance held missing ⌝ }
-    ensures { λ r. ⌜ r ≡ takenIn instance state (take held block ++ now (bytes .entry)) ⌝ }
-{
-    if bytes.len() < missing {
-        return digest::take_in(instance, state, &block[0..held]);
-    }
-    let first = joined(block, held, &bytes[0..missing]);
-    let rate = held + missing;
-    let filled = digest::take_in(instance, state, &first[0..rate]);
-    digest::take_in(instance, filled, &bytes[missing..])
-}
-
-// The block after them: what fills none.
-fn grow_block(
-    instance: usize,
-    block: [u8; LARGEST_RATE],
-    held: usize,
-    missing: usize,
-    bytes: &[u8],
-) -> [u8; LARGEST_RATE]
-    requires { ⌜ Growing instance held missing ⌝ }
-    ensures { λ r. ⌜ r ≡ within LARGEST-RATE (leftOf instance (take held block ++ now (bytes .entry))) ⌝ }
-{
-    let fed = bytes.len();
-    if fed < missing {
-        return joined(block, held, bytes);
-    }
-    let rate = held + missing;
-    let whole = (fed - missing) / rate * rate;
-    let at = missing + whole;
-    joined(block, 0, &bytes[at..])
 }
 
 // The digest from a state and the bytes held of the unfinished block.
@@ -155,14 +90,12 @@ pub fn after_feed(running: Record, bytes: &[u8]) -> Record
         return running;
     };
     let instance = running.instance as usize;
-    let shape = digest::sponge_of(instance);
     let total = running.total;
-    let held = total % shape.rate;
-    let missing = shape.rate - held;
     let old = running.state;
     let begun = running.block;
-    let state = grow_state(instance, old, begun, held, missing, bytes);
-    let block = grow_block(instance, begun, held, missing, bytes);
+    let grown = growing::grow(instance, old, begun, total, bytes);
+    let state = grown.state;
+    let block = grown.block;
     Record {
         total: total + bytes.len(),
         instance: running.instance,
@@ -179,7 +112,7 @@ pub fn give(running: Record, out: &mut [u8]) -> Finished
     if running.finished > NOT_FINISHED {
         return Finished::AfterFinish;
     }
-    if is_unfed(running) {
+    if claims::is_unfed(running) {
         return Finished::Unknown;
     }
     if out.len() < DIGEST {

@@ -5,7 +5,8 @@ use lib.ListN.{length}
 use Rattle.hashing.specs.Instances.{DIGEST}
 use Rattle.running.specs.Running.{finishAnswer, finishOut}
 use Rattle.running.specs.Order.{known-of}
-use Rattle.feeding.proofs.Answering.{some, held-fits, count-fits, finish-done}
+use Rattle.growing.specs.Held.{some, held-fits}
+use Rattle.feeding.proofs.Answering.{count-fits, finish-done}
 use native.Mathlib.Omega.{arith}
 use borrow.Author.Needs.{needs}
 use Rattle.feeding.proofs.give.Statement.{statement}
@@ -34,10 +35,10 @@ sponge-of-requires : tie.Need-sponge-of-requires
 sponge-of-requires c κs = search needs
 
 rem-held : tie.Need-rem-held
-rem-held c = omega (arith, some (c .before .before .before .before .before .before .before .before .args .running) (known-of (c .before .before .before .before .before .before .before .before .args .running) (sym (c .before .before .before .before .is-unfed .ensures) ∙ c .before .before .before .if2 .left) .0) (c .sponge-of .ensures))
+rem-held c = omega (arith, some (c .before .before .before .before .before .before .before .before .args .running .instance) (c .before .before .before .before .before .before .before .before .args .running .total) (known-of (c .before .before .before .before .before .before .before .before .args .running) (sym (c .before .before .before .before .is-unfed .ensures) ∙ c .before .before .before .if2 .left) .0) (c .sponge-of .ensures))
 
 hash-of-requires : tie.Need-hash-of-requires
-hash-of-requires c κs = held-fits (c .before .before .before .before .before .before .before .before .before .before .args .running) (known-of (c .before .before .before .before .before .before .before .before .before .before .args .running) (sym (c .before .before .before .before .before .before .is-unfed .ensures) ∙ c .before .before .before .before .before .if2 .left) .0) (c .before .before .sponge-of .ensures)
+hash-of-requires c κs = held-fits (c .before .before .before .before .before .before .before .before .before .before .args .running .instance) (c .before .before .before .before .before .before .before .before .before .before .args .running .total) (known-of (c .before .before .before .before .before .before .before .before .before .before .args .running) (sym (c .before .before .before .before .before .before .is-unfed .ensures) ∙ c .before .before .before .before .before .if2 .left) .0) (c .before .before .sponge-of .ensures)
 
 slice-aggregate-copy : tie.Need-slice-aggregate-copy
 slice-aggregate-copy c = search needs
@@ -46,7 +47,7 @@ copy-requires : tie.Need-copy-requires
 copy-requires c κs = search needs
 
 div-t13 : tie.Need-div-t13
-div-t13 c = omega (arith, some (c .before .before .before .before .before .before .before .before .before .before .before .before .before .before .before .before .args .running) (known-of (c .before .before .before .before .before .before .before .before .before .before .before .before .before .before .before .before .args .running) (sym (c .before .before .before .before .before .before .before .before .before .before .before .before .is-unfed .ensures) ∙ c .before .before .before .before .before .before .before .before .before .before .before .if2 .left) .0) (c .before .before .before .before .before .before .before .before .sponge-of .ensures))
+div-t13 c = omega (arith, some (c .before .before .before .before .before .before .before .before .before .before .before .before .before .before .before .before .args .running .instance) (c .before .before .before .before .before .before .before .before .before .before .before .before .before .before .before .before .args .running .total) (known-of (c .before .before .before .before .before .before .before .before .before .before .before .before .before .before .before .before .args .running) (sym (c .before .before .before .before .before .before .before .before .before .before .before .before .is-unfed .ensures) ∙ c .before .before .before .before .before .before .before .before .before .before .before .if2 .left) .0) (c .before .before .before .before .before .before .before .before .sponge-of .ensures))
 
 add-t20 : tie.Need-add-t20
 add-t20 c =

@@ -15,7 +15,7 @@ use Rattle.hashing.specs.Shapes.{known-whole}
 use Rattle.digest.specs.Parts.{taken, takenIn, within}
 use Rattle.digest.specs.Joining.{taken-split, left-split, taken-short, left-short, taken-state, length-taken, within-front}
 use Rattle.running.specs.Running.{leftOf}
-use Rattle.feeding.specs.Growing.{Growing}
+use Rattle.growing.specs.Growing.{Growing}
 
 -- what an instance's sizes make room for
 pub record Sizes (i held missing : ℕ) : Type 0 where

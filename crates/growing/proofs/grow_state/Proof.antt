@@ -1,10 +1,10 @@
 -- `grow_state` meets its promise: no block, or the one that is filled and those behind it. Assumes nothing.
 use mathlib.Core.Path.{_∙_}
-use Rattle.feeding.proofs.Growing.{sizes, state-kept, state-grown}
+use Rattle.growing.proofs.Growing.{sizes, state-kept, state-grown}
 use native.Mathlib.Omega.{arith}
 use borrow.Author.Needs.{needs}
-use Rattle.feeding.proofs.grow_state.Statement.{statement}
-use Rattle.feeding.proofs.grow_state.Tie as tie
+use Rattle.growing.proofs.grow_state.Statement.{statement}
+use Rattle.growing.proofs.grow_state.Tie as tie
 
 sub-take-in : tie.Need-sub-take-in
 sub-take-in c = search needs

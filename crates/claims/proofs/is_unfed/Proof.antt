@@ -2,8 +2,8 @@
 use mathlib.Core.Path.{sym, _∙_}
 use Rattle.running.specs.Running.{unfed}
 use borrow.Author.Needs.{needs}
-use Rattle.feeding.proofs.is_unfed.Statement.{statement}
-use Rattle.feeding.proofs.is_unfed.Tie as tie
+use Rattle.claims.proofs.is_unfed.Statement.{statement}
+use Rattle.claims.proofs.is_unfed.Tie as tie
 
 cast-is-unknown : tie.Need-cast-is-unknown
 cast-is-unknown c = search needs

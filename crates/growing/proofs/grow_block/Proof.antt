@@ -3,11 +3,11 @@ use native.Mathlib.Nat.{div-mul-le-self}
 use Prim.Native.Nat.{_+_, _-_}
 use lib.ListN.{length}
 use mathlib.Core.Path.{refl, _∙_}
-use Rattle.feeding.proofs.Growing.{sizes, block-kept, block-grown}
+use Rattle.growing.proofs.Growing.{sizes, block-kept, block-grown}
 use native.Mathlib.Omega.{arith}
 use borrow.Author.Needs.{needs}
-use Rattle.feeding.proofs.grow_block.Statement.{statement}
-use Rattle.feeding.proofs.grow_block.Tie as tie
+use Rattle.growing.proofs.grow_block.Statement.{statement}
+use Rattle.growing.proofs.grow_block.Tie as tie
 
 joined-requires : tie.Need-joined-requires
 joined-requires c κs = omega (arith, sizes (c .before .before .args .instance) (c .before .before .pre))

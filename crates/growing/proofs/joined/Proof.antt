@@ -1,8 +1,8 @@
 -- `joined` meets its promise: two copies over zeros, one behind the other. Assumes nothing.
-use Rattle.feeding.proofs.Filling.{block-joined}
+use Rattle.growing.proofs.Filling.{block-joined}
 use borrow.Author.Needs.{needs}
-use Rattle.feeding.proofs.joined.Statement.{statement}
-use Rattle.feeding.proofs.joined.Tie as tie
+use Rattle.growing.proofs.joined.Statement.{statement}
+use Rattle.growing.proofs.joined.Tie as tie
 
 sub-copy : tie.Need-sub-copy
 sub-copy c = search needs
