@@ -1,3 +1,3 @@
-pub mod Places
 pub mod Walking
+pub mod Holding
 pub mod Single

@@ -6,20 +6,8 @@ use Prim.Native.Nat.{ℕ, zero, suc, _+_, _-_, _*_, _/_, _%_}
 use lib.Dec.{eqb, leb, ltb}
 use lib.ListN.{length, getD}
 use Rattle.text.specs.Hex.{digit}
-use Rattle.bundles.specs.Bundles.{glyphRows, characters, allRows}
-
--- the bytes of a drawing that are not a bundle's: a line's end, a blank, a dot that is printed and one that is not
-abbrev pub newline : ℕ
-newline = 0x0A
-
-abbrev pub blank : ℕ
-blank = 0x20
-
-abbrev pub printed : ℕ
-printed = 0x23
-
-abbrev pub unprinted : ℕ
-unprinted = 0x2E
+use Rattle.bundles.specs.Bundles.{glyphRows, characters}
+use Rattle.dots.specs.Lines.{newline, blank, unprinted, lineLength, lineChar}
 
 -- the word before a name, and its length
 abbrev pub nameWord : List ℕ
@@ -48,26 +36,6 @@ nameChar name i =
     (cond (eqb i (2 * length name + 5)) blank
     (cond (ltb i (3 * length name + 6)) (legible (getD name (i - (2 * length name + 6)) 0))
     newline)))
-
--- the line of a row has ten bytes
-abbrev pub lineLength : ℕ
-lineLength = 10
-
--- what the dot at place m of a line counts in its row; the dots stand at places 2 to 8
-abbrev pub weights : List ℕ
-weights = 1 ∷ 1 ∷ 64 ∷ 32 ∷ 16 ∷ 8 ∷ 4 ∷ 2 ∷ 1 ∷ 1 ∷ []
-
--- whether a row has the dot that counts w
-unfoldable pub dotOf : ℕ → ℕ → ℕ
-dotOf r w = cond (eqb (r / w % 2) 1) printed unprinted
-
--- place m of the line of the row r of the character c: the character, a blank, seven dots, the newline
-unfoldable pub lineChar : ℕ → ℕ → ℕ → ℕ
-lineChar c r m =
-    cond (eqb m 0) c
-    (cond (eqb m 1) blank
-    (cond (eqb m 9) newline
-    (dotOf r (getD weights m 0))))
 
 -- place j of the lines of all rows: row k is of the character k / 9
 unfoldable pub rowChar : List ℕ → ℕ → ℕ

@@ -12,7 +12,8 @@ use Rattle.bundling.specs.Answers.{writeAnswer, writeOut}
 use Rattle.drawing.specs.declared.Made.the-variants.{Row}
 use Rattle.drawing.specs.Drawing.{nameLineLength, charAt, drawingLength, listed}
 use Rattle.drawing.specs.Listed.{length-listed}
-use Rattle.drawing.specs.Making.{endOf, nameLengthOf, nameByte, rowFrom, nameDrawn, rowsDrawn, fault, faultRow, ofWritten, makeAnswer, makeOut}
+use Rattle.dots.specs.Faults.{fault}
+use Rattle.drawing.specs.Making.{endOf, nameLengthOf, nameByte, rowFrom, nameDrawn, rowsDrawn, faultRow, ofWritten, makeAnswer, makeOut}
 
 -- a name that a text draws is no longer than the longest, and there are 126 rows
 pub name-bound : (end : ℕ) → nameLengthOf end ≤ longestName

@@ -9,7 +9,9 @@ use Rattle.bundles.specs.Bundles.{longestName, allRows, bundleOf}
 use Rattle.bundling.specs.declared.Written.{Written}
 use Rattle.bundling.specs.declared.Written.the-variants as written-is
 use Rattle.bundling.specs.Answers.{writeAnswer, writeOut}
-use Rattle.drawing.specs.Drawing.{newline, printed, nameLineLength, lineLength, charAt, drawingLength, listed}
+use Rattle.dots.specs.Lines.{newline, printed, lineLength}
+use Rattle.dots.specs.Faults.{fault}
+use Rattle.drawing.specs.Drawing.{nameLineLength, charAt, drawingLength, listed}
 use Rattle.drawing.specs.declared.Made.{Made}
 use Rattle.drawing.specs.declared.Made.the-variants.{Done, Row, Alike, NoRoom}
 
@@ -53,18 +55,6 @@ nameDrawn text = listed (nameByte text) (nameLengthOf (endOf text))
 
 unfoldable pub rowsDrawn : List ℕ → List ℕ
 rowsDrawn text = listed (rowFrom text (nameLineLength (nameLengthOf (endOf text)))) allRows
-
--- the row of a text, from 1, behind a character of it
-abbrev pub nextRow : ℕ → ℕ → ℕ
-nextRow row c = cond (eqb c newline) (row + 1) row
-
--- the text from place i on, in this row, held to what a rule says of the places that are left: the row of the first that is not the same, or
--- where the text ends too soon or goes on; 0 where there is no such row
-unfoldable pub fault : (ℕ → ℕ) → ℕ → ℕ → ℕ → List ℕ → ℕ
-fault f zero i row [] = zero
-fault f zero i row (b ∷ s) = row
-fault f (suc left) i row [] = row
-fault f (suc left) i row (b ∷ s) = cond (eqb b (f i)) (fault f left (i + 1) (nextRow row b) s) row
 
 -- the first row of a text that is not as in the drawing of the name and rows that it draws
 unfoldable pub faultRow : List ℕ → ℕ

@@ -23,9 +23,11 @@ use Rattle.bundling.specs.declared.Written.the-variants as written-is
 use Rattle.bundling.specs.Answers.{namePart, nameIn, writeAnswer, writeOut}
 use Rattle.bundling.specs.Exactly.{rowsOver, name-given, all-given, bundle-written-read}
 use Rattle.drawing.specs.declared.Made.the-variants.{Done}
-use Rattle.drawing.specs.Drawing.{newline, blank, printed, unprinted, nameWord, wordLength, legible, digitAt, nameLineLength, nameChar, lineLength, weights, dotOf, lineChar, rowChar, charAt, drawingLength, listed, drawing}
+use Rattle.dots.specs.Lines.{newline, blank, printed, unprinted, lineLength, weights, dotOf, lineChar}
+use Rattle.drawing.specs.Drawing.{nameWord, wordLength, legible, digitAt, nameLineLength, nameChar, rowChar, charAt, drawingLength, listed, drawing}
 use Rattle.drawing.specs.Listed.{length-listed, getD-listed, listed-agree, listed-self}
-use Rattle.drawing.specs.Making.{endOf, nameLengthOf, hexValue, nameByte, dotValue, rowByte, rowFrom, nameDrawn, rowsDrawn, nextRow, fault, faultRow, ofWritten, makeAnswer, makeOut}
+use Rattle.dots.specs.Faults.{nextRow, fault}
+use Rattle.drawing.specs.Making.{endOf, nameLengthOf, hexValue, nameByte, dotValue, rowByte, rowFrom, nameDrawn, rowsDrawn, faultRow, ofWritten, makeAnswer, makeOut}
 use Rattle.drawing.specs.Drawn.{make-written}
 
 -- a text ends its first line at the first newline

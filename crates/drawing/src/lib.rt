@@ -7,25 +7,23 @@ ghost use Rattle.bundles.specs.Lengths.{besideName};
 ghost use Rattle.lists.specs.Buffers.{over};
 ghost use Rattle.glyphs.specs.declared.Bundle.the-variants as bundle-is;
 ghost use Rattle.glyphs.specs.Answers.{readAnswer};
+ghost use Rattle.dots.specs.Faults.{fault};
 ghost use Rattle.drawing.specs.Answers.{showAnswer, showOut, showNumber, showLength, gatheredFrom};
-ghost use Rattle.drawing.specs.Making.{endOf, nameLengthOf, hexValue, nameByte, dotValue, rowByte, rowFrom, nextRow, fault, ofWritten, makeAnswer, makeOut, makeNumber, makeLength, makeRow};
-ghost use Rattle.drawing.specs.Drawing.{longestDrawing, listed, legible, digitAt, nameChar, dotOf, lineChar, rowChar, charAt, drawing, drawingLength, lineLength};
+ghost use Rattle.drawing.specs.Making.{endOf, nameLengthOf, hexValue, nameByte, dotValue, rowByte, rowFrom, ofWritten, makeAnswer, makeOut, makeNumber, makeLength, makeRow};
+ghost use Rattle.drawing.specs.Drawing.{longestDrawing, listed, legible, digitAt, nameChar, rowChar, charAt, drawing, drawingLength};
 use bundling::ROWS;
 use bundling::Written;
+use dots::BLANK;
+use dots::LINE;
+use dots::NEWLINE;
+use dots::PRINTED;
+use dots::UNPRINTED;
+use dots::line_char;
 use glyphs::Bundle;
 use glyphs::CHARACTERS;
 use glyphs::GLYPH_FIELD;
 use glyphs::GLYPH_ROWS;
 use glyphs::LONGEST_NAME;
-
-// A line's end, a blank, a dot that is printed and one that is not.
-const NEWLINE: u8 = 0x0A;
-
-const BLANK: u8 = 0x20;
-
-const PRINTED: u8 = 0x23;
-
-const UNPRINTED: u8 = 0x2E;
 
 // The printing characters of ASCII.
 const FIRST_PRINTING: u8 = 0x20;
@@ -36,11 +34,6 @@ const LAST_PRINTING: u8 = 0x7E;
 const WORD: usize = 5;
 
 const NAME_WORD: [u8; WORD] = [b'n', b'a', b'm', b'e', BLANK];
-
-// A line's length, and what the dots of a line count, by their places in it.
-const LINE: usize = 10;
-
-const WEIGHTS: [u8; LINE] = [1, 1, 64, 32, 16, 8, 4, 2, 1, 1];
 
 // What a drawing has beside three bytes for each of its name: the word, a blank and a newline, and a line for each row; and the longest drawing,
 // which is the least room for one.
@@ -106,35 +99,6 @@ fn name_char(name: &[u8], i: usize) -> u8
         return read_as(name[i - (2 * n + 6)]);
     }
     NEWLINE
-}
-
-// The dot of a row that counts w.
-fn dot(r: u8, w: u8) -> u8
-    requires { ⌜ 0 < w ⌝ }
-    ensures { λ d. ⌜ d ≡ dotOf r w ⌝ }
-{
-    if r / w % 2 == 1 {
-        return PRINTED;
-    }
-    UNPRINTED
-}
-
-// Place m of the line of the row r of the character c.
-fn line_char(c: u8, r: u8, m: usize) -> u8
-    requires { ⌜ m < lineLength ⌝ }
-    ensures { λ d. ⌜ d ≡ lineChar c r m ⌝ }
-{
-    let weights = WEIGHTS;
-    if m == 0 {
-        return c;
-    }
-    if m == 1 {
-        return BLANK;
-    }
-    if m == 9 {
-        return NEWLINE;
-    }
-    dot(r, weights[m])
 }
 
 // Place j of the lines of all rows.
@@ -349,40 +313,16 @@ fn rows_of(text: &[u8], from: usize) -> [u8; ROWS]
     rows
 }
 
-// The row behind a character.
-fn next_row(row: usize, c: u8) -> usize
-    requires { ⌜ row < 2000 ⌝ }
-    ensures { λ r. ⌜ r ≡ nextRow row c ⌝ }
-{
-    if c == NEWLINE {
-        return row + 1;
-    }
-    row
-}
-
 // The first row of a text, from 1, that is not as in the drawing of a name and rows; 0 where the text is that drawing.
 fn fault_row(name: &[u8], rows: &[u8], text: &[u8]) -> usize
     requires { ⌜ length (now name) ≤ longestName ⌝ }
     requires { ⌜ length (now rows) ≡ allRows ⌝ }
     ensures { λ r. ⌜ r ≡ fault (charAt (now (name .entry)) (now (rows .entry))) (drawingLength (length (now (name .entry)))) 0 1 (now (text .entry)) ⌝ }
 {
+    let mut drawing = [0u8; LONGEST_DRAWING];
+    put_drawing(name, rows, &mut drawing);
     let end = 3 * name.len() + BESIDE_NAME;
-    let mut row: usize = 1;
-    let mut i = 0;
-    while i < end {
-        if i >= text.len() {
-            return row;
-        }
-        if text[i] != char_at(name, rows, i) {
-            return row;
-        }
-        row = next_row(row, text[i]);
-        i += 1;
-    }
-    if i < text.len() {
-        return row;
-    }
-    0
+    dots::fault_row(&drawing[0..end], text)
 }
 
 // What the writer's answer comes to for the name and rows of a drawing.

@@ -4,7 +4,7 @@ use native.Mathlib.Omega.{arith}
 use lib.ListN.{getD}
 use borrow.Author.Tests.{eq-eqb, ne-eqb, le-leb, lt-leb, lt-ltb, le-ltb}
 use borrow.Author.Needs.{needs}
-use Rattle.drawing.specs.Drawing.{printed}
+use Rattle.dots.specs.Lines.{printed}
 use Rattle.drawing.specs.Making.{dotValue}
 use Rattle.drawing.proofs.dot_value.Statement.{statement}
 use Rattle.drawing.proofs.dot_value.Tie as tie

@@ -1,116 +1,51 @@
--- `fault_row` meets its promise. The invariant: the text from place i on decides, in the row reached; the measure is what is left. Assumes nothing.
-use mathlib.Core.Path.{_≡_, refl, sym, ap, _∙_}
-use Prim.Native.Nat.{ℕ, _+_, _-_, _≤_}
-use native.Mathlib.Omega.{arith}
-use lib.ListN.{length, getD, drop}
+-- `fault_row` meets its promise: the drawing of the name and rows, made in a buffer, is what the text is held to. Assumes nothing.
+use mathlib.Core.Path.{refl, _∙_}
+use lib.ListN.{replicate}
 use borrow.Author.Needs.{needs}
-use Rattle.drawing.specs.Drawing.{charAt, drawingLength}
-use Rattle.drawing.specs.Making.{nextRow, fault}
-use Rattle.drawing.proofs.Walking.{fault-same, fault-long, fault-short, fault-differs, fault-on}
-use Rattle.drawing.proofs.Places.{next-near}
+use Rattle.drawing.specs.Drawing.{longestDrawing}
+use Rattle.drawing.proofs.Holding.{held-to}
 use Rattle.drawing.proofs.fault_row.Statement.{statement}
 use Rattle.drawing.proofs.fault_row.Tie as tie
 
-abbrev Inv-loop : tie.InvT-loop
-Inv-loop name rows text end row₀ i₀ row i = (i ≤ drawingLength (length name)) × (row ≤ i + 1) × (fault (charAt name rows) (drawingLength (length name) - i) i row (drop i text) ≡ fault (charAt name rows) (drawingLength (length name)) 0 1 text)
+slice-aggregate-put-drawing : tie.Need-slice-aggregate-put-drawing
+slice-aggregate-put-drawing c = search needs
 
-abbrev μ-loop : tie.MeasureT-loop
-μ-loop name rows text end row₀ i₀ row i = drawingLength (length name) - i
+put-drawing-requires : tie.Need-put-drawing-requires
+put-drawing-requires c κs = search needs
 
-mul-end : tie.Need-mul-end Inv-loop μ-loop
+mul-end : tie.Need-mul-end
 mul-end c = search needs
 
-add-end : tie.Need-add-end Inv-loop μ-loop
+add-end : tie.Need-add-end
 add-end c = search needs
 
-loop-holds : tie.Need-loop-holds Inv-loop μ-loop
-loop-holds c =
-    let all : drawingLength (length (c .before .before .before .args .name .now)) - 0 ≡ drawingLength (length (c .before .before .before .args .name .now)) = omega arith in
-    (omega arith, omega arith, rw all)
+sub-fault-row : tie.Need-sub-fault-row
+sub-fault-row c = search needs
 
-returns : tie.Need-returns Inv-loop μ-loop
+part-fault-row-start : tie.Need-part-fault-row-start
+part-fault-row-start c = search needs
+
+part-fault-row-end : tie.Need-part-fault-row-end
+part-fault-row-end c = search needs
+
+fault-row-requires : tie.Need-fault-row-requires
+fault-row-requires c κs = search needs
+
+returns : tie.Need-returns
 returns c =
-    let s = c .before .before .before .before .before .before in
-    let l = c .before .before .loop in
-    let f = charAt (s .args .name .now) (s .args .rows .now) in
-    let t = s .args .text .now in
-    let end = drawingLength (length (s .args .name .now)) in
-    sym (fault-short f t (end - l .i) (l .i) (l .row) (omega arith) (omega arith)) ∙ l .inv .2
-
-shared-slice-read-if2 : tie.Need-shared-slice-read-if2 Inv-loop μ-loop
-shared-slice-read-if2 c = search needs
-
-char-at-requires : tie.Need-char-at-requires Inv-loop μ-loop
-char-at-requires c κs = (c .before .before .before .before .before .before .before .pre .0, (c .before .before .before .before .before .before .before .pre .1, omega arith))
-
-returns-2 : tie.Need-returns-2 Inv-loop μ-loop
-returns-2 c =
-    let s = c .before .before .before .before .before .before .before .before .before in
-    let l = c .before .before .before .before .before .loop in
-    let f = charAt (s .args .name .now) (s .args .rows .now) in
-    let t = s .args .text .now in
-    let end = drawingLength (length (s .args .name .now)) in
-    sym (fault-differs f t (end - l .i) (l .i) (l .row) (omega arith) (omega arith) (λ e. c .if2 .taken (e ∙ sym (c .before .char-at .ensures)))) ∙ l .inv .2
-
-shared-slice-read-next-row : tie.Need-shared-slice-read-next-row Inv-loop μ-loop
-shared-slice-read-next-row c = search needs
-
-next-row-requires : tie.Need-next-row-requires Inv-loop μ-loop
-next-row-requires c κs = omega (arith, c .before .before .before .before .before .before .loop .inv .1)
-
-add-i : tie.Need-add-i Inv-loop μ-loop
-add-i c = search needs
-
-loop-less : tie.Need-loop-less Inv-loop μ-loop
-loop-less c = search needs
-
-loop-again : tie.Need-loop-again Inv-loop μ-loop
-loop-again c =
-    let s = c .before .before .before .before .before .before .before .before .before .before .before in
-    let l = c .before .before .before .before .before .before .before .loop in
-    let f = charAt (s .args .name .now) (s .args .rows .now) in
-    let t = s .args .text .now in
-    let end = drawingLength (length (s .args .name .now)) in
-    let is = c .before .before .if2 .left ∙ c .before .before .before .char-at .ensures in
-    let less : end - l .i - 1 ≡ end - (l .i + 1) = omega arith in
-    let near = next-near (l .row) (getD t (l .i) 0) in
-    (omega arith, rw (c .next-row .ensures) (omega (arith, near, l .inv .1)), rw (c .next-row .ensures, ← less) (sym (fault-on f t (end - l .i) (l .i) (l .row) (omega arith) (omega arith) is) ∙ l .inv .2))
-
-returns-3 : tie.Need-returns-3 Inv-loop μ-loop
-returns-3 c =
-    let s = c .before .before .before .before .before .before in
-    let l = c .before .before .loop in
-    let f = charAt (s .args .name .now) (s .args .rows .now) in
-    let t = s .args .text .now in
-    let end = drawingLength (length (s .args .name .now)) in
-    sym (fault-long f t (end - l .i) (l .i) (l .row) (omega arith) (omega arith)) ∙ l .inv .2
-
-returns-4 : tie.Need-returns-4 Inv-loop μ-loop
-returns-4 c =
-    let s = c .before .before .before .before .before .before in
-    let l = c .before .before .loop in
-    let f = charAt (s .args .name .now) (s .args .rows .now) in
-    let t = s .args .text .now in
-    let end = drawingLength (length (s .args .name .now)) in
-    sym (fault-same f t (end - l .i) (l .i) (l .row) (omega arith) (omega arith)) ∙ l .inv .2
+    let a = c .before .before .before .before .before .before .before .before .before .args in
+    c .fault-row .ensures ∙ held-to (a .name .now) (a .rows .now) (a .text .now) (replicate longestDrawing 0) _ _ (c .before .before .before .before .put-drawing .ensures) refl
 
 pub fault-row-spec : {M : Type 1} → statement M
 fault-row-spec =
     tie.close
     (tie.spec
-    Inv-loop
-    μ-loop
+    slice-aggregate-put-drawing
+    put-drawing-requires
     mul-end
     add-end
-    loop-holds
-    returns
-    shared-slice-read-if2
-    char-at-requires
-    returns-2
-    shared-slice-read-next-row
-    next-row-requires
-    add-i
-    loop-less
-    loop-again
-    returns-3
-    returns-4)
+    sub-fault-row
+    part-fault-row-start
+    part-fault-row-end
+    fault-row-requires
+    returns)

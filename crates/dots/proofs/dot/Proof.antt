@@ -1,10 +1,10 @@
 -- `dot` meets its promise: one bit of the row. Assumes nothing.
 use Prim.Native.Nat.{_/_, _%_}
-use borrow.Author.Tests.{eq-eqb, ne-eqb, le-leb, lt-leb, lt-ltb, le-ltb}
+use borrow.Author.Tests.{eq-eqb, ne-eqb}
 use borrow.Author.Needs.{needs}
-use Rattle.drawing.specs.Drawing.{dotOf}
-use Rattle.drawing.proofs.dot.Statement.{statement}
-use Rattle.drawing.proofs.dot.Tie as tie
+use Rattle.dots.specs.Lines.{dotOf}
+use Rattle.dots.proofs.dot.Statement.{statement}
+use Rattle.dots.proofs.dot.Tie as tie
 
 div-if1 : tie.Need-div-if1
 div-if1 c = search needs

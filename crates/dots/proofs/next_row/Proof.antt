@@ -1,9 +1,9 @@
 -- `next_row` meets its promise: a newline ends a row. Assumes nothing.
-use borrow.Author.Tests.{eq-eqb, ne-eqb, le-leb, lt-leb, lt-ltb, le-ltb}
+use borrow.Author.Tests.{eq-eqb, ne-eqb}
 use borrow.Author.Needs.{needs}
-use Rattle.drawing.specs.Drawing.{newline}
-use Rattle.drawing.proofs.next_row.Statement.{statement}
-use Rattle.drawing.proofs.next_row.Tie as tie
+use Rattle.dots.specs.Lines.{newline}
+use Rattle.dots.proofs.next_row.Statement.{statement}
+use Rattle.dots.proofs.next_row.Tie as tie
 
 add-result : tie.Need-add-result
 add-result c = search needs

@@ -1,12 +1,14 @@
--- Each place of a line counts something, and each character ends at most one row. Assumes nothing.
+-- Each place of a line counts something, behind it no dot is printed, and each character ends at most one row. Assumes nothing.
+use mathlib.Core.Path.{_≡_}
 use mathlib.Core.Bool.{Bool, true, false, cond}
 use Prim.Native.Nat.{ℕ, _+_, _≤_, _<_}
+use native.Mathlib.Nat.{div-zero}
 use native.Mathlib.Omega.{arith}
 use lib.Dec.{eqb, ltb, ltb→lt}
-use lib.ListN.{getD}
+use lib.ListN.{getD, List·getD-eq-default}
 use Rattle.lists.specs.Table.{at}
-use Rattle.drawing.specs.Drawing.{newline, weights, lineLength}
-use Rattle.drawing.specs.Making.{nextRow}
+use Rattle.dots.specs.Lines.{newline, unprinted, weights, lineLength, dotOf}
+use Rattle.dots.specs.Faults.{nextRow}
 
 some : ℕ → ℕ → Bool
 some m w = ltb 0 w
@@ -14,6 +16,11 @@ some m w = ltb 0 w
 pub weight-some : (m : ℕ) → m < lineLength → 0 < getD weights m 0
 unfolding some
 weight-some m h = ltb→lt 0 (getD weights m 0) (at some weights tt m h)
+
+-- behind the line no place counts anything
+pub no-dot : (r m : ℕ) → lineLength ≤ m → dotOf r (getD weights m 0) ≡ unprinted
+unfolding dotOf
+no-dot r m h = rw (List·getD-eq-default weights 0 h, div-zero r)
 
 -- the next row is at most one farther
 pub next-near : (row c : ℕ) → nextRow row c ≤ row + 1
