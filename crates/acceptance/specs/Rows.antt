@@ -10,7 +10,7 @@ use Rattle.sponge.specs.Padding.{padded, blockCount}
 use Rattle.sponge.specs.Blocks.{length-padded}
 use Rattle.hashing.specs.Instances.{DIGEST-BITS, bitRate, rateOf}
 use Rattle.hashing.specs.Hashing.{digestCalls}
-use Rattle.digest.specs.Calls.{digest-calls}
+use Rattle.absorbing.specs.Calls.{digest-calls}
 
 -- all-zero state, leader 0, gives 55 in every byte, at every size
 pub zeros-by-zero : (n : ℕ) → substitute table 0 (replicate n 0x00) ≡ replicate n 0x55

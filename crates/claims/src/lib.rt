@@ -9,7 +9,7 @@ use running::Record;
 pub fn is_unfed(running: Record) -> bool
     ensures { λ r. ⌜ r ≡ unfed running ⌝ }
 {
-    if digest::is_unknown(running.instance as usize) {
+    if absorbing::is_unknown(running.instance as usize) {
         return true;
     }
     running.total > LONGEST_MESSAGE

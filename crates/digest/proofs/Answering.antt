@@ -2,18 +2,19 @@
 use mathlib.Core.Path.{_≡_, sym, ap, _∙_}
 use mathlib.Core.Bool.{false}
 use mathlib.Core.List.{List}
-use Prim.Native.Nat.{ℕ, _+_, _/_, _≤_}
+use Prim.Native.Nat.{ℕ, _+_, _/_, _≤_, _<_}
 use native.Mathlib.Omega.{arith}
-use lib.ListN.{length, take}
+use lib.ListN.{length}
 use lib.Seq.{take-all}
 use Rattle.lists.specs.Buffers.{copied, over}
-use Rattle.sponge.specs.Padding.{blockCount}
-use Rattle.sponge.specs.Absorbing.{from}
-use Rattle.hashing.specs.Instances.{DIGEST, unknown, sizeOf, rateOf, outputsOf}
-use Rattle.hashing.specs.Hashing.{absorbed, squeezed, sponged, digestOf, digestCalls}
-use Rattle.digest.specs.Calls.{digest-calls}
-use Rattle.hashing.specs.Outputs.{length-digest, squeezed-state}
+use Rattle.hashing.specs.Instances.{DIGEST, unknown, rateOf, outputsOf}
+use Rattle.hashing.specs.Hashing.{digestOf, digestCalls}
+use Rattle.hashing.specs.Outputs.{length-digest}
+use Rattle.absorbing.specs.declared.Shape.{Shape}
+use Rattle.absorbing.specs.Calls.{digest-calls}
+use Rattle.absorbing.specs.Parts.{spongeOf, hashOf}
 use Rattle.digest.specs.Answers.{LONGEST-MESSAGE, digestAnswer, digestOut}
+use Rattle.digest.specs.Counting.{count-fits}
 use Rattle.digest.specs.Order.{digest-done}
 use Rattle.digest.specs.declared.Digested.{Digested}
 use Rattle.digest.specs.declared.Digested.the-variants.{Done}
@@ -26,24 +27,28 @@ refused e = (sym (e .0), sym (e .1))
 copied-whole : (i : ℕ) (m o : List ℕ) → unknown i ≡ false → DIGEST ≤ length o → copied (digestOf i m) o ≡ over (digestOf i m) o
 copied-whole i m o e h = ap (λ (w : List ℕ). over w o) (take-all (length o) (digestOf i m) (omega (arith, length-digest i m e)))
 
--- what is given out of the state that took the message up is the digest
-hashed : (i : ℕ) (m s : List ℕ) → take (sizeOf i) s ≡ absorbed (sizeOf i) (rateOf i) m (blockCount (rateOf i) m) .state
-    → squeezed (rateOf i) (from (take (sizeOf i) s)) (outputsOf i) .hash ≡ digestOf i m
-unfolding digestOf sponged
-hashed i m s e =
-    squeezed-state (rateOf i) (from (take (sizeOf i) s)) (absorbed (sizeOf i) (rateOf i) m (blockCount (rateOf i) m)) (outputsOf i) e
+-- what the sponge of a known instance works with
+known-sponge : (i : ℕ) {z : Shape} → unknown i ≡ false → z ≡ spongeOf i → (z .rate ≡ rateOf i) × (z .outputs ≡ outputsOf i)
+unfolding spongeOf
+known-sponge i e z-is = let w = rw e at z-is in (ap (λ (x : Shape). x .rate) w, ap (λ (x : Shape). x .outputs) w)
+
+-- and its count is a number of the machine
+pub sponge-counts : (i n : ℕ) {z : Shape} → unknown i ≡ false → z ≡ spongeOf i → n ≤ LONGEST-MESSAGE
+    → (0 < z .rate) × (n / z .rate + z .outputs ≤ LONGEST-MESSAGE + DIGEST)
+sponge-counts i n e z-is h = let k = known-sponge i e z-is in rw (k .0, k .1) (count-fits i n e h)
 
 -- the count that the code works out is the one of the calls
 counted : (i : ℕ) (m : List ℕ) {a : Digested} → a ≡ Done (digestCalls i m) → Done (length m / rateOf i + 1 + outputsOf i) ≡ a
 unfolding outputsOf
 counted i m e = ap Done (sym (digest-calls i m)) ∙ sym e
 
--- the last return: the shape of the instance, the state, what was given out of it, and its copy
-pub finished : (i : ℕ) (m o : List ℕ) {n R k : ℕ} (s : List ℕ) {hash w : List ℕ} → unknown i ≡ false → length m ≤ LONGEST-MESSAGE → DIGEST ≤ length o
-    → n ≡ sizeOf i → R ≡ rateOf i → k ≡ outputsOf i → take n s ≡ absorbed n R m (blockCount R m) .state
-    → hash ≡ squeezed R (from (take n s)) k .hash → w ≡ copied hash o
-    → (Done (length m / R + 1 + k) ≡ digestAnswer i m o) × (w ≡ digestOut i m o)
-finished i m o {n} {R} {k} s {hash} {w} e h g n-is R-is k-is taken given put =
-    let d : hash ≡ digestOf i m = (rw (n-is, R-is, k-is) at given) ∙ hashed i m s (rw (n-is, R-is) at taken) in
+-- the last return: the shape of the instance, the digest, and its copy
+pub finished : (i : ℕ) (m o : List ℕ) {z : Shape} {hash w : List ℕ} → unknown i ≡ false → length m ≤ LONGEST-MESSAGE → DIGEST ≤ length o
+    → z ≡ spongeOf i → hash ≡ hashOf i m → w ≡ copied hash o
+    → (Done (length m / z .rate + 1 + z .outputs) ≡ digestAnswer i m o) × (w ≡ digestOut i m o)
+unfolding hashOf
+finished i m o {z} {hash} {w} e h g z-is given put =
+    let k = known-sponge i e z-is in
+    let d : hash ≡ digestOf i m = rw e at given in
     let r = digest-done i m o e h g in
-    (rw (R-is, k-is) (counted i m (r .0)), rw (put, d) (copied-whole i m o e g ∙ sym (r .1)))
+    (rw (k .0, k .1) (counted i m (r .0)), rw (put, d) (copied-whole i m o e g ∙ sym (r .1)))

@@ -1,5 +1,2 @@
-pub mod Taking
-pub mod Giving
-pub mod Parting
 pub mod Answering
 pub mod Single

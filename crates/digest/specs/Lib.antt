@@ -1,5 +1,3 @@
 pub mod Answers
-pub mod Calls
 pub mod Order
-pub mod Parts
-pub mod Joining
+pub mod Counting

@@ -15,10 +15,10 @@ use Rattle.gage.specs.Permutation.{LARGEST}
 use Rattle.sponge.specs.Absorbing.{from}
 use Rattle.hashing.specs.Instances.{DIGEST, unknown, sizeOf, rateOf, outputsOf}
 use Rattle.digest.specs.Answers.{LONGEST-MESSAGE}
-use Rattle.digest.specs.Calls as digest-calls
-use Rattle.digest.specs.Parts.{spongeOf, takenIn, closedBy, within}
-use Rattle.digest.specs.Joining.{taken-state, closed-calls, closed-state}
-use Rattle.digest.specs.declared.Shape.{Shape}
+use Rattle.digest.specs.Counting as digest-calls
+use Rattle.absorbing.specs.Parts.{spongeOf, takenIn, closedBy, within}
+use Rattle.absorbing.specs.Joining.{taken-state, closed-calls, closed-state}
+use Rattle.absorbing.specs.declared.Shape.{Shape}
 use Rattle.running.specs.Running.{written, soFar, unfinished, unfed, takenUp, grown, feedAnswer, feedRecord, concluded, finishAnswer, finishOut, onFinish, ended}
 use Rattle.growing.specs.declared.Grown.{Grown}
 use Rattle.growing.specs.Growing.{grownBy}

@@ -11,8 +11,8 @@ use Rattle.sponge.specs.Padding.{LARGEST-RATE}
 use Rattle.hashing.specs.Instances.{unknown, sizeOf, rateOf}
 use Rattle.hashing.specs.Hashing.{absorbed}
 use Rattle.hashing.specs.Shapes.{known-whole}
-use Rattle.digest.specs.Parts.{within}
-use Rattle.digest.specs.Joining.{within-zeros}
+use Rattle.absorbing.specs.Parts.{within}
+use Rattle.absorbing.specs.Joining.{within-zeros}
 use Rattle.running.specs.Running.{written, leftOf, runningOf}
 use Rattle.running.specs.declared.Record.{Record}
 

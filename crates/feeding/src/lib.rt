@@ -4,7 +4,7 @@ ghost use mathlib.Core.Path.{_≡_};
 ghost use Prim.Native.Nat.{_≤_};
 ghost use lib.ListN.{take};
 ghost use Rattle.sponge.specs.Padding.{LARGEST-RATE};
-ghost use Rattle.digest.specs.Parts.{closedBy};
+ghost use Rattle.absorbing.specs.Parts.{closedBy};
 ghost use Rattle.running.specs.Running.{startAnswer, startRecord, feedAnswer, feedRecord, ended};
 ghost use Rattle.running.specs.Running.{finishAnswer, finishOut, onFinish};
 ghost use Rattle.running.specs.Running.{startNumber, feedNumber, finishNumber, finishCount};
@@ -29,7 +29,7 @@ const NO_CALLS: usize = 0;
 pub fn start_answer(instance: usize) -> Started
     ensures { λ r. ⌜ r ≡ startAnswer instance ⌝ }
 {
-    if digest::is_unknown(instance) {
+    if absorbing::is_unknown(instance) {
         return Started::Unknown;
     }
     Started::Done
@@ -39,7 +39,7 @@ pub fn start_answer(instance: usize) -> Started
 pub fn after_start(running: Record, instance: usize) -> Record
     ensures { λ r. ⌜ r ≡ startRecord running instance ⌝ }
 {
-    if digest::is_unknown(instance) {
+    if absorbing::is_unknown(instance) {
         return running;
     }
     let state = [0u8; LARGEST];
@@ -79,7 +79,7 @@ fn hash_of(
     requires { ⌜ held ≤ LARGEST-RATE ⌝ }
     ensures { λ r. ⌜ r ≡ closedBy instance state (take held block) ⌝ }
 {
-    digest::close(instance, state, &block[0..held])
+    absorbing::close(instance, state, &block[0..held])
 }
 
 // The record after a feed; as it was where that is refused.
@@ -119,7 +119,7 @@ pub fn give(running: Record, out: &mut [u8]) -> Finished
         return Finished::NoRoom;
     }
     let instance = running.instance as usize;
-    let shape = digest::sponge_of(instance);
+    let shape = absorbing::sponge_of(instance);
     let rate = shape.rate;
     let total = running.total;
     let held = total % rate;

@@ -8,7 +8,7 @@ use lib.Seq.{take-all, take-at, drop-at, take-append-add, drop-drop, length-take
 use borrow.Rule.Slice.PartMut.{putMid, postOf}
 use Rattle.lists.specs.Buffers.{copied, over}
 use Rattle.sponge.specs.Padding.{LARGEST-RATE}
-use Rattle.digest.specs.Parts.{within}
+use Rattle.absorbing.specs.Parts.{within}
 
 -- p at the start of o and b copied behind it are both copied over o
 copied-append : (p b o : List ℕ) → length p ≤ length o → p ++ copied b (drop (length p) o) ≡ copied (p ++ b) o

@@ -12,8 +12,8 @@ use Rattle.sponge.specs.Padding.{LARGEST-RATE}
 use Rattle.sponge.specs.Absorbing.{Run, from}
 use Rattle.hashing.specs.Instances.{sizeOf, rateOf}
 use Rattle.hashing.specs.Shapes.{known-whole}
-use Rattle.digest.specs.Parts.{taken, takenIn, within}
-use Rattle.digest.specs.Joining.{taken-split, left-split, taken-short, left-short, taken-state, length-taken, within-front}
+use Rattle.absorbing.specs.Parts.{taken, takenIn, within}
+use Rattle.absorbing.specs.Joining.{taken-split, left-split, taken-short, left-short, taken-state, length-taken, within-front}
 use Rattle.running.specs.Running.{leftOf}
 use Rattle.growing.specs.Growing.{Growing}
 

@@ -7,7 +7,7 @@ use Prim.Native.Nat.{ℕ, _+_, _%_, _<_}
 use lib.ListN.{take}
 use Rattle.sponge.specs.Padding.{LARGEST-RATE}
 use Rattle.hashing.specs.Instances.{unknown, rateOf}
-use Rattle.digest.specs.Parts.{takenIn, within}
+use Rattle.absorbing.specs.Parts.{takenIn, within}
 use Rattle.running.specs.Running.{leftOf}
 use Rattle.growing.specs.declared.Grown.{Grown}
 

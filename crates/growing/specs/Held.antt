@@ -8,8 +8,8 @@ use native.Mathlib.Omega.{arith}
 use Rattle.sponge.specs.Padding.{LARGEST-RATE}
 use Rattle.hashing.specs.Instances.{unknown, rateOf, outputsOf}
 use Rattle.hashing.specs.Shapes.{known-whole}
-use Rattle.digest.specs.Parts.{spongeOf}
-use Rattle.digest.specs.declared.Shape.{Shape}
+use Rattle.absorbing.specs.Parts.{spongeOf}
+use Rattle.absorbing.specs.declared.Shape.{Shape}
 use Rattle.growing.specs.Growing.{Growing}
 
 module _ (i t : ℕ) (known : unknown i ≡ false) {shape : Shape} (shape-is : shape ≡ spongeOf i) where

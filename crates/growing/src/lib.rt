@@ -5,7 +5,7 @@ ghost use mathlib.Core.List.{_++_};
 ghost use Prim.Native.Nat.{_≤_};
 ghost use lib.ListN.{take};
 ghost use Rattle.sponge.specs.Padding.{LARGEST-RATE};
-ghost use Rattle.digest.specs.Parts.{within, takenIn};
+ghost use Rattle.absorbing.specs.Parts.{within, takenIn};
 ghost use Rattle.running.specs.Running.{leftOf};
 ghost use Rattle.growing.specs.Growing.{Growing, grownBy};
 use gage::LARGEST;
@@ -41,12 +41,12 @@ fn grow_state(
     ensures { λ r. ⌜ r ≡ takenIn instance state (take held block ++ now (bytes .entry)) ⌝ }
 {
     if bytes.len() < missing {
-        return digest::take_in(instance, state, &block[0..held]);
+        return absorbing::take_in(instance, state, &block[0..held]);
     }
     let first = joined(block, held, &bytes[0..missing]);
     let rate = held + missing;
-    let filled = digest::take_in(instance, state, &first[0..rate]);
-    digest::take_in(instance, filled, &bytes[missing..])
+    let filled = absorbing::take_in(instance, state, &first[0..rate]);
+    absorbing::take_in(instance, filled, &bytes[missing..])
 }
 
 // The block after them: what fills none.
@@ -80,10 +80,10 @@ pub fn grow(
 ) -> Grown
     ensures { λ r. ⌜ r ≡ grownBy instance state block total (now (bytes .entry)) ⌝ }
 {
-    if digest::is_unknown(instance) {
+    if absorbing::is_unknown(instance) {
         return Grown { state, block };
     }
-    let shape = digest::sponge_of(instance);
+    let shape = absorbing::sponge_of(instance);
     let held = total % shape.rate;
     let missing = shape.rate - held;
     let after = grow_state(instance, state, block, held, missing, bytes);

@@ -14,11 +14,11 @@ use Rattle.sponge.specs.Padding.{LARGEST-RATE}
 use Rattle.sponge.specs.Absorbing.{Run, from}
 use Rattle.hashing.specs.Instances.{unknown, sizeOf, rateOf, outputsOf}
 use Rattle.hashing.specs.Hashing.{Squeezed, absorbed, sponged}
-use Rattle.digest.specs.Calls.{absorbed-calls}
+use Rattle.absorbing.specs.Calls.{absorbed-calls}
 use Rattle.hashing.specs.Outputs.{length-absorbed}
 use Rattle.hashing.specs.Shapes.{known-whole}
-use Rattle.digest.specs.Parts.{taken, closed, within}
-use Rattle.digest.specs.Joining.{taken-before, taken-split, left-split, taken-state, length-taken, absorbed-taken, sponged-closed, within-front, within-zeros}
+use Rattle.absorbing.specs.Parts.{taken, closed, within}
+use Rattle.absorbing.specs.Joining.{taken-before, taken-split, left-split, taken-state, length-taken, absorbed-taken, sponged-closed, within-front, within-zeros}
 use Rattle.running.specs.Running.{written, leftOf, runningOf, soFar, unfinished, takenUp, grown, concluded}
 use Rattle.running.specs.declared.Record.{Record}
 

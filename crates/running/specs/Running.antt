@@ -13,7 +13,7 @@ use Rattle.sponge.specs.Absorbing.{Run}
 use Rattle.hashing.specs.Instances.{DIGEST, unknown, sizeOf, rateOf, outputsOf}
 use Rattle.hashing.specs.Hashing.{Squeezed, absorbed}
 use Rattle.digest.specs.Answers.{LONGEST-MESSAGE}
-use Rattle.digest.specs.Parts.{taken, closed, within}
+use Rattle.absorbing.specs.Parts.{taken, closed, within}
 use Rattle.running.specs.declared.Record.{Record}
 use Rattle.running.specs.declared.Started.{Started}
 use Rattle.running.specs.declared.Started.the-variants as started-is

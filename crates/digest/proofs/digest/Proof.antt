@@ -1,15 +1,28 @@
--- `digest` meets its promise: each refusal in document 01's order, then the instance's shape, the message taken up, the digest given
--- out and copied to the buffer. Assumes nothing.
+-- `digest` meets its promise: each refusal in document 01's order, then the digest, copied to the buffer, and the count by the instance's
+-- shape. Assumes nothing.
+use Prim.Native.Nat.{_+_, _/_, _≤_, _<_}
 use lib.ListN.{length}
-use mathlib.Core.Path.{sym, _∙_}
-use Rattle.hashing.specs.Shapes.{known-whole}
-use Rattle.digest.specs.Calls.{count-fits}
-use Rattle.digest.proofs.Answering.{refused, finished}
+use mathlib.Core.Bool.{false}
+use mathlib.Core.Path.{_≡_, sym, _∙_}
+use Rattle.hashing.specs.Instances.{DIGEST, unknown}
+use Rattle.digest.specs.Answers.{LONGEST-MESSAGE}
 use Rattle.digest.specs.Order.{instance-refused, length-refused, room-refused}
+use Rattle.digest.proofs.Answering.{refused, sponge-counts, finished}
 use native.Mathlib.Omega.{arith}
 use borrow.Author.Needs.{needs}
 use Rattle.digest.proofs.digest.Statement.{statement}
 use Rattle.digest.proofs.digest.Tie as tie
+
+-- past the refusals the instance is known, and the count is a number of the machine
+abbrev begins : tie.After-sponge-of → tie.Start
+begins k = k .before .before .before .before .before .before .before
+
+known : (k : tie.After-sponge-of) → unknown (begins k .args .instance) ≡ false
+known k = sym (k .before .before .before .before .is-unknown .ensures) ∙ k .before .before .before .if1 .left
+
+counts : (k : tie.After-sponge-of) → (0 < k .sponge-of .result .rate)
+    × (length (begins k .args .message .now) / k .sponge-of .result .rate + k .sponge-of .result .outputs ≤ LONGEST-MESSAGE + DIGEST)
+counts k = sponge-counts (begins k .args .instance) (length (begins k .args .message .now)) (known k) (k .sponge-of .ensures) (k .before .before .if2 .left)
 
 is-unknown-requires : tie.Need-is-unknown-requires
 is-unknown-requires c κs = search needs
@@ -23,46 +36,35 @@ returns-2 c = refused (length-refused (c .before .before .before .before .before
 returns-3 : tie.Need-returns-3
 returns-3 c = refused (room-refused (c .before .before .before .before .before .before .args .instance) (c .before .before .before .before .before .before .args .message .now) (c .before .before .before .before .before .before .args .out .now) (sym (c .before .before .before .is-unknown .ensures) ∙ c .before .before .if1 .left) (c .before .if2 .left) (c .if3 .taken))
 
-shape-of-requires : tie.Need-shape-of-requires
-shape-of-requires c κs = (sym (c .before .before .before .is-unknown .ensures) ∙ c .before .before .if1 .left)
+sponge-of-requires : tie.Need-sponge-of-requires
+sponge-of-requires c κs = tt
 
-absorb-requires : tie.Need-absorb-requires
-absorb-requires c κs = rw (c .shape-of .ensures .0, c .shape-of .ensures .1) (known-whole (c .before .before .before .before .before .before .before .args .instance) (sym (c .before .before .before .before .is-unknown .ensures) ∙ c .before .before .before .if1 .left) .fits)
-
-squeeze-requires : tie.Need-squeeze-requires
-squeeze-requires c κs =
-    let w = known-whole (c .before .before .before .before .before .before .before .before .args .instance) (sym (c .before .before .before .before .before .is-unknown .ensures) ∙ c .before .before .before .before .if1 .left) in
-    rw (c .before .shape-of .ensures .0, c .before .shape-of .ensures .1, c .before .shape-of .ensures .2) (w .fits, w .makes)
+hash-requires : tie.Need-hash-requires
+hash-requires c κs = tt
 
 slice-aggregate-copy : tie.Need-slice-aggregate-copy
 slice-aggregate-copy c = search needs
 
 copy-requires : tie.Need-copy-requires
-copy-requires c κs = search needs
+copy-requires c κs = tt
 
-div-t17 : tie.Need-div-t17
-div-t17 c =
-    let f = count-fits (c .before .before .before .before .before .before .before .before .before .before .before .before .before .before .args .instance) (length (c .before .before .before .before .before .before .before .before .before .before .before .before .before .before .args .message .now)) (sym (c .before .before .before .before .before .before .before .before .before .before .before .is-unknown .ensures) ∙ c .before .before .before .before .before .before .before .before .before .before .if1 .left) (c .before .before .before .before .before .before .before .before .before .if2 .left) in
-    rw (c .before .before .before .before .before .before .before .shape-of .ensures .1) (omega (arith, f .0, f .1))
+div-t16 : tie.Need-div-t16
+div-t16 c = let f = counts (c .before .before .before .before .before .before) in omega (arith, f .0, f .1)
+
+add-t17 : tie.Need-add-t17
+add-t17 c = let f = counts (c .before .before .before .before .before .before) in omega (arith, f .0, f .1)
 
 add-t18 : tie.Need-add-t18
-add-t18 c =
-    let f = count-fits (c .before .before .before .before .before .before .before .before .before .before .before .before .before .before .args .instance) (length (c .before .before .before .before .before .before .before .before .before .before .before .before .before .before .args .message .now)) (sym (c .before .before .before .before .before .before .before .before .before .before .before .is-unknown .ensures) ∙ c .before .before .before .before .before .before .before .before .before .before .if1 .left) (c .before .before .before .before .before .before .before .before .before .if2 .left) in
-    rw (c .before .before .before .before .before .before .before .shape-of .ensures .1) (omega (arith, f .0, f .1))
-
-add-t19 : tie.Need-add-t19
-add-t19 c =
-    let f = count-fits (c .before .before .before .before .before .before .before .before .before .before .before .before .before .before .before .args .instance) (length (c .before .before .before .before .before .before .before .before .before .before .before .before .before .before .before .args .message .now)) (sym (c .before .before .before .before .before .before .before .before .before .before .before .before .is-unknown .ensures) ∙ c .before .before .before .before .before .before .before .before .before .before .before .if1 .left) (c .before .before .before .before .before .before .before .before .before .before .if2 .left) in
-    rw (c .before .before .before .before .before .before .before .before .shape-of .ensures .1) (omega (arith, f .0, f .1))
+add-t18 c = let f = counts (c .before .before .before .before .before .before .before) in omega (arith, f .0, f .1)
 
 same-length : tie.Need-same-length
 same-length c = search needs
 
 returns-4 : tie.Need-returns-4
 returns-4 c =
-    finished (c .before .before .before .before .before .before .before .before .before .before .before .before .before .before .before .args .instance) (c .before .before .before .before .before .before .before .before .before .before .before .before .before .before .before .args .message .now) (c .before .before .before .before .before .before .before .before .before .before .before .before .before .before .before .args .out .now) (c .before .before .before .before .before .before .before .absorb .result) (sym (c .before .before .before .before .before .before .before .before .before .before .before .before .is-unknown .ensures) ∙ c .before .before .before .before .before .before .before .before .before .before .before .if1 .left) (c .before .before .before .before .before .before .before .before .before .before .if2 .left) (c .before .before .before .before .before .before .before .before .before .if3 .left)
-    (c .before .before .before .before .before .before .before .before .shape-of .ensures .0) (c .before .before .before .before .before .before .before .before .shape-of .ensures .1) (c .before .before .before .before .before .before .before .before .shape-of .ensures .2)
-    (c .before .before .before .before .before .before .before .absorb .ensures) (c .before .before .before .before .before .before .squeeze .ensures) (c .before .before .before .copy .ensures)
+    let k = c .before .before .before .before .before .before .before in
+    finished (begins k .args .instance) (begins k .args .message .now) (begins k .args .out .now) (known k) (k .before .before .if2 .left) (k .before .if3 .left)
+    (k .sponge-of .ensures) (c .before .before .before .before .before .before .hash .ensures) (c .before .before .before .copy .ensures)
 
 pub digest-spec : {M : Type 1} → statement M
 digest-spec =
@@ -72,13 +74,12 @@ digest-spec =
     returns
     returns-2
     returns-3
-    shape-of-requires
-    absorb-requires
-    squeeze-requires
+    sponge-of-requires
+    hash-requires
     slice-aggregate-copy
     copy-requires
-    div-t17
+    div-t16
+    add-t17
     add-t18
-    add-t19
     same-length
     returns-4)

@@ -2,11 +2,11 @@
 use native.Mathlib.Nat.{div-mul-le-self}
 use lib.ListN.{length}
 use mathlib.Core.Path.{refl}
-use Rattle.digest.proofs.Taking.{all-taken}
+use Rattle.absorbing.proofs.Taking.{all-taken}
 use native.Mathlib.Omega.{arith}
 use borrow.Author.Needs.{needs}
-use Rattle.digest.proofs.absorb.Statement.{statement}
-use Rattle.digest.proofs.absorb.Tie as tie
+use Rattle.absorbing.proofs.absorb.Statement.{statement}
+use Rattle.absorbing.proofs.absorb.Tie as tie
 
 absorb-whole-requires : tie.Need-absorb-whole-requires
 absorb-whole-requires c κs = search needs

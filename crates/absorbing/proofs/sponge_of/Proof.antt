@@ -1,9 +1,9 @@
 -- `sponge_of` meets its promise: the table's row of a known instance. Assumes nothing.
 use mathlib.Core.Path.{sym, _∙_}
-use Rattle.digest.specs.Parts.{spongeOf}
+use Rattle.absorbing.specs.Parts.{spongeOf}
 use borrow.Author.Needs.{needs}
-use Rattle.digest.proofs.sponge_of.Statement.{statement}
-use Rattle.digest.proofs.sponge_of.Tie as tie
+use Rattle.absorbing.proofs.sponge_of.Statement.{statement}
+use Rattle.absorbing.proofs.sponge_of.Tie as tie
 
 is-unknown-requires : tie.Need-is-unknown-requires
 is-unknown-requires c κs = search needs

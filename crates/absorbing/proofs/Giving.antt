@@ -16,7 +16,7 @@ use Rattle.sponge.specs.Blocks.{blocks-suc}
 use Rattle.hashing.specs.Instances.{DIGEST}
 use Rattle.hashing.specs.Shapes.{Fits}
 use Rattle.hashing.specs.Hashing.{squeezed}
-use Rattle.digest.proofs.Taking.{size-room}
+use Rattle.absorbing.proofs.Taking.{size-room}
 
 -- after j of k outputs from the state s, at bytes
 pub record Given (n R k : ℕ) (s hash t : List ℕ) (at j : ℕ) : Type 0 where

@@ -1,8 +1,8 @@
 -- `absorb_last` meets its promise: the padded rest, cut to the rate, is one block more. Assumes nothing.
-use Rattle.digest.proofs.Taking.{last-taken}
+use Rattle.absorbing.proofs.Taking.{last-taken}
 use borrow.Author.Needs.{needs}
-use Rattle.digest.proofs.absorb_last.Statement.{statement}
-use Rattle.digest.proofs.absorb_last.Tie as tie
+use Rattle.absorbing.proofs.absorb_last.Statement.{statement}
+use Rattle.absorbing.proofs.absorb_last.Tie as tie
 
 last-block-requires : tie.Need-last-block-requires
 last-block-requires c κs = search needs

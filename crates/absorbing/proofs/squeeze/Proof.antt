@@ -1,11 +1,11 @@
 -- `squeeze` meets its promise. The invariant: state and digest are the sponge's after k outputs (`Given`); the measure is how many are
 -- left. Assumes nothing.
-use Rattle.digest.proofs.Giving.{Given, given-none, given-room, given-rest, given-more, given-all}
+use Rattle.absorbing.proofs.Giving.{Given, given-none, given-room, given-rest, given-more, given-all}
 use Prim.Native.Nat.{_-_}
 use native.Mathlib.Omega.{arith}
 use borrow.Author.Needs.{needs}
-use Rattle.digest.proofs.squeeze.Statement.{statement}
-use Rattle.digest.proofs.squeeze.Tie as tie
+use Rattle.absorbing.proofs.squeeze.Statement.{statement}
+use Rattle.absorbing.proofs.squeeze.Tie as tie
 
 abbrev Inv-loop : tie.InvT-loop
 Inv-loop size rate outputs hash₀ t₀ at₀ k₀ hash t at k = Given size rate outputs t₀ hash t at k

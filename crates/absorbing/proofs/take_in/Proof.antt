@@ -1,11 +1,11 @@
 -- `take_in` meets its promise: the whole blocks, and the state's bytes over zeros. Assumes nothing.
 use mathlib.Core.Path.{sym, _∙_}
-use Rattle.digest.specs.Parts.{takenIn}
-use Rattle.digest.proofs.Parting.{shape-fits, shape-room, part-taken}
+use Rattle.absorbing.specs.Parts.{takenIn}
+use Rattle.absorbing.proofs.Parting.{shape-fits, shape-room, part-taken}
 use native.Mathlib.Omega.{arith}
 use borrow.Author.Needs.{needs}
-use Rattle.digest.proofs.take_in.Statement.{statement}
-use Rattle.digest.proofs.take_in.Tie as tie
+use Rattle.absorbing.proofs.take_in.Statement.{statement}
+use Rattle.absorbing.proofs.take_in.Tie as tie
 
 is-unknown-requires : tie.Need-is-unknown-requires
 is-unknown-requires c κs = search needs

@@ -9,8 +9,8 @@ use Rattle.gage.specs.Permutation.{LARGEST, ROUNDS, permute}
 use Rattle.sponge.specs.Padding.{lastBlock}
 use Rattle.sponge.specs.Absorbing.{xored, Run, from, changed, called}
 use Rattle.hashing.specs.Instances.{DIGEST, unknown, sizeOf, rateOf, outputsOf}
-use Rattle.hashing.specs.Hashing.{Squeezed, squeezed}
-use Rattle.digest.specs.declared.Shape.{Shape}
+use Rattle.hashing.specs.Hashing.{Squeezed, squeezed, digestOf}
+use Rattle.absorbing.specs.declared.Shape.{Shape}
 
 -- absorbing goes on from a run: after k whole blocks of x
 unfoldable pub taken : ℕ → List ℕ → Run → ℕ → Run
@@ -38,3 +38,7 @@ takenIn i s x = cond (unknown i) s (within LARGEST (taken (rateOf i) x (from (ta
 unfoldable pub closedBy : ℕ → List ℕ → List ℕ → List ℕ
 closedBy i s rest =
     cond (unknown i) (replicate DIGEST 0) (closed (rateOf i) (outputsOf i) rest (from (take (sizeOf i) s)) .hash)
+
+-- the digest by instance i of a whole message; zeros for an unknown instance
+unfoldable pub hashOf : ℕ → List ℕ → List ℕ
+hashOf i m = cond (unknown i) (replicate DIGEST 0) (digestOf i m)

@@ -16,8 +16,8 @@ use Rattle.sponge.specs.Blocks.{blocks-suc, whole-ends, last-block-cut, take-re
 use Rattle.sponge.specs.Xor.{xored-front}
 use Rattle.hashing.specs.Shapes.{Fits}
 use Rattle.hashing.specs.Hashing.{absorbed}
-use Rattle.digest.specs.Parts.{taken}
-use Rattle.digest.specs.Joining.{absorbed-taken}
+use Rattle.absorbing.specs.Parts.{taken}
+use Rattle.absorbing.specs.Joining.{absorbed-taken}
 
 -- from the state o, after i whole blocks, at bytes of the message
 pub record Taken (n R : ℕ) (m o s : List ℕ) (at i : ℕ) : Type 0 where

@@ -1,17 +1,13 @@
 -- The calls of the permutation that a digest takes, by document 01's formula, from the definition that steps. Assumes nothing.
 use mathlib.Core.Path.{_≡_, refl, ap, _∙_}
-use mathlib.Core.Bool.{false}
 use mathlib.Core.List.{List}
-use Prim.Native.Nat.{ℕ, zero, suc, _+_, _*_, _/_, _≤_, _<_}
-use native.Mathlib.Nat.{div-le-self, mul-le-mul-left}
+use Prim.Native.Nat.{ℕ, zero, suc, _+_, _/_}
 use native.Mathlib.Omega.{arith}
 use lib.ListN.{length}
 use Rattle.sponge.specs.Padding.{blockCount}
 use Rattle.sponge.specs.Absorbing.{Run}
-use Rattle.hashing.specs.Instances.{DIGEST, DIGEST-BITS, unknown, bitRate, sizeOf, rateOf, outputsOf}
+use Rattle.hashing.specs.Instances.{DIGEST-BITS, bitRate, sizeOf, rateOf, outputsOf}
 use Rattle.hashing.specs.Hashing.{absorbed, squeezed, sponged, digestCalls}
-use Rattle.digest.specs.Answers.{LONGEST-MESSAGE}
-use Rattle.hashing.specs.Shapes.{known-whole}
 
 -- one call for each block
 pub absorbed-calls : (n R : ℕ) (m : List ℕ) (i : ℕ) → absorbed n R m i .calls ≡ i
@@ -35,11 +31,3 @@ sponged-calls n R k m =
 pub digest-calls : (i : ℕ) (m : List ℕ) → digestCalls i m ≡ length m / rateOf i + 1 + DIGEST-BITS / bitRate i
 unfolding digestCalls outputsOf
 digest-calls i m = sponged-calls (sizeOf i) (rateOf i) (DIGEST-BITS / bitRate i) m
-
--- the count is far below the machine's largest number
-pub count-fits : (i n : ℕ) → unknown i ≡ false → n ≤ LONGEST-MESSAGE → (0 < rateOf i) × (n / rateOf i + outputsOf i ≤ LONGEST-MESSAGE + DIGEST)
-count-fits i n e h =
-    let w = known-whole i e in
-    let some : 0 < rateOf i = w .fits .some in
-    let k : outputsOf i * 1 ≤ outputsOf i * rateOf i = mul-le-mul-left (outputsOf i) some in
-    (some, omega (arith, w .makes, div-le-self n (rateOf i)))

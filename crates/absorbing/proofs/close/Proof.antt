@@ -1,10 +1,10 @@
 -- `close` meets its promise: the last block, and then the outputs. Assumes nothing.
 use mathlib.Core.Path.{sym, _∙_}
-use Rattle.digest.specs.Parts.{closedBy}
-use Rattle.digest.proofs.Parting.{shape-fits, shape-makes, rest-closed}
+use Rattle.absorbing.specs.Parts.{closedBy}
+use Rattle.absorbing.proofs.Parting.{shape-fits, shape-makes, rest-closed}
 use borrow.Author.Needs.{needs}
-use Rattle.digest.proofs.close.Statement.{statement}
-use Rattle.digest.proofs.close.Tie as tie
+use Rattle.absorbing.proofs.close.Statement.{statement}
+use Rattle.absorbing.proofs.close.Tie as tie
 
 is-unknown-requires : tie.Need-is-unknown-requires
 is-unknown-requires c κs = search needs

@@ -4,8 +4,8 @@ use Rattle.hashing.specs.Instances.{bitSize, bitRate, sizeOf, rateOf, outputsOf
 use Rattle.hashing.specs.Shapes.{known-row, known-whole}
 use native.Mathlib.Omega.{arith}
 use borrow.Author.Needs.{needs}
-use Rattle.digest.proofs.shape_of.Statement.{statement}
-use Rattle.digest.proofs.shape_of.Tie as tie
+use Rattle.absorbing.proofs.shape_of.Statement.{statement}
+use Rattle.absorbing.proofs.shape_of.Tie as tie
 
 sub-i : tie.Need-sub-i
 sub-i c = omega (arith, known-row (c .args .instance) (c .pre))

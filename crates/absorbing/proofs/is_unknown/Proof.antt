@@ -1,8 +1,8 @@
 -- `is_unknown` meets its promise: the two comparisons are those of the definition. Assumes nothing.
 use borrow.Author.Tests.{lt-ltb, le-ltb}
 use Rattle.hashing.specs.Instances.{unknown}
-use Rattle.digest.proofs.is_unknown.Statement.{statement}
-use Rattle.digest.proofs.is_unknown.Tie as tie
+use Rattle.absorbing.proofs.is_unknown.Statement.{statement}
+use Rattle.absorbing.proofs.is_unknown.Tie as tie
 
 returns : tie.Need-returns
 unfolding unknown

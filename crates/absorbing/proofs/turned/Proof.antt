@@ -5,8 +5,8 @@ use Rattle.gage.specs.Tables.{permitted-size}
 use Rattle.gage.specs.Answers.{answered-first}
 use mathlib.Core.Path.{refl}
 use borrow.Author.Needs.{needs}
-use Rattle.digest.proofs.turned.Statement.{statement}
-use Rattle.digest.proofs.turned.Tie as tie
+use Rattle.absorbing.proofs.turned.Statement.{statement}
+use Rattle.absorbing.proofs.turned.Tie as tie
 
 permute-requires : tie.Need-permute-requires
 permute-requires c κs = search needs

@@ -1,4 +1,4 @@
--- What `take_in` and `close` make of a part of a message is what their definitions say, and what their callees ask for holds.
+-- What `take_in`, `close` and `hash` make of a message or a part of it is what their definitions say, and what their callees ask for holds.
 -- Assumes nothing.
 use mathlib.Core.Path.{_≡_, sym, _∙_}
 use mathlib.Core.Bool.{false}
@@ -8,14 +8,14 @@ use native.Mathlib.Omega.{arith}
 use lib.ListN.{length, take, drop, replicate}
 use Rattle.lists.specs.Buffers.{copied}
 use Rattle.gage.specs.Permutation.{LARGEST, ROUNDS, permute}
-use Rattle.sponge.specs.Padding.{lastBlock}
+use Rattle.sponge.specs.Padding.{blockCount, lastBlock}
 use Rattle.sponge.specs.Absorbing.{xored, from, changed, called}
 use Rattle.hashing.specs.Instances.{DIGEST, unknown, sizeOf, rateOf, outputsOf}
-use Rattle.hashing.specs.Hashing.{squeezed}
+use Rattle.hashing.specs.Hashing.{absorbed, squeezed, sponged, digestOf}
 use Rattle.hashing.specs.Shapes.{Fits, known-whole}
 use Rattle.hashing.specs.Outputs.{squeezed-state}
-use Rattle.digest.specs.Parts.{taken, closed, takenIn, closedBy}
-use Rattle.digest.proofs.Taking.{size-room}
+use Rattle.absorbing.specs.Parts.{taken, closed, takenIn, closedBy, hashOf}
+use Rattle.absorbing.proofs.Taking.{size-room}
 
 -- the shape of a known instance
 module _ (i : ℕ) {n R k : ℕ} (known : unknown i ≡ false) (shape : (n ≡ sizeOf i) × (R ≡ rateOf i) × (k ≡ outputsOf i)) where
@@ -44,3 +44,9 @@ module _ (i : ℕ) {n R k : ℕ} (known : unknown i ≡ false) (shape : (n ≡ s
       w-is
       ∙ squeezed-state R (from (take n state)) (called (permute ROUNDS) (changed (xored (take R (lastBlock rest))) (from (take n s)))) k e
       ∙ rw (known, shape .0, shape .1, shape .2)
+
+  -- the message taken up and the outputs
+  pub message-hashed : (m s : List ℕ) {w : List ℕ} → take n s ≡ absorbed n R m (blockCount R m) .state → w ≡ squeezed R (from (take n s)) k .hash → w ≡ hashOf i m
+  unfolding hashOf digestOf sponged
+  message-hashed m s e w-is =
+      w-is ∙ squeezed-state R (from (take n s)) (absorbed n R m (blockCount R m)) k e ∙ rw (known, shape .0, shape .1, shape .2)

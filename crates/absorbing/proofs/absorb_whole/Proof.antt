@@ -3,11 +3,11 @@
 use native.Mathlib.Nat.{div-le-self}
 use lib.ListN.{length}
 use Prim.Native.Nat.{_-_, _/_}
-use Rattle.digest.proofs.Taking.{Taken, taken-none, taken-room, taken-more, taken-all}
+use Rattle.absorbing.proofs.Taking.{Taken, taken-none, taken-room, taken-more, taken-all}
 use native.Mathlib.Omega.{arith}
 use borrow.Author.Needs.{needs}
-use Rattle.digest.proofs.absorb_whole.Statement.{statement}
-use Rattle.digest.proofs.absorb_whole.Tie as tie
+use Rattle.absorbing.proofs.absorb_whole.Statement.{statement}
+use Rattle.absorbing.proofs.absorb_whole.Tie as tie
 
 abbrev Inv-loop : tie.InvT-loop
 Inv-loop message size rate state₀ blocks at₀ i₀ state at i = Taken size rate message state₀ state at i

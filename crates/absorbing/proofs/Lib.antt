@@ -1,0 +1,4 @@
+pub mod Taking
+pub mod Giving
+pub mod Parting
+pub mod Single
