@@ -10,12 +10,12 @@ use converting::Found;
 use editions::misnamed;
 use editions::only;
 use layout::Layout;
-use numbers::read_given;
-use numbers::read_length;
 use reader::ALL_WORK;
 use reader::Answer;
 use reader::Asked;
 use reader::judge;
+use readings::read_given;
+use readings::read_length;
 
 // The converter's answer for what a stretch is judged to be; a line is done with its length.
 fn converted_of(answer: Answer) -> Converted

@@ -61,12 +61,12 @@ fn given(line: &[u8], length: usize) -> bool {
 // The row of a stretch.
 fn row(reading: Reading, line: &[u8]) -> bool {
     let answer = reading.answer;
-    let number = numbers::read_number(answer);
+    let number = readings::read_number(answer);
     if !head(reading.first, number) {
         return false;
     }
     if number == 0 {
-        if !given(line, numbers::read_length(answer)) {
+        if !given(line, readings::read_length(answer)) {
             return false;
         }
     }
@@ -78,7 +78,7 @@ fn counted(t: Tally, reading: Reading) -> Tally {
     let answer = reading.answer;
     let mut lines = t.lines;
     let mut refused = t.refused;
-    if numbers::read_number(answer) == 0 {
+    if readings::read_number(answer) == 0 {
         lines = std::num::wrapping_add_u64(lines, 1);
     } else {
         refused = std::num::wrapping_add_u64(refused, 1);

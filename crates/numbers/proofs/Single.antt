@@ -22,14 +22,6 @@ use Rattle.numbers.proofs.write_length.Kinds as write-length-kinds
 use Rattle.numbers.proofs.write_length.Reads as write-length-reads
 use Rattle.numbers.proofs.write_count.Kinds as write-count-kinds
 use Rattle.numbers.proofs.write_count.Reads as write-count-reads
-use Rattle.numbers.proofs.read_number.Kinds as read-number-kinds
-use Rattle.numbers.proofs.read_number.Reads as read-number-reads
-use Rattle.numbers.proofs.read_length.Kinds as read-length-kinds
-use Rattle.numbers.proofs.read_length.Reads as read-length-reads
-use Rattle.numbers.proofs.read_count.Kinds as read-count-kinds
-use Rattle.numbers.proofs.read_count.Reads as read-count-reads
-use Rattle.numbers.proofs.read_given.Kinds as read-given-kinds
-use Rattle.numbers.proofs.read_given.Reads as read-given-reads
 
 pub digest-number-single : (κs : Lfts 0) (a : Dens κs digest-number-kinds.ps) (r r′ : ℕ) (x x′ : AtExit (endedOf 0 digest-number-kinds.ps digest-number-kinds.r) κs)
     → digest-number-reads.Post κs a r x → digest-number-reads.Post κs a r′ x′ → r ≡ r′
@@ -66,19 +58,3 @@ write-length-single κs a r r′ x x′ p q = p ∙ sym q
 pub write-count-single : (κs : Lfts 0) (a : Dens κs write-count-kinds.ps) (r r′ : ℕ) (x x′ : AtExit (endedOf 0 write-count-kinds.ps write-count-kinds.r) κs)
     → write-count-reads.Post κs a r x → write-count-reads.Post κs a r′ x′ → r ≡ r′
 write-count-single κs a r r′ x x′ p q = p ∙ sym q
-
-pub read-number-single : (κs : Lfts 0) (a : Dens κs read-number-kinds.ps) (r r′ : ℕ) (x x′ : AtExit (endedOf 0 read-number-kinds.ps read-number-kinds.r) κs)
-    → read-number-reads.Post κs a r x → read-number-reads.Post κs a r′ x′ → r ≡ r′
-read-number-single κs a r r′ x x′ p q = p ∙ sym q
-
-pub read-length-single : (κs : Lfts 0) (a : Dens κs read-length-kinds.ps) (r r′ : ℕ) (x x′ : AtExit (endedOf 0 read-length-kinds.ps read-length-kinds.r) κs)
-    → read-length-reads.Post κs a r x → read-length-reads.Post κs a r′ x′ → r ≡ r′
-read-length-single κs a r r′ x x′ p q = p ∙ sym q
-
-pub read-count-single : (κs : Lfts 0) (a : Dens κs read-count-kinds.ps) (r r′ : ℕ) (x x′ : AtExit (endedOf 0 read-count-kinds.ps read-count-kinds.r) κs)
-    → read-count-reads.Post κs a r x → read-count-reads.Post κs a r′ x′ → r ≡ r′
-read-count-single κs a r r′ x x′ p q = p ∙ sym q
-
-pub read-given-single : (κs : Lfts 0) (a : Dens κs read-given-kinds.ps) (r r′ : ℕ) (x x′ : AtExit (endedOf 0 read-given-kinds.ps read-given-kinds.r) κs)
-    → read-given-reads.Post κs a r x → read-given-reads.Post κs a r′ x′ → r ≡ r′
-read-given-single κs a r r′ x x′ p q = p ∙ sym q

@@ -1,17 +1,15 @@
-// The number and values of what each call answers (document 01, 'Numbers returned'; order W2), for callers that report them. The promises
-// cite the definitions beside those answers: specs/Answers.antt of digest, sealing, frame and reader.
+// The number and values of what the calls that write answer (document 01, 'Numbers returned'; order W2), for callers that report them. The promises
+// cite the definitions beside those answers: specs/Answers.antt of digest, sealing and frame.
 ghost use mathlib.Core.Path.{_≡_};
 ghost use Rattle.digest.specs.Answers as hashing;
 ghost use Rattle.sealing.specs.Answers.{sealNumber, sealCount, openNumber, openCount};
 ghost use Rattle.frame.specs.Answers as writing;
-ghost use Rattle.reader.specs.Answers as reading;
 use digest::Digested;
 use frame::Written;
-use reader::Answer;
 use sealing::Opened;
 use sealing::Sealed;
 
-// What a refusal that makes no call of the permutation counts, and the end of the stream.
+// What a refusal that makes no call of the permutation counts.
 const NO_CALLS: usize = 0;
 
 // The number of what `digest` answers.
@@ -137,99 +135,5 @@ pub fn write_count(answer: Written) -> usize
         Written::Trade => NO_CALLS,
         Written::Layout => NO_CALLS,
         Written::NoRoom => NO_CALLS,
-    }
-}
-
-// The number of what `read` answers; the end of the stream has 0, as a line has.
-pub fn read_number(answer: Answer) -> u32
-    ensures { λ r. ⌜ r ≡ reading.numberOf answer ⌝ }
-{
-    match answer {
-        Answer::Sizes => 2,
-        Answer::TooLong => 3,
-        Answer::NoRoom => 4,
-        Answer::Beyond => 10,
-        Answer::End => 0,
-        Answer::Shape => 7,
-        Answer::Stuffing => 6,
-        Answer::Font => 8,
-        Answer::Work => 15,
-        Answer::Seal(_) => 5,
-        Answer::Unlisted(_) => 9,
-        Answer::Trade(_) => 13,
-        Answer::Layout(_) => 17,
-        Answer::Line {
-            length: _,
-            calls: _,
-        } => 0,
-    }
-}
-
-// The line's length, 0 where no line is given.
-pub fn read_length(answer: Answer) -> usize
-    ensures { λ r. ⌜ r ≡ reading.lengthOf answer ⌝ }
-{
-    match answer {
-        Answer::Sizes => 0,
-        Answer::TooLong => 0,
-        Answer::NoRoom => 0,
-        Answer::Beyond => 0,
-        Answer::End => 0,
-        Answer::Shape => 0,
-        Answer::Stuffing => 0,
-        Answer::Font => 0,
-        Answer::Work => 0,
-        Answer::Seal(_) => 0,
-        Answer::Unlisted(_) => 0,
-        Answer::Trade(_) => 0,
-        Answer::Layout(_) => 0,
-        Answer::Line { length, calls: _ } => length,
-    }
-}
-
-// The count of what `read` answers.
-pub fn read_count(answer: Answer) -> usize
-    ensures { λ r. ⌜ r ≡ reading.callsOf answer ⌝ }
-{
-    match answer {
-        Answer::Sizes => NO_CALLS,
-        Answer::TooLong => NO_CALLS,
-        Answer::NoRoom => NO_CALLS,
-        Answer::Beyond => NO_CALLS,
-        Answer::End => NO_CALLS,
-        Answer::Shape => NO_CALLS,
-        Answer::Stuffing => NO_CALLS,
-        Answer::Font => NO_CALLS,
-        Answer::Work => NO_CALLS,
-        Answer::Seal(calls) => calls,
-        Answer::Unlisted(calls) => calls,
-        Answer::Trade(calls) => calls,
-        Answer::Layout(calls) => calls,
-        Answer::Line { length: _, calls } => calls,
-    }
-}
-
-// 1 where a line is given, else 0.
-pub fn read_given(answer: Answer) -> u32
-    ensures { λ r. ⌜ r ≡ reading.givenOf answer ⌝ }
-{
-    match answer {
-        Answer::Line {
-            length: _,
-            calls: _,
-        } => 1,
-        Answer::Sizes => 0,
-        Answer::TooLong => 0,
-        Answer::NoRoom => 0,
-        Answer::Beyond => 0,
-        Answer::End => 0,
-        Answer::Shape => 0,
-        Answer::Stuffing => 0,
-        Answer::Font => 0,
-        Answer::Work => 0,
-        Answer::Seal(_) => 0,
-        Answer::Unlisted(_) => 0,
-        Answer::Trade(_) => 0,
-        Answer::Layout(_) => 0,
     }
 }

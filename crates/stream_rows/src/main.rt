@@ -78,7 +78,7 @@ fn shown(line: &[u8], length: usize) {
 fn number(answer: Answer) {
     match answer {
         Answer::End => say(b"end "),
-        _ => cell(numbers::read_number(answer) as usize),
+        _ => cell(readings::read_number(answer) as usize),
     }
 }
 
@@ -108,11 +108,11 @@ fn row(
     cell(reading.first);
     cell(reading.closing);
     number(answer);
-    cell(numbers::read_length(answer));
-    cell(numbers::read_count(answer));
+    cell(readings::read_length(answer));
+    cell(counts::read_count(answer));
     cell(reading.edition);
     cell(reading.job);
-    shown(line, numbers::read_length(answer));
+    shown(line, readings::read_length(answer));
     step
 }
 
