@@ -67,7 +67,7 @@ pub fn made(name: &[u8], rows: &[u8]) -> Vec<u8> {
     bundle
 }
 
-fn name_fits(name: &[u8]) -> bool {
+pub fn name_fits(name: &[u8]) -> bool {
     (NAME_LEAST..=NAME_MOST).contains(&name.len())
 }
 

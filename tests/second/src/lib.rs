@@ -10,6 +10,7 @@ pub mod compose;
 pub mod convert;
 pub mod diffusion;
 pub mod digest;
+pub mod drawing;
 pub mod frame;
 pub mod kat;
 pub mod leaders;

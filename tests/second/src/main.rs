@@ -8,7 +8,7 @@ use std::process::exit;
 
 use second::numbers::{DIGEST, DONE, MESSAGE_LIMIT, STREAM_LIMIT};
 use second::text::value;
-use second::{answers, compose, diffusion, digest, kat, lines, rows, trial};
+use second::{answers, compose, diffusion, digest, drawing, kat, lines, rows, trial};
 
 const USAGE: &str = "\
 second rows OUTDIR                expected outputs of the product's test programs
@@ -20,7 +20,10 @@ second compose KEYFILE FONTFILE   orders on standard input, frames out
 second lines KEYFILE FONTFILE     stream on standard input, listing out
 second sum I                      digest of standard input by hash instance I
 second permutation [back] SIZE ROUNDS STATE
-                                  a state in hex after so many rounds, or before";
+                                  a state in hex after so many rounds, or before
+second bundle show                a bundle on standard input, its drawing out
+second bundle make                a drawing on standard input, its bundle out
+second bundle digest              the digest of the bundle on standard input";
 
 /// What ends the program: a line for standard error and the exit status.
 struct Stop(String, i32);
@@ -62,6 +65,7 @@ fn run(words: &[&str]) -> Result<(), Stop> {
             Ok(row) => print(row.as_bytes()),
             Err(why) => Err(Stop(why, 1)),
         },
+        ["bundle", ref asked @ ..] => bundle(asked),
         _ => Err(Stop(USAGE.to_string(), 2)),
     }
 }
@@ -85,6 +89,16 @@ fn sum(instance: &str) -> Result<(), Stop> {
     }
 }
 
+/// As the program `bundle` does it: with status 0, whatever is refused.
+fn bundle(words: &[&str]) -> Result<(), Stop> {
+    let told = |why: &str| Stop(why.to_string(), 0);
+    let work = drawing::asked(words).ok_or_else(|| told(drawing::USAGE))?;
+    let input = standard_input(MESSAGE_LIMIT as u64 + 1)
+        .map_err(|_| told("bundle: input can't be read"))?;
+    let output = work(&input).map_err(|why| told(&why))?;
+    print(&output).map_err(|_| told("bundle: not written whole"))
+}
+
 fn file(path: &str) -> Option<Vec<u8>> {
     fs::read(path).ok()
 }
@@ -99,8 +113,9 @@ fn standard_input(most: u64) -> Result<Vec<u8>, Stop> {
 }
 
 fn print(bytes: &[u8]) -> Result<(), Stop> {
-    io::stdout()
-        .write_all(bytes)
+    let mut out = io::stdout();
+    out.write_all(bytes)
+        .and_then(|()| out.flush())
         .map_err(|why| failed("standard output", &why))
 }
 
