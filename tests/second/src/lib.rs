@@ -12,6 +12,7 @@ pub mod diffusion;
 pub mod digest;
 pub mod drawing;
 pub mod frame;
+pub mod inputs;
 pub mod kat;
 pub mod leaders;
 pub mod line;

@@ -8,7 +8,7 @@ use std::process::exit;
 
 use second::numbers::{DIGEST, DONE, MESSAGE_LIMIT, STREAM_LIMIT};
 use second::text::value;
-use second::{answers, compose, diffusion, digest, drawing, kat, lines, rows, trial};
+use second::{answers, compose, diffusion, digest, drawing, inputs, kat, lines, rows, trial};
 
 const USAGE: &str = "\
 second rows OUTDIR                expected outputs of the product's test programs
@@ -23,7 +23,8 @@ second permutation [back] SIZE ROUNDS STATE
                                   a state in hex after so many rounds, or before
 second bundle show                a bundle on standard input, its drawing out
 second bundle make                a drawing on standard input, its bundle out
-second bundle digest              the digest of the bundle on standard input";
+second bundle digest              the digest of the bundle on standard input
+second inputs OUTDIR              inputs of the product's program bundle";
 
 /// What ends the program: a line for standard error and the exit status.
 struct Stop(String, i32);
@@ -66,6 +67,9 @@ fn run(words: &[&str]) -> Result<(), Stop> {
             Err(why) => Err(Stop(why, 1)),
         },
         ["bundle", ref asked @ ..] => bundle(asked),
+        ["inputs", directory] => {
+            inputs::write_all(Path::new(directory)).map_err(|why| failed(directory, &why))
+        }
         _ => Err(Stop(USAGE.to_string(), 2)),
     }
 }
