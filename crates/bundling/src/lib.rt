@@ -17,16 +17,16 @@ use fields::HEAD_LENGTH;
 use fields::put_field;
 use glyphs::BESIDE_NAME;
 use glyphs::Bundle;
-use glyphs::CHARACTERS;
 use glyphs::GLYPH_FIELD;
-use glyphs::GLYPH_LENGTH;
-use glyphs::GLYPH_ROWS;
-use glyphs::GLYPH_TAG;
-use glyphs::GLYPHS;
-use glyphs::LONGEST_NAME;
-use glyphs::NAME_TAG;
 use glyphs::ROWS_AT;
 use lists::copy;
+use rules::CHARACTERS;
+use rules::GLYPH_LENGTH;
+use rules::GLYPH_ROWS;
+use rules::GLYPH_TAG;
+use rules::GLYPHS;
+use rules::LONGEST_NAME;
+use rules::NAME_TAG;
 
 // The rows of all glyphs, and the room for a bundle (order W1).
 pub const ROWS: usize = GLYPHS * GLYPH_ROWS;
@@ -107,7 +107,7 @@ pub fn write(name: &[u8], rows: &[u8], out: &mut [u8]) -> Written
     ensures { λ r. ⌜ r ≡ writeAnswer (now (name .entry)) (now (rows .entry)) (now (out .entry)) ⌝ }
     ensures { λ _. ⌜ now (out .exit) ≡ writeOut (now (name .entry)) (now (rows .entry)) (now (out .entry)) ⌝ }
 {
-    if !glyphs::rule_takes(NAME_TAG, name.len()) {
+    if !rules::rule_takes(NAME_TAG, name.len()) {
         return Written::Shape;
     }
     if rows.len() != ROWS {
@@ -197,7 +197,7 @@ pub fn rows_part(bundle: &[u8], character: u8) -> Part
 {
     let judged = glyphs::read(bundle);
     match judged {
-        Bundle::Named(n) => glyph_part(bundle, n, glyphs::index_of(character)),
+        Bundle::Named(n) => glyph_part(bundle, n, rules::index_of(character)),
         Bundle::Shape => no_part(bundle),
         Bundle::Alike => no_part(bundle),
     }

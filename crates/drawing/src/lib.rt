@@ -20,10 +20,10 @@ use dots::PRINTED;
 use dots::UNPRINTED;
 use dots::line_char;
 use glyphs::Bundle;
-use glyphs::CHARACTERS;
 use glyphs::GLYPH_FIELD;
-use glyphs::GLYPH_ROWS;
-use glyphs::LONGEST_NAME;
+use rules::CHARACTERS;
+use rules::GLYPH_ROWS;
+use rules::LONGEST_NAME;
 
 // The printing characters of ASCII.
 const FIRST_PRINTING: u8 = 0x20;

@@ -1,25 +1,11 @@
--- The promises of `rule_takes`, `index_of` and `read`, as the check reads them (`Post`), admit a single answer. Assumes nothing.
+-- The promise of `read`, as the check reads it (`Post`), admits a single answer. Assumes nothing.
 use mathlib.Core.Path.{_≡_, sym, _∙_}
-use mathlib.Core.Bool.{Bool}
-use Prim.Native.Nat.{ℕ}
 use contract.Lifetimes.{Lfts}
 use denote.Triple.Clauses.{AtExit}
 use borrow.Fn.Kinds.{Dens, endedOf}
 use Rattle.glyphs.specs.declared.Bundle.{Bundle}
-use Rattle.glyphs.proofs.rule_takes.Kinds as rule-kinds
-use Rattle.glyphs.proofs.rule_takes.Reads as rule-reads
-use Rattle.glyphs.proofs.index_of.Kinds as index-kinds
-use Rattle.glyphs.proofs.index_of.Reads as index-reads
 use Rattle.glyphs.proofs.read.Kinds as read-kinds
 use Rattle.glyphs.proofs.read.Reads as read-reads
-
-pub rule-takes-single : (κs : Lfts 0) (a : Dens κs rule-kinds.ps) (r r′ : Bool) (x x′ : AtExit (endedOf 0 rule-kinds.ps rule-kinds.r) κs)
-    → rule-reads.Post κs a r x → rule-reads.Post κs a r′ x′ → r ≡ r′
-rule-takes-single κs a r r′ x x′ p q = p ∙ sym q
-
-pub index-of-single : (κs : Lfts 0) (a : Dens κs index-kinds.ps) (r r′ : ℕ) (x x′ : AtExit (endedOf 0 index-kinds.ps index-kinds.r) κs)
-    → index-reads.Post κs a r x → index-reads.Post κs a r′ x′ → r ≡ r′
-index-of-single κs a r r′ x x′ p q = p ∙ sym q
 
 pub read-single : (κs : Lfts 1) (a : Dens κs read-kinds.ps) (r r′ : Bundle) (x x′ : AtExit (endedOf 1 read-kinds.ps read-kinds.r) κs)
     → read-reads.Post κs a r x → read-reads.Post κs a r′ x′ → r ≡ r′

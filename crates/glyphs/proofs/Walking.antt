@@ -1,48 +1,21 @@
 -- Rows, characters and glyphs one behind the other, as the loops go. Assumes nothing.
-use mathlib.Core.Path.{_≡_, refl, ap, sym, _∙_}
+use mathlib.Core.Path.{_≡_, refl, ap, _∙_}
 use mathlib.Core.Bool.{Bool, true, false, cond}
 use mathlib.Core.List.{List, [], _∷_}
 use Prim.Native.Nat.{ℕ, zero, suc, _+_, _-_, _≤_, _<_}
 use native.Mathlib.Nat.{not-suc-le-zero}
 use native.Mathlib.Omega.{arith}
-use lib.Dec.{eqb, ltb}
+use lib.Dec.{eqb}
 use lib.ListN.{length, getD, take, drop, drop-of-length-le}
 use lib.Seq.{drop-drop}
-use borrow.Author.Tests.{eq-eqb, ne-eqb, lt-ltb, le-ltb}
 use Rattle.lists.specs.Walk.{at}
 use Rattle.lists.specs.Buffers.{same}
-use Rattle.fields.specs.Fields.{headLength, Front, value, no-field, front}
+use Rattle.fields.specs.Fields.{Front, value, no-field, front}
 use Rattle.fields.specs.Laws.{front-stands}
-use Rattle.bundles.specs.Bundles.{glyphTag, glyphRows, glyphLength, rowBound, takes, dotted, among, repeated, glyphOf, Rows, rows, no-rows, before, behind, rowsOf}
+use Rattle.bundles.specs.Bundles.{glyphTag, glyphRows, glyphLength, takes, dotted, among, repeated, glyphOf, Rows, rows, no-rows, before, behind, rowsOf}
 use Rattle.bundles.specs.Lengths.{glyphField, glyph-taken}
-use Rattle.bundles.specs.Places.{rowsAt, indexOf, glyphsAt}
+use Rattle.bundles.specs.Places.{rowsAt, glyphsAt}
 use Rattle.glyphs.specs.Answers.{isField, isRows}
-
--- rows from place i on: none are left; one has seven dots, and those behind it decide; one has more
-pub dotted-end : (r : List ℕ) (i : ℕ) → length r ≤ i → dotted (drop i r) ≡ true
-unfolding dotted
-dotted-end r i h = rw (drop-of-length-le r {i = i} h)
-
-pub dotted-on : (r : List ℕ) (i : ℕ) → i < length r → getD r i 0 < rowBound → dotted (drop i r) ≡ dotted (drop (i + 1) r)
-unfolding dotted
-dotted-on r i h l = rw (at r i h, lt-ltb (getD r i 0) rowBound l)
-
-pub dotted-not : (r : List ℕ) (i : ℕ) → i < length r → rowBound ≤ getD r i 0 → dotted (drop i r) ≡ false
-unfolding dotted
-dotted-not r i h l = rw (at r i h, le-ltb (getD r i 0) rowBound l)
-
--- how many stand before c, where i were passed
-pub index-here : (c : ℕ) (cs : List ℕ) (i : ℕ) → i < length cs → getD cs i 0 ≡ c → indexOf c (drop i cs) ≡ 0
-unfolding indexOf
-index-here c cs i h e = rw (at cs i h, eq-eqb c (getD cs i 0) (sym e))
-
-pub index-on : (c : ℕ) (cs : List ℕ) (i : ℕ) → i < length cs → (getD cs i 0 ≡ c → ⊥) → indexOf c (drop i cs) ≡ suc (indexOf c (drop (i + 1) cs))
-unfolding indexOf
-index-on c cs i h n = rw (at cs i h, ne-eqb c (getD cs i 0) (λ e. n (sym e)))
-
-pub index-end : (c : ℕ) (cs : List ℕ) (i : ℕ) → length cs ≤ i → indexOf c (drop i cs) ≡ 0
-unfolding indexOf
-index-end c cs i h = rw (drop-of-length-le cs {i = i} h)
 
 -- a glyph that stands first is passed, and those behind it decide
 past : (c : ℕ) (cs s : List ℕ) (f : Front) → front takes glyphTag s ≡ f → isField (glyphOf c f) ≡ true

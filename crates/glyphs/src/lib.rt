@@ -1,52 +1,22 @@
-// Bytes judged as a glyph bundle (order W1): the reader, which accepts exactly what the writer can make, and the order of the characters.
-// The promises cite specs/Answers.antt; what a bundle is stands in bundles.
+// Bytes judged as a glyph bundle (order W1): the reader, which accepts exactly what the writer can make. The promises cite specs/Answers.antt; what a
+// bundle is stands in bundles, and the rules of its parts are asked of rules.
 ghost use mathlib.Core.Path.{_≡_};
 ghost use Prim.Native.Nat.{_+_, _*_, _≤_};
 ghost use lib.ListN.{length, take, drop};
 ghost use Rattle.fields.specs.Fields.{highByte, front};
-ghost use Rattle.bundles.specs.Bundles.{glyphTag, glyphRows, characters, glyphCount, takes, dotted, among, repeated, glyphOf, rowsOf};
+ghost use Rattle.bundles.specs.Bundles.{glyphTag, glyphRows, characters, glyphCount, takes, among, repeated, glyphOf, rowsOf};
 ghost use Rattle.bundles.specs.Lengths.{glyphField, glyphsLength};
-ghost use Rattle.bundles.specs.Places.{rowsAt, indexOf, glyphsAt};
+ghost use Rattle.bundles.specs.Places.{rowsAt, glyphsAt};
 ghost use Rattle.glyphs.specs.Answers.{lengthFound, isField, isRows, told, readAnswer};
 use fields::HEAD_LENGTH;
 use fields::HIGH_BYTE;
-
-// The fields' tags (tags are hexadecimal): name and glyph.
-pub const NAME_TAG: u8 = 0x10;
-
-pub const GLYPH_TAG: u8 = 0x12;
-
-// The lengths of a name; nine rows a glyph, behind a character byte.
-const SHORTEST_NAME: usize = 1;
-
-pub const LONGEST_NAME: usize = 32;
-
-pub const GLYPH_ROWS: usize = 9;
-
-pub const GLYPH_LENGTH: usize = 1 + GLYPH_ROWS;
-
-// The most that a row can hold: seven dots, the top bit zero.
-const ALL_DOTS: u8 = 0x7F;
-
-// How many glyphs there are, and their characters in this order.
-pub const GLYPHS: usize = 14;
-
-pub const CHARACTERS: [u8; GLYPHS] = [
-    b'0',
-    b'1',
-    b'2',
-    b'3',
-    b'4',
-    b'5',
-    b'6',
-    b'7',
-    b'8',
-    b'9',
-    b'A',
-    b'B',
-    b'C',
-    b'D',
-];
+use rules::CHARACTERS;
+use rules::GLYPH_LENGTH;
+use rules::GLYPH_TAG;
+use rules::GLYPHS;
+use rules::NAME_TAG;
+use rules::all_dotted;
+use rules::rule_takes;
 
 // Where in a glyph's field its character and its rows stand, and how long the field is.
 const CHARACTER_AT: usize = HEAD_LENGTH;
@@ -68,35 +38,6 @@ pub enum Bundle {
     Shape,
     // Two glyphs with the same dots: 12.
     Alike,
-}
-
-// The decision over the tag byte, which picks the rule of the field: may its value have n bytes?
-pub fn rule_takes(tag: u8, n: usize) -> bool
-    ensures { λ r. ⌜ r ≡ takes tag n ⌝ }
-{
-    match tag {
-        NAME_TAG => match n {
-            SHORTEST_NAME..=LONGEST_NAME => true,
-            _ => false,
-        },
-        GLYPH_TAG => n == GLYPH_LENGTH,
-        _ => false,
-    }
-}
-
-// How many of the characters stand before c; all fourteen where it is none of them.
-pub fn index_of(c: u8) -> usize
-    ensures { λ r. ⌜ r ≡ indexOf c characters ⌝ }
-{
-    let all = CHARACTERS;
-    let mut i = 0;
-    while i < GLYPHS {
-        if all[i] == c {
-            return i;
-        }
-        i += 1;
-    }
-    GLYPHS
 }
 
 // What the two bytes of a length say.
@@ -126,20 +67,6 @@ fn value_at(b: &[u8], at: usize, tag: u8) -> usize
         return 0;
     }
     n
-}
-
-// Whether every row has seven dots.
-fn all_dotted(rows: &[u8]) -> bool
-    ensures { λ r. ⌜ r ≡ dotted (now (rows .entry)) ⌝ }
-{
-    let mut i = 0;
-    while i < rows.len() {
-        if rows[i] > ALL_DOTS {
-            return false;
-        }
-        i += 1;
-    }
-    true
 }
 
 // Whether the glyph of the character c stands at a place of b.

@@ -2,8 +2,8 @@
 use native.Mathlib.Omega.{arith}
 use borrow.Author.Tests.{ne-eqb, le-leb, lt-leb}
 use Rattle.bundles.specs.Bundles.{nameTag, glyphTag, shortestName, longestName, takes}
-use Rattle.glyphs.proofs.rule_takes.Statement.{statement}
-use Rattle.glyphs.proofs.rule_takes.Tie as tie
+use Rattle.rules.proofs.rule_takes.Statement.{statement}
+use Rattle.rules.proofs.rule_takes.Tie as tie
 
 returns : tie.Need-returns
 unfolding takes

@@ -5,9 +5,9 @@ use native.Mathlib.Omega.{arith}
 use lib.ListN.{length, drop}
 use borrow.Author.Needs.{needs}
 use Rattle.bundles.specs.Bundles.{dotted}
-use Rattle.glyphs.proofs.Walking.{dotted-end, dotted-on, dotted-not}
-use Rattle.glyphs.proofs.all_dotted.Statement.{statement}
-use Rattle.glyphs.proofs.all_dotted.Tie as tie
+use Rattle.rules.proofs.Walking.{dotted-end, dotted-on, dotted-not}
+use Rattle.rules.proofs.all_dotted.Statement.{statement}
+use Rattle.rules.proofs.all_dotted.Tie as tie
 
 abbrev Inv-loop : tie.InvT-loop
 Inv-loop rows i₀ i = (i ≤ length rows) × (dotted (drop i rows) ≡ dotted rows)

@@ -6,9 +6,9 @@ use lib.ListN.{drop}
 use borrow.Author.Needs.{needs}
 use Rattle.bundles.specs.Bundles.{characters, glyphCount}
 use Rattle.bundles.specs.Places.{indexOf}
-use Rattle.glyphs.proofs.Walking.{index-here, index-on, index-end}
-use Rattle.glyphs.proofs.index_of.Statement.{statement}
-use Rattle.glyphs.proofs.index_of.Tie as tie
+use Rattle.rules.proofs.Walking.{index-here, index-on, index-end}
+use Rattle.rules.proofs.index_of.Statement.{statement}
+use Rattle.rules.proofs.index_of.Tie as tie
 
 abbrev Inv-loop : tie.InvT-loop
 Inv-loop c all i₀ i = (i ≤ glyphCount) × (indexOf c characters ≡ i + indexOf c (drop i characters))
