@@ -38,19 +38,15 @@ mixed n R b r h = xored-front n (take R b) r (omega (arith, length-take R b))
 in-front : (k n : ℕ) (x c : List ℕ) → k ≤ n → take n x ≡ c → take k x ≡ take k c
 in-front k n x c h e = sym (take-take k n x h) ∙ ap (λ (l : List ℕ). take k l) e
 
--- a padded piece p mixed into an array s, and the permutation after it
-passed-on : (z : Instance) → Fitting z → (p s b x r : List ℕ) → b ≡ lastBlock p → x ≡ xored (take (z .rate) b) s → take (z .state) r ≡ half (take (z .state) x)
-    → take (z .state) r ≡ half (xored (take (z .rate) (lastBlock p)) (take (z .state) s))
-passed-on z fits p s b x r e f g =
-    let d = fits .ends in
-    g ∙ ap half (rw (f, e) (mixed (z .state) (z .rate) (lastBlock p) s (omega arith)))
+-- a padded piece p mixed into an array s
+mixed-in : (z : Instance) → Fitting z → (p s b x : List ℕ) → b ≡ lastBlock p → x ≡ xored (take (z .rate) b) s
+    → take (z .state) x ≡ xored (take (z .rate) (lastBlock p)) (take (z .state) s)
+mixed-in z fits p s b x e f = let d = fits .ends in rw (f, e) (mixed (z .state) (z .rate) (lastBlock p) s (omega arith))
 
--- a block of the associated data mixed into an array s, and the permutation after it
-pub piece-absorbed : (z : Instance) → Fitting z → (p s b x r : List ℕ) → take (z .rate) b ≡ markedBlock (z .rate) p → x ≡ xored (take (z .rate) b) s
-    → take (z .state) r ≡ half (take (z .state) x) → take (z .state) r ≡ half (xored (markedBlock (z .rate) p) (take (z .state) s))
-piece-absorbed z fits p s b x r e f g =
-    let d = fits .ends in
-    g ∙ ap half (rw (f, ← e) (mixed (z .state) (z .rate) b s (omega arith)))
+-- a block of the associated data mixed into an array s
+pub piece-absorbed : (z : Instance) → Fitting z → (p s b x : List ℕ) → take (z .rate) b ≡ markedBlock (z .rate) p → x ≡ xored (take (z .rate) b) s
+    → take (z .state) x ≡ xored (markedBlock (z .rate) p) (take (z .state) s)
+piece-absorbed z fits p s b x e f = let d = fits .ends in rw (f, ← e) (mixed (z .state) (z .rate) b s (omega arith))
 
 -- one piece p of a text, over a buffer o of its length: what was copied there, and the state that follows
 module _ (z : Instance) (fits : Fitting z) (p s : List ℕ) (size : length s ≡ LARGEST) (short : length p ≤ z .rate) (o part : List ℕ) (fills : length o ≡ length p) where
@@ -65,51 +61,49 @@ module _ (z : Instance) (fits : Fitting z) (p s : List ℕ) (size : length s ≡
       let l : length counterpart ≡ length p = length-masked p (take (z .state) s) (omega (arith, length-take-le (z .state) s (omega arith))) in
       g ∙ copied-in counterpart y o (fills ∙ sym l) (rw l e)
 
-  pub piece-sealed : (b x r : List ℕ) → b ≡ lastBlock p → x ≡ xored (take (z .rate) b) s → part ≡ copied x o
-      → take (z .state) r ≡ half (take (z .state) x)
-      → (take (z .state) r ≡ half (xored (take (z .rate) (lastBlock p)) (take (z .state) s))) × (part ≡ counterpart)
+  pub piece-sealed : (b x : List ℕ) → b ≡ lastBlock p → x ≡ xored (take (z .rate) b) s → part ≡ copied x o
+      → (take (z .state) x ≡ xored (take (z .rate) (lastBlock p)) (take (z .state) s)) × (part ≡ counterpart)
   unfolding lastBlock padded
-  piece-sealed b x r e f g q =
+  piece-sealed b x e f g =
       let d = fits .ends in
       let t = fits .small in
       let mix : take (z .state) x ≡ xored (take (z .rate) b) (take (z .state) s) = rw f (mixed (z .state) (z .rate) b s (omega arith)) in
       let front : take (length p) (take (z .rate) b) ≡ p =
       take-take (length p) (z .rate) b short ∙ rw (e, take-all (LARGEST-RATE - 1) p (omega arith)) (take-at p _ (length p) refl) in
       let long : length (take (z .rate) b) ≡ z .rate = length-take-le (z .rate) b (rw e (omega (arith, length-last-block p))) in (
-        passed-on z fits p s b x r e f q,
+        mixed-in z fits p s b x e f,
         filled-by x
             (in-front (length p) (z .state) x (xored (take (z .rate) b) (take (z .state) s)) (omega arith) mix
             ∙ masked-take (length p) (take (z .rate) b) (take (z .state) s) (omega arith)
             ∙ ap (λ (c : List ℕ). masked c (take (z .state) s)) front) g,
       )
 
-  pub piece-opened : (m b x r : List ℕ) → m ≡ xored p s → part ≡ copied m o → b ≡ lastBlock part → x ≡ xored (take (z .rate) b) s
-      → take (z .state) r ≡ half (take (z .state) x)
-      → (take (z .state) r ≡ half (xored (take (z .rate) (lastBlock counterpart)) (take (z .state) s))) × (part ≡ counterpart)
+  pub piece-opened : (m b x : List ℕ) → m ≡ xored p s → part ≡ copied m o → b ≡ lastBlock part → x ≡ xored (take (z .rate) b) s
+      → (take (z .state) x ≡ xored (take (z .rate) (lastBlock counterpart)) (take (z .state) s)) × (part ≡ counterpart)
   unfolding masked
-  piece-opened m b x r f g e y q =
+  piece-opened m b x f g e y =
       let d = fits .ends in
       let mix : take (z .state) m ≡ xored p (take (z .state) s) =
       rw f (xored-front (z .state) p s (omega arith)) in
       let found : part ≡ counterpart = filled-by m (in-front (length p) (z .state) m (xored p (take (z .state) s)) (omega arith) mix) g in
-      (passed-on z fits counterpart s b x r (e ∙ ap lastBlock found) y q, found)
+      (mixed-in z fits counterpart s b x (e ∙ ap lastBlock found) y, found)
 
--- a piece p passed for what its text is passed for: what each of the three calls promises is what the definitions by way say
+-- a piece p mixed in for what its text is passed for: what each of the three calls promises is what the definitions by way say
 none-left : (o : List ℕ) → length o ≡ 0 → o ≡ []
 none-left [] e = refl
 none-left (x ∷ o) e = absurd (omega arith)
 
 module _ (w : Way) (n R : ℕ) (p s r o : List ℕ) where
   abbrev Goes : Type 0
-  Goes = (take n r ≡ half (xored (pieceBlock w R p (take n s)) (take n s))) × (o ≡ pieceText w p (take n s))
+  Goes = (take n r ≡ xored (pieceBlock w R p (take n s)) (take n s)) × (o ≡ pieceText w p (take n s))
 
-  pub absorb-goes : w ≡ Absorb → length o ≡ given w (length p) → take n r ≡ half (xored (markedBlock R p) (take n s)) → Goes
+  pub absorb-goes : w ≡ Absorb → length o ≡ given w (length p) → take n r ≡ xored (markedBlock R p) (take n s) → Goes
   absorb-goes e l q = let k : length o ≡ 0 = rw e at l in rw e (q, none-left o k)
 
-  pub encrypt-goes : w ≡ Encrypt → take n r ≡ half (xored (take R (lastBlock p)) (take n s)) → o ≡ masked p (take n s) → Goes
+  pub encrypt-goes : w ≡ Encrypt → take n r ≡ xored (take R (lastBlock p)) (take n s) → o ≡ masked p (take n s) → Goes
   encrypt-goes e q t = rw e (q, t)
 
-  pub decrypt-goes : w ≡ Decrypt → take n r ≡ half (xored (take R (lastBlock (masked p (take n s)))) (take n s)) → o ≡ masked p (take n s) → Goes
+  pub decrypt-goes : w ≡ Decrypt → take n r ≡ xored (take R (lastBlock (masked p (take n s)))) (take n s) → o ≡ masked p (take n s) → Goes
   decrypt-goes e q t = rw e (q, t)
 
 -- a text passed, by what it is passed for: after i blocks

@@ -54,41 +54,41 @@ fn mix_block(z: Instance, s: [u8; LARGEST], b: [u8; LARGEST_RATE]) -> [u8; LARGE
     sponge::mix(s, &b[0..rate])
 }
 
-// Step 3 of absorbing, for one piece p of the associated data: its block is XORed in.
+// Step 4 of absorbing, for one piece p of the associated data: its block is XORed in.
 fn absorb_piece(z: Instance, s: [u8; LARGEST], p: &[u8]) -> [u8; LARGEST]
     requires { ⌜ Fitting z ⌝ }
-    ensures { λ r. ⌜ take (z .state) r ≡ passed (markedBlock (z .rate) (now (p .entry))) (from (take (z .state) s)) .state ⌝ }
+    ensures { λ r. ⌜ take (z .state) r ≡ xored (markedBlock (z .rate) (now (p .entry))) (take (z .state) s) ⌝ }
 {
-    half(mix_block(z, s, steps::associated_block(z.rate, p)), z.state)
+    mix_block(z, s, steps::associated_block(z.rate, p))
 }
 
-// Steps 3 to 5 of encrypting, for one piece p of the message: its ciphertext fills out, and the piece, padded, is XORed in. The piece is
+// Steps 3 and 4 of encrypting, for one piece p of the message: its ciphertext fills out, and the piece, padded, is XORed in. The piece is
 // shorter than a block only where the message ends, so that out never needs room for the padding.
 fn encrypt_piece(z: Instance, s: [u8; LARGEST], p: &[u8], out: &mut [u8]) -> [u8; LARGEST]
     requires { ⌜ Fitting z × (length (now p) ≤ z .rate) × (length (now out) ≡ length (now p)) ⌝ }
-    ensures state { λ r. ⌜ take (z .state) r ≡ passed (take (z .rate) (lastBlock (now (p .entry)))) (from (take (z .state) s)) .state ⌝ }
+    ensures state { λ r. ⌜ take (z .state) r ≡ xored (take (z .rate) (lastBlock (now (p .entry)))) (take (z .state) s) ⌝ }
     ensures text { λ _. ⌜ now (out .exit) ≡ masked (now (p .entry)) (take (z .state) s) ⌝ }
 {
     let x = mix_block(z, s, sponge::last_block(p));
     lists::copy(&x, out);
-    half(x, z.state)
+    x
 }
 
 // The same for one piece c of the ciphertext: its piece of the message fills out, and is then padded and XORed in from there, as in sealing.
 fn decrypt_piece(z: Instance, s: [u8; LARGEST], c: &[u8], out: &mut [u8]) -> [u8; LARGEST]
     requires { ⌜ Fitting z × (length (now c) ≤ z .rate) × (length (now out) ≡ length (now c)) ⌝ }
-    ensures state { λ r. ⌜ take (z .state) r ≡ passed (take (z .rate) (lastBlock (masked (now (c .entry)) (take (z .state) s)))) (from (take (z .state) s)) .state ⌝ }
+    ensures state { λ r. ⌜ take (z .state) r ≡ xored (take (z .rate) (lastBlock (masked (now (c .entry)) (take (z .state) s)))) (take (z .state) s) ⌝ }
     ensures text { λ _. ⌜ now (out .exit) ≡ masked (now (c .entry)) (take (z .state) s) ⌝ }
 {
     let m = sponge::mix(s, c);
     lists::copy(&m, out);
-    half(mix_block(z, s, sponge::last_block(out)), z.state)
+    mix_block(z, s, sponge::last_block(out))
 }
 
-// One piece of a text, passed the way its text goes.
-fn pass_piece(z: Instance, s: [u8; LARGEST], way: Way, p: &[u8], out: &mut [u8]) -> [u8; LARGEST]
+// One piece of a text, XORed in the way its text goes.
+fn mix_piece(z: Instance, s: [u8; LARGEST], way: Way, p: &[u8], out: &mut [u8]) -> [u8; LARGEST]
     requires { ⌜ Fitting z × (length (now p) ≤ z .rate) × (length (now out) ≡ given way (length (now p))) ⌝ }
-    ensures state { λ r. ⌜ take (z .state) r ≡ passed (pieceBlock way (z .rate) (now (p .entry)) (take (z .state) s)) (from (take (z .state) s)) .state ⌝ }
+    ensures state { λ r. ⌜ take (z .state) r ≡ xored (pieceBlock way (z .rate) (now (p .entry)) (take (z .state) s)) (take (z .state) s) ⌝ }
     ensures text { λ _. ⌜ now (out .exit) ≡ pieceText way (now (p .entry)) (take (z .state) s) ⌝ }
 {
     match way {
@@ -96,6 +96,15 @@ fn pass_piece(z: Instance, s: [u8; LARGEST], way: Way, p: &[u8], out: &mut [u8])
         Way::Encrypt => encrypt_piece(z, s, p, out),
         Way::Decrypt => decrypt_piece(z, s, p, out),
     }
+}
+
+// The same, and the permutation after it: the one place where half the rounds run.
+fn pass_piece(z: Instance, s: [u8; LARGEST], way: Way, p: &[u8], out: &mut [u8]) -> [u8; LARGEST]
+    requires { ⌜ Fitting z × (length (now p) ≤ z .rate) × (length (now out) ≡ given way (length (now p))) ⌝ }
+    ensures state { λ r. ⌜ take (z .state) r ≡ passed (pieceBlock way (z .rate) (now (p .entry)) (take (z .state) s)) (from (take (z .state) s)) .state ⌝ }
+    ensures text { λ _. ⌜ now (out .exit) ≡ pieceText way (now (p .entry)) (take (z .state) s) ⌝ }
+{
+    half(mix_piece(z, s, way, p, out), z.state)
 }
 
 // How much has been given out where a text was passed up to a place: of associated data nothing is.

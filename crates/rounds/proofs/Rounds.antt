@@ -6,7 +6,7 @@ use native.Mathlib.Nat.{mod-eq-of-lt}
 use native.Mathlib.Numerals.{add-one}
 use native.Mathlib.Omega.{arith}
 use lib.ListN.{length, getD, take, drop, replicate, length-append, length-take, length-drop, drop-of-length-le}
-use lib.Seq.{length-take-le, take-at, take-append-le, drop-cons, drop-drop, getD-take}
+use lib.Seq.{length-take-le, take-at, drop-at, take-append-le, drop-cons, drop-drop, getD-take}
 use borrow.Rule.Slice.PartMut.{putMid}
 use Rattle.lists.specs.Buffers.{copied}
 use Rattle.lists.specs.Over.{copied-all}
@@ -80,35 +80,35 @@ pub left-none : {ls x a : List ℕ} {n i : ℕ} → Left ls n x a i → length l
 unfolding turns
 left-none {ls} {x} {a} {n} {i} inv h = sym (ap (λ (r : List ℕ). turns r (take n a)) (drop-of-length-le ls h)) ∙ inv .same
 
--- the first substitution, the turns, and the first n bytes put back
+-- the first n bytes of a wide state a, copied over the start of o
+pub copied-first : {x t : List ℕ} (n : ℕ) (a o : List ℕ) → take n a ≡ t → x ≡ copied (take (n - 0) (drop 0 a)) o → x ≡ copied t o
+copied-first n a o e p = let z : n - 0 ≡ n = omega arith in p ∙ rw (z, e)
+
+-- the first substitution, and the turns over the start of what it gave
 module _ (n k l : ℕ) (s : List ℕ) (long : length s ≡ LARGEST) (fits : n ≤ LARGEST) (some : 1 ≤ k) (few : k ≤ MOST-ROUNDS) (cell : l < 4)
     (led : l ≡ getD leaders 0 0) where
-  begun : (first w : List ℕ) → first ≡ onFirst n (substitute table (l % 4)) s → w ≡ copied first (replicate WIDE 0)
-      → take n w ≡ substitute table l (take n s)
-  begun first w a b =
+  from-first : permute k (take n s) ≡ turns (drop 1 (take k leaders)) (substitute table l (take n s))
+  unfolding permute permuteBy
+  from-first =
+      let ls = take k leaders in
+      let lls : length ls ≡ k = length-take-le k leaders (omega (arith, length-leaders)) in
+      let led-ls : l ≡ getD ls 0 0 = led ∙ sym (getD-take k leaders 0 0 (omega arith)) in
+      ap (λ (x : List ℕ). permuteBy x (take n s)) (drop-cons ls 0 0 (omega arith)) ∙ rw led-ls
+
+  pub turned-is : (first w r : List ℕ) → first ≡ onFirst n (substitute table (l % 4)) s → w ≡ copied first (replicate WIDE 0)
+      → r ≡ copied (turns (drop 1 (take k leaders)) (take n w)) first → r ≡ permute k (take n s) ++ drop n s
+  turned-is first w r a b p =
       let m : l % 4 ≡ l = mod-eq-of-lt cell in
       let x = substitute table l (take n s) in
       let lx : length x ≡ n = length-substitute table l (take n s) ∙ length-take-le n s (omega arith) in
       let f : first ≡ x ++ drop n s = a ∙ rw m in
       let lf : length first ≡ LARGEST = rw f (length-append x (drop n s) ∙ omega (arith, length-drop n s)) in
+      let begun : take n w ≡ x =
       ap (take n) (b ∙ copied-all first (replicate WIDE 0) (omega arith))
       ∙ take-append-le n first (drop (length first) (replicate WIDE 0)) (omega arith)
       ∙ ap (take n) f
-      ∙ take-at x (drop n s) n lx
-
-  pub turned-is : (first w done r : List ℕ) → first ≡ onFirst n (substitute table (l % 4)) s → w ≡ copied first (replicate WIDE 0)
-      → take n done ≡ turns (drop 1 (take k leaders)) (take n w) → r ≡ copied (take (n - 0) (drop 0 done)) s
-      → r ≡ permute k (take n s) ++ drop n s
-  unfolding permute permuteBy
-  turned-is first w done r a b t p =
-      let ls = take k leaders in
-      let z : n - 0 ≡ n = omega arith in
-      let lls : length ls ≡ k = length-take-le k leaders (omega (arith, length-leaders)) in
-      let led-ls : l ≡ getD ls 0 0 = led ∙ sym (getD-take k leaders 0 0 (omega arith)) in
-      let from-first : permuteBy ls (take n s) ≡ turns (drop 1 ls) (substitute table l (take n s)) =
-      ap (λ (x : List ℕ). permuteBy x (take n s)) (drop-cons ls 0 0 (omega arith)) ∙ rw led-ls in
-      let all : take n done ≡ permute k (take n s) = t ∙ ap (turns (drop 1 ls)) (begun first w a b) ∙ sym from-first in
-      let ld : length (take n done) ≡ n = ap length all ∙ length-permute k (take n s) ∙ length-take-le n s (omega arith) in
-      let put : copied (take (n - 0) (drop 0 done)) s ≡ take n done ++ drop (length (take n done)) s =
-      rw z (copied-all (take n done) s (omega arith)) in
-      p ∙ put ∙ rw (ld, all)
+      ∙ take-at x (drop n s) n lx in
+      let all : turns (drop 1 (take k leaders)) (take n w) ≡ permute k (take n s) = ap (turns (drop 1 (take k leaders))) begun ∙ sym from-first in
+      let lp : length (permute k (take n s)) ≡ n = length-permute k (take n s) ∙ length-take-le n s (omega arith) in
+      let rest : drop (length (permute k (take n s))) first ≡ drop n s = rw (lp, f) (drop-at x (drop n s) n lx) in
+      p ∙ ap (λ (y : List ℕ). copied y first) all ∙ copied-all (permute k (take n s)) first (omega arith) ∙ rw rest

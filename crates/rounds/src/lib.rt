@@ -13,15 +13,17 @@ ghost use mathlib.Core.Path.{_≡_};
 ghost use mathlib.Core.List.{_++_};
 ghost use Prim.Native.Nat.{_≤_};
 ghost use lib.ListN.{take, drop};
+ghost use Rattle.lists.specs.Buffers.{copied};
 ghost use Rattle.cells.specs.Sizes.{LARGEST};
 ghost use Rattle.shuffling.specs.Sizes.{SMALLEST};
 ghost use Rattle.leaders.specs.Leaders.{MOST-ROUNDS, leaders};
 ghost use Rattle.gage.specs.Permutation.{turns, permute, unpermute, answered};
 
-// The turns of the first k rounds on the first n bytes of a wide state, after the first substitution: two arrays in turn.
-fn turns(w: [u8; WIDE], n: usize, k: usize) -> [u8; WIDE]
+// The turns of the first k rounds on the first n bytes of a wide state, after the first substitution: two arrays in turn, and what the last turn
+// gives goes over the start of out.
+fn turns(w: [u8; WIDE], n: usize, k: usize, out: &mut [u8])
     requires { ⌜ (SMALLEST ≤ n) × (n ≤ LARGEST) × (1 ≤ k) × (k ≤ MOST-ROUNDS) ⌝ }
-    ensures { λ r. ⌜ take n r ≡ turns (drop 1 (take k leaders)) (take n w) ⌝ }
+    ensures { λ _. ⌜ now (out .exit) ≡ copied (turns (drop 1 (take k leaders)) (take n w)) (now (out .entry)) ⌝ }
 {
     let leaders = leaders::table();
     let mut a = w;
@@ -34,9 +36,10 @@ fn turns(w: [u8; WIDE], n: usize, k: usize) -> [u8; WIDE]
     }
     if i < k {
         wide::turn(&mut a, &mut b, n, leaders[i]);
-        return b;
+        lists::copy(&b[0..n], out);
+        return;
     }
-    a
+    lists::copy(&a[0..n], out);
 }
 
 // The first k rounds of the permutation on the first n bytes of s.
@@ -45,12 +48,10 @@ fn turned(s: [u8; LARGEST], n: usize, k: usize) -> [u8; LARGEST]
     ensures { λ r. ⌜ r ≡ permute k (take n s) ++ drop n s ⌝ }
 {
     let leaders = leaders::table();
-    let first = substitution::substitute(s, n, leaders[0]);
+    let mut r = substitution::substitute(s, n, leaders[0]);
     let mut w = [0u8; WIDE];
-    lists::copy(&first, &mut w);
-    let done = turns(w, n, k);
-    let mut r = s;
-    lists::copy(&done[0..n], &mut r);
+    lists::copy(&r, &mut w);
+    turns(w, n, k, &mut r);
     r
 }
 

@@ -1,4 +1,4 @@
--- `turned` meets its promise: the first substitution, the turns in a wide state, and the first n bytes put back (`turned-is`). Assumes nothing.
+-- `turned` meets its promise: the first substitution, and the turns in a wide state over the start of what it gave (`turned-is`). Assumes nothing.
 use Rattle.rounds.proofs.Rounds.{cell-at, turned-is}
 use lib.ListN.{getD}
 use mathlib.Core.List.{List}
@@ -27,33 +27,20 @@ slice-aggregate-copy-2 c = search needs
 copy-requires : tie.Need-copy-requires
 copy-requires c κs = search needs
 
+slice-aggregate-turns : tie.Need-slice-aggregate-turns
+slice-aggregate-turns c = search needs
+
 turns-requires : tie.Need-turns-requires
 turns-requires c κs = search needs
 
-sub-copy : tie.Need-sub-copy
-sub-copy c = search needs
-
-part-copy-start : tie.Need-part-copy-start
-part-copy-start c = search needs
-
-part-copy-end : tie.Need-part-copy-end
-part-copy-end c = search needs
-
-slice-aggregate-copy-3 : tie.Need-slice-aggregate-copy-3
-slice-aggregate-copy-3 c = search needs
-
-copy-requires-2 : tie.Need-copy-requires-2
-copy-requires-2 c κs = search needs
-
 returns : tie.Need-returns
 returns c =
-    let begun = c .before .before .before .before .before .before .before .before .before .before in
+    let begun = c .before .before .before .before .before .before .before in
     let start = begun .before .before in
     let table = begun .before .table in
     turned-is (start .args .n) (start .args .k) (getD (table .result) 0 0) (start .args .s) (search needs) (start .pre .1) (start .pre .2) (start .pre .3)
-    (cell-at (table .ensures) 0 (omega arith)) (ap (λ (l : List ℕ). getD l 0 0) (table .ensures)) _ _ _ _ (begun .substitute .ensures)
-    (c .before .before .before .before .before .before .before .copy .ensures) (c .before .before .before .before .before .turns .ensures)
-    (c .before .copy2 .ensures)
+    (cell-at (table .ensures) 0 (omega arith)) (ap (λ (l : List ℕ). getD l 0 0) (table .ensures)) _ _ _ (begun .substitute .ensures)
+    (c .before .before .before .before .copy .ensures) (c .before .turns .ensures)
 
 pub turned-spec : {M : Type 1} → statement M
 turned-spec =
@@ -65,10 +52,6 @@ turned-spec =
     slice-aggregate-copy
     slice-aggregate-copy-2
     copy-requires
+    slice-aggregate-turns
     turns-requires
-    sub-copy
-    part-copy-start
-    part-copy-end
-    slice-aggregate-copy-3
-    copy-requires-2
     returns)

@@ -1,4 +1,4 @@
--- `absorb_piece` meets its promise: the piece's block is mixed in, and the permutation runs. Assumes nothing.
+-- `absorb_piece` meets its promise: the piece's block is mixed in. Assumes nothing.
 use Prim.Native.Nat.{ℕ}
 use mathlib.Core.List.{List}
 use mathlib.Core.Path.{_≡_}
@@ -22,12 +22,11 @@ associated-block-requires c κs = tt
 mix-block-requires : tie.Need-mix-block-requires
 mix-block-requires c κs = c .before .before .pre
 
-half-requires : tie.Need-half-requires
-half-requires c κs = c .before .before .before .pre .allowed
-
 returns : tie.Need-returns
-returns c = piece-absorbed (c .before .before .before .before .args .z) (c .before .before .before .before .pre) (c .before .before .before .before .args .p .now) (c .before .before .before .before .args .s) (c .before .before .associated-block .result) (c .before .mix-block .result) (c .half .result) (marked (c .before .before .before .before .args .z) (c .before .before .before .before .args .p .now) (c .before .before .before .before .pre) (c .before .before .associated-block .ensures)) (c .before .mix-block .ensures) (c .half .ensures)
+returns c =
+    let s = c .before .before .before in
+    piece-absorbed (s .args .z) (s .pre) (s .args .p .now) (s .args .s) (c .before .associated-block .result) (c .mix-block .result)
+    (marked (s .args .z) (s .args .p .now) (s .pre) (c .before .associated-block .ensures)) (c .mix-block .ensures)
 
 pub absorb-piece-spec : {M : Type 1} → statement M
-absorb-piece-spec =
-    tie.close (tie.spec associated-block-requires mix-block-requires half-requires returns)
+absorb-piece-spec = tie.close (tie.spec associated-block-requires mix-block-requires returns)

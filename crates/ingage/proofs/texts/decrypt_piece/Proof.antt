@@ -25,14 +25,16 @@ last-block-requires c κs = tt
 mix-block-requires : tie.Need-mix-block-requires
 mix-block-requires c κs = c .before .before .before .before .before .before .before .before .before .before .pre .0
 
-half-requires : tie.Need-half-requires
-half-requires c κs = c .before .before .before .before .before .before .before .before .before .before .before .pre .0 .allowed
-
 same-length : tie.Need-same-length
-same-length c = c .before .before .before .before .before .out .given
+same-length c = c .before .before .before .before .out .given
 
 returns : tie.Need-returns
-returns c = piece-opened (c .before .before .before .before .before .before .before .before .before .before .before .before .args .z) (c .before .before .before .before .before .before .before .before .before .before .before .before .pre .0) (c .before .before .before .before .before .before .before .before .before .before .before .before .args .c .now) (c .before .before .before .before .before .before .before .before .before .before .before .before .args .s) (size (c .before .before .before .before .before .before .before .before .before .before .before .before)) (c .before .before .before .before .before .before .before .before .before .before .before .before .pre .1) (c .before .before .before .before .before .before .before .before .before .before .before .before .args .out .now) _ (c .before .before .before .before .before .before .before .before .before .before .before .before .pre .2) (c .before .before .before .before .before .before .before .before .before .mix .result) (c .before .before .last-block .result) (c .before .mix-block .result) (c .half .result) (c .before .before .before .before .before .before .before .before .before .mix .ensures) (c .before .before .before .before .before .before .copy .ensures) (c .before .before .last-block .ensures) (c .before .mix-block .ensures) (c .half .ensures)
+returns c =
+    let s = c .before .before .before .before .before .before .before .before .before .before .before in
+    let found = c .before .before .before .before .before .before .before .before in
+    piece-opened (s .args .z) (s .pre .0) (s .args .c .now) (s .args .s) (size s) (s .pre .1) (s .args .out .now) _ (s .pre .2)
+    (found .mix .result) (c .before .last-block .result) (c .mix-block .result) (found .mix .ensures) (c .before .before .before .before .before .copy .ensures)
+    (c .before .last-block .ensures) (c .mix-block .ensures)
 
 pub decrypt-piece-spec : {M : Type 1} → statement M
 decrypt-piece-spec =
@@ -43,6 +45,5 @@ decrypt-piece-spec =
     copy-requires
     last-block-requires
     mix-block-requires
-    half-requires
     same-length
     returns)

@@ -22,14 +22,16 @@ slice-aggregate-copy c = sym (c .before .mix-block .ok .1 .0 .1)
 copy-requires : tie.Need-copy-requires
 copy-requires c κs = tt
 
-half-requires : tie.Need-half-requires
-half-requires c κs = c .before .before .before .before .before .before .before .before .before .pre .0 .allowed
-
 same-length : tie.Need-same-length
-same-length c = c .before .before .out .given
+same-length c = c .before .out .given
 
 returns : tie.Need-returns
-returns c = piece-sealed (c .before .before .before .before .before .before .before .before .before .before .args .z) (c .before .before .before .before .before .before .before .before .before .before .pre .0) (c .before .before .before .before .before .before .before .before .before .before .args .p .now) (c .before .before .before .before .before .before .before .before .before .before .args .s) (size (c .before .before .before .before .before .before .before .before .before .before)) (c .before .before .before .before .before .before .before .before .before .before .pre .1) (c .before .before .before .before .before .before .before .before .before .before .args .out .now) _ (c .before .before .before .before .before .before .before .before .before .before .pre .2) (c .before .before .before .before .before .before .before .last-block .result) (c .before .before .before .before .before .before .mix-block .result) (c .half .result) (c .before .before .before .before .before .before .before .last-block .ensures) (c .before .before .before .before .before .before .mix-block .ensures) (c .before .before .before .copy .ensures) (c .half .ensures)
+returns c =
+    let s = c .before .before .before .before .before .before .before .before .before in
+    let mixed = c .before .before .before .before .before in
+    piece-sealed (s .args .z) (s .pre .0) (s .args .p .now) (s .args .s) (size s) (s .pre .1) (s .args .out .now) _ (s .pre .2)
+    (mixed .before .last-block .result) (mixed .mix-block .result) (mixed .before .last-block .ensures) (mixed .mix-block .ensures)
+    (c .before .before .copy .ensures)
 
 pub encrypt-piece-spec : {M : Type 1} → statement M
 encrypt-piece-spec =
@@ -39,6 +41,5 @@ encrypt-piece-spec =
     mix-block-requires
     slice-aggregate-copy
     copy-requires
-    half-requires
     same-length
     returns)
