@@ -209,8 +209,9 @@ pub fn seal(
     out: &mut [u8],
     seal_out: &mut [u8],
 ) -> Counted {
-    let Some(sizes) = sizes(instance) else {
-        return Counted::refused(UNKNOWN);
+    let sizes = match sizes(instance) {
+        Some(sizes) => sizes,
+        None => return Counted::refused(UNKNOWN),
     };
     if key.len() != sizes.key || nonce.len() != sizes.nonce || seal_out.len() != sizes.seal {
         return Counted::refused(NOT_ITS_SIZE);
@@ -238,8 +239,9 @@ pub fn open(
     seal: &[u8],
     out: &mut [u8],
 ) -> Counted {
-    let Some(sizes) = sizes(instance) else {
-        return Counted::refused(UNKNOWN);
+    let sizes = match sizes(instance) {
+        Some(sizes) => sizes,
+        None => return Counted::refused(UNKNOWN),
     };
     if key.len() != sizes.key || nonce.len() != sizes.nonce || seal.len() != sizes.seal {
         return Counted::refused(NOT_ITS_SIZE);
