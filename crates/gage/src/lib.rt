@@ -54,14 +54,16 @@ fn is_permitted(n: usize) -> bool
     false
 }
 
-// What is made of a size and a count of rounds.
+// What is made of a size and a count of rounds: the size is judged first.
 pub fn judge(n: usize, k: usize) -> Answer
     ensures { λ r. ⌜ r ≡ judged n k ⌝ }
 {
-    if !is_permitted(n) {
+    let size = is_permitted(n);
+    let count = leaders::is_count(k);
+    if !size {
         return Answer::Size;
     }
-    if !leaders::is_count(k) {
+    if !count {
         return Answer::Rounds;
     }
     Answer::Done

@@ -9,21 +9,21 @@ use Rattle.gage.proofs.judge.Tie as tie
 is-permitted-requires : tie.Need-is-permitted-requires
 is-permitted-requires c κs = search needs
 
-returns : tie.Need-returns
-returns c = sym (judged-size _ _ (sym (c .before .is-permitted .ensures) ∙ not-true _ (c .if1 .taken)))
-
 is-count-requires : tie.Need-is-count-requires
 is-count-requires c κs = search needs
 
+returns : tie.Need-returns
+returns c = sym (judged-size _ _ (sym (c .before .before .is-permitted .ensures) ∙ not-true _ (c .if1 .taken)))
+
 returns-2 : tie.Need-returns-2
 returns-2 c =
-    sym (judged-rounds _ _ (sym (c .before .before .before .is-permitted .ensures) ∙ not-false _ (c .before .before .if1 .left))
-    (sym (c .before .is-count .ensures) ∙ not-true _ (c .if2 .taken)))
+    sym (judged-rounds _ _ (sym (c .before .before .before .is-permitted .ensures) ∙ not-false _ (c .before .if1 .left))
+    (sym (c .before .before .is-count .ensures) ∙ not-true _ (c .if2 .taken)))
 
 returns-3 : tie.Need-returns-3
 returns-3 c =
-    sym (judged-done _ _ (sym (c .before .before .before .is-permitted .ensures) ∙ not-false _ (c .before .before .if1 .left))
-    (sym (c .before .is-count .ensures) ∙ not-false _ (c .if2 .left)))
+    sym (judged-done _ _ (sym (c .before .before .before .is-permitted .ensures) ∙ not-false _ (c .before .if1 .left))
+    (sym (c .before .before .is-count .ensures) ∙ not-false _ (c .if2 .left)))
 
 pub judge-spec : {M : Type 1} → statement M
-judge-spec = tie.close (tie.spec is-permitted-requires returns is-count-requires returns-2 returns-3)
+judge-spec = tie.close (tie.spec is-permitted-requires is-count-requires returns returns-2 returns-3)
