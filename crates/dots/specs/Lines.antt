@@ -18,9 +18,12 @@ printed = 0x23
 abbrev pub unprinted : ℕ
 unprinted = 0x2E
 
--- the line of a row has ten bytes
+-- the line of a row has ten bytes, the last of which is its newline
 abbrev pub lineLength : ℕ
 lineLength = 10
+
+abbrev pub lineEnd : ℕ
+lineEnd = 9
 
 -- what the dot at place m of a line counts in its row; the dots stand at places 2 to 8
 abbrev pub weights : List ℕ
@@ -35,5 +38,5 @@ unfoldable pub lineChar : ℕ → ℕ → ℕ → ℕ
 lineChar c r m =
     cond (eqb m 0) c
     (cond (eqb m 1) blank
-    (cond (eqb m 9) newline
+    (cond (eqb m lineEnd) newline
     (dotOf r (getD weights m 0))))

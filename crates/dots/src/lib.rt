@@ -15,8 +15,10 @@ pub const PRINTED: u8 = 0x23;
 
 pub const UNPRINTED: u8 = 0x2E;
 
-// A line's length, and what the dots of a line count, by their places in it.
+// A line's length, the place of its newline, and what the dots of a line count, by their places in it.
 pub const LINE: usize = 10;
+
+const LINE_END: usize = LINE - 1;
 
 const WEIGHTS: [u8; LINE] = [1, 1, 64, 32, 16, 8, 4, 2, 1, 1];
 
@@ -42,7 +44,7 @@ pub fn line_char(c: u8, r: u8, m: usize) -> u8
     if m == 1 {
         return BLANK;
     }
-    if m == 9 {
+    if m == LINE_END {
         return NEWLINE;
     }
     if m >= LINE {

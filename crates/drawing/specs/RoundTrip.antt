@@ -23,7 +23,7 @@ use Rattle.bundling.specs.declared.Written.the-variants as written-is
 use Rattle.bundling.specs.Answers.{namePart, nameIn, writeAnswer, writeOut}
 use Rattle.bundling.specs.Exactly.{rowsOver, name-given, all-given, bundle-written-read}
 use Rattle.drawing.specs.declared.Made.the-variants.{Done}
-use Rattle.dots.specs.Lines.{newline, blank, printed, unprinted, lineLength, weights, dotOf, lineChar}
+use Rattle.dots.specs.Lines.{newline, blank, printed, unprinted, lineLength, lineEnd, weights, dotOf, lineChar}
 use Rattle.drawing.specs.Drawing.{nameWord, wordLength, legible, digitAt, nameLineLength, nameChar, rowChar, charAt, drawingLength, listed, drawing}
 use Rattle.drawing.specs.Listed.{length-listed, getD-listed, listed-agree, listed-self}
 use Rattle.dots.specs.Faults.{nextRow, fault}
@@ -211,7 +211,7 @@ module _ (name r : List ℕ) (short : length name ≤ longestName) (bytes : Belo
         column,
         ne-eqb m 0 (λ e. omega (arith, e)),
         ne-eqb m 1 (λ e. omega (arith, e)),
-        ne-eqb m 9 (λ e. omega (arith, e)),
+        ne-eqb m lineEnd (λ e. omega (arith, e)),
       )
 
   row-is : (k : ℕ) → k < allRows → rowByte D (lineLength * k + nameLineLength (length name)) ≡ getD r k 0

@@ -3,7 +3,7 @@ use mathlib.Core.Path.{sym, _∙_}
 use borrow.Author.Tests.{eq-eqb, ne-eqb}
 use native.Mathlib.Omega.{arith}
 use borrow.Author.Needs.{needs}
-use Rattle.dots.specs.Lines.{lineChar}
+use Rattle.dots.specs.Lines.{lineEnd, lineChar}
 use Rattle.dots.proofs.Places.{weight-some, no-dot}
 use Rattle.dots.proofs.line_char.Statement.{statement}
 use Rattle.dots.proofs.line_char.Tie as tie
@@ -20,13 +20,13 @@ returns-3 : tie.Need-returns-3
 unfolding lineChar
 returns-3 c =
     let m = c .before .before .before .args .m in
-    rw (ne-eqb m 0 (c .before .before .if1 .left), ne-eqb m 1 (c .before .if2 .left), eq-eqb m 9 (c .if3 .taken))
+    rw (ne-eqb m 0 (c .before .before .if1 .left), ne-eqb m 1 (c .before .if2 .left), eq-eqb m lineEnd (c .if3 .taken))
 
 returns-4 : tie.Need-returns-4
 unfolding lineChar
 returns-4 c =
     let m = c .before .before .before .before .args .m in
-    rw (ne-eqb m 0 (c .before .before .before .if1 .left), ne-eqb m 1 (c .before .before .if2 .left), ne-eqb m 9 (c .before .if3 .left))
+    rw (ne-eqb m 0 (c .before .before .before .if1 .left), ne-eqb m 1 (c .before .before .if2 .left), ne-eqb m lineEnd (c .before .if3 .left))
     (sym (no-dot (c .before .before .before .before .args .r) m (c .if4 .taken)))
 
 array-read-dot : tie.Need-array-read-dot
@@ -39,7 +39,7 @@ returns-5 : tie.Need-returns-5
 unfolding lineChar
 returns-5 c =
     let m = c .before .before .before .before .before .args .m in
-    c .dot .ensures ∙ rw (ne-eqb m 0 (c .before .before .before .before .if1 .left), ne-eqb m 1 (c .before .before .before .if2 .left), ne-eqb m 9 (c .before .before .if3 .left))
+    c .dot .ensures ∙ rw (ne-eqb m 0 (c .before .before .before .before .if1 .left), ne-eqb m 1 (c .before .before .before .if2 .left), ne-eqb m lineEnd (c .before .before .if3 .left))
 
 pub line-char-spec : {M : Type 1} → statement M
 line-char-spec =
