@@ -7,7 +7,7 @@ ghost use Rattle.leaders.specs.Leaders.{leaders, counted};
 pub const MOST_ROUNDS: usize = 255;
 
 const LEADERS: [u8; MOST_ROUNDS] = [
-    0,
+    0, // leader 0
     3,
     0,
     3,
@@ -23,7 +23,7 @@ const LEADERS: [u8; MOST_ROUNDS] = [
     1,
     2,
     3,
-    0,
+    0, // leader 16
     1,
     2,
     3,
@@ -39,7 +39,7 @@ const LEADERS: [u8; MOST_ROUNDS] = [
     1,
     2,
     1,
-    0,
+    0, // leader 32
     3,
     2,
     1,
@@ -55,7 +55,7 @@ const LEADERS: [u8; MOST_ROUNDS] = [
     1,
     2,
     3,
-    0,
+    0, // leader 48
     1,
     0,
     1,
@@ -71,7 +71,7 @@ const LEADERS: [u8; MOST_ROUNDS] = [
     3,
     0,
     3,
-    2,
+    2, // leader 64
     3,
     2,
     3,
@@ -87,7 +87,7 @@ const LEADERS: [u8; MOST_ROUNDS] = [
     3,
     0,
     1,
-    2,
+    2, // leader 80
     3,
     2,
     3,
@@ -103,7 +103,7 @@ const LEADERS: [u8; MOST_ROUNDS] = [
     1,
     2,
     3,
-    2,
+    2, // leader 96
     3,
     0,
     1,
@@ -119,7 +119,7 @@ const LEADERS: [u8; MOST_ROUNDS] = [
     1,
     0,
     1,
-    2,
+    2, // leader 112
     1,
     0,
     1,
@@ -135,7 +135,7 @@ const LEADERS: [u8; MOST_ROUNDS] = [
     3,
     0,
     3,
-    2,
+    2, // leader 128
     3,
     0,
     1,
@@ -151,7 +151,7 @@ const LEADERS: [u8; MOST_ROUNDS] = [
     1,
     0,
     3,
-    0,
+    0, // leader 144
     1,
     2,
     3,
@@ -167,7 +167,7 @@ const LEADERS: [u8; MOST_ROUNDS] = [
     1,
     0,
     1,
-    2,
+    2, // leader 160
     1,
     2,
     1,
@@ -183,7 +183,7 @@ const LEADERS: [u8; MOST_ROUNDS] = [
     3,
     0,
     1,
-    2,
+    2, // leader 176
     1,
     2,
     3,
@@ -199,7 +199,7 @@ const LEADERS: [u8; MOST_ROUNDS] = [
     1,
     2,
     3,
-    0,
+    0, // leader 192
     3,
     2,
     3,
@@ -215,7 +215,7 @@ const LEADERS: [u8; MOST_ROUNDS] = [
     1,
     0,
     1,
-    2,
+    2, // leader 208
     1,
     0,
     1,
@@ -231,7 +231,7 @@ const LEADERS: [u8; MOST_ROUNDS] = [
     3,
     2,
     3,
-    2,
+    2, // leader 224
     1,
     0,
     3,
@@ -247,7 +247,7 @@ const LEADERS: [u8; MOST_ROUNDS] = [
     3,
     0,
     3,
-    2,
+    2, // leader 240
     1,
     2,
     1,
@@ -261,7 +261,7 @@ const LEADERS: [u8; MOST_ROUNDS] = [
     3,
     0,
     1,
-    2,
+    2, // leader 254
 ];
 
 // The table: the leader of round i, counted from 0, is its entry i.
