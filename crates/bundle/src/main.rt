@@ -1,19 +1,19 @@
 // Shows, makes and digests glyph bundles: `bundle show` draws the bundle on standard input, `bundle make` makes the bundle of the drawing on
 // standard input, `bundle digest` prints the font digest of the bundle on standard input. It only moves bytes: what is drawn, made and refused,
 // and in which row, the calls of drawing and bundling say.
-use bundling::BUNDLE_ROOM;
-use digest::DIGEST;
-use drawing::LONGEST_DRAWING;
-use files::Loaded;
+use bundle_draw::LONGEST_DRAWING;
+use bundle_write::BUNDLE_ROOM;
+use digest_call::DIGEST;
 use libc::STDERR_FILENO;
 use libc::STDIN_FILENO;
 use libc::STDOUT_FILENO;
+use tool_files::Loaded;
 
 // The longest word that is looked at.
 const WORD: usize = 8;
 
 // Room for one byte more than the longest input that is digested: of a longer one so much says what all of it would.
-const ROOM: usize = digest::LONGEST_MESSAGE + 1;
+const ROOM: usize = digest_call::LONGEST_MESSAGE + 1;
 
 fn say(text: &[u8]) {
     if !io::write_all(STDOUT_FILENO, text) {
@@ -56,10 +56,10 @@ fn refused(n: u32, row: usize) {
 
 fn show(input: &[u8]) {
     let mut out = [0u8; LONGEST_DRAWING];
-    let answer = drawing::show(input, &mut out);
-    let n = drawing::show_number(answer);
+    let answer = bundle_draw::show(input, &mut out);
+    let n = bundle_draw::show_number(answer);
     if n == 0 {
-        give(&out, drawing::show_length(answer));
+        give(&out, bundle_draw::show_length(answer));
     } else {
         refused(n, 0);
     }
@@ -67,21 +67,21 @@ fn show(input: &[u8]) {
 
 fn make(input: &[u8]) {
     let mut out = [0u8; BUNDLE_ROOM];
-    let answer = drawing::make(input, &mut out);
-    let n = drawing::make_number(answer);
+    let answer = bundle_draw::make(input, &mut out);
+    let n = bundle_draw::make_number(answer);
     if n == 0 {
-        give(&out, drawing::make_length(answer));
+        give(&out, bundle_draw::make_length(answer));
     } else {
-        refused(n, drawing::make_row(answer));
+        refused(n, bundle_draw::make_row(answer));
     }
 }
 
 fn digest(input: &[u8]) {
     let mut out = [0u8; DIGEST];
     let mut digits = [0x0Au8; 2 * DIGEST + 1];
-    let n = bundling::digest_number(bundling::digest_of(input, &mut out));
+    let n = bundle_write::digest_number(bundle_write::digest_of(input, &mut out));
     if n == 0 {
-        text::put_hex(&out, &mut digits);
+        base_hex::put_hex(&out, &mut digits);
         say(&digits);
     } else {
         refused(n, 0);
@@ -90,9 +90,9 @@ fn digest(input: &[u8]) {
 
 // What is asked of the input.
 fn asked(word: &[u8], input: &[u8]) {
-    if lists::compare(word, b"show") {
+    if base_lists::compare(word, b"show") {
         show(input);
-    } else if lists::compare(word, b"make") {
+    } else if base_lists::compare(word, b"make") {
         make(input);
     } else {
         digest(input);
@@ -101,18 +101,18 @@ fn asked(word: &[u8], input: &[u8]) {
 
 // Whether a word is one of the three.
 fn known(word: &[u8]) -> bool {
-    if lists::compare(word, b"show") {
+    if base_lists::compare(word, b"show") {
         return true;
     }
-    if lists::compare(word, b"make") {
+    if base_lists::compare(word, b"make") {
         return true;
     }
-    lists::compare(word, b"digest")
+    base_lists::compare(word, b"digest")
 }
 
 fn on_input(word: &[u8], buffer: &mut [u8]) {
-    let loaded = files::take_in(STDIN_FILENO, buffer);
-    match files::held(loaded, buffer.len()) {
+    let loaded = tool_files::take_in(STDIN_FILENO, buffer);
+    match tool_files::held(loaded, buffer.len()) {
         Loaded::Bytes(n) => asked(word, &buffer[0..n]),
         Loaded::Long => asked(word, buffer),
         Loaded::Failed => complain(b"bundle: input can't be read\n"),

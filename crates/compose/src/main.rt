@@ -2,14 +2,14 @@
 // line. The frames go to standard output; a row that can't be sealed is reported on standard error with document 01's number, and the
 // others are still written. Half an order is none: a last row without its newline is not sealed. Nonces come from the caller; none is made
 // here.
-use digest::DIGEST;
-use files::Heard;
-use frame::KEY_LENGTH;
-use layout::Layout;
+use digest_call::DIGEST;
+use frame_write::KEY_LENGTH;
 use libc::STDERR_FILENO;
 use libc::STDIN_FILENO;
 use libc::STDOUT_FILENO;
-use orders::Order;
+use line_layout::Layout;
+use tool_files::Heard;
+use tool_orders::Order;
 
 // The most of a row that is kept: nonce, blank and longest line fit with room to spare, and a longer row keeps a line that is too long.
 const ROW: usize = 128;
@@ -57,10 +57,10 @@ fn send(frame: &[u8], which: u64) -> bool {
 
 // One line under its nonce: its frame on standard output, or its refusal on standard error; false where the frame can't be written.
 fn seal_line(line: &[u8], nonce: &[u8], which: u64, key: &[u8], font: &[u8]) -> bool {
-    let mut frame = [0u8; frame::FRAME_ROOM];
-    let written = frame::write(key, nonce, font, Layout::Neither, line, &mut frame);
-    let number = numbers::write_number(written);
-    let length = numbers::write_length(written);
+    let mut frame = [0u8; frame_write::FRAME_ROOM];
+    let written = frame_write::write(key, nonce, font, Layout::Neither, line, &mut frame);
+    let number = answer_numbers::write_number(written);
+    let length = answer_numbers::write_length(written);
     if number != 0 {
         refused(which, number);
         return true;
@@ -74,9 +74,9 @@ fn seal_line(line: &[u8], nonce: &[u8], which: u64, key: &[u8], font: &[u8]) -> 
 
 // One order; false where its frame can't be written.
 fn order(row: &[u8], which: u64, key: &[u8], font: &[u8]) -> bool {
-    match orders::judge_order(row) {
+    match tool_orders::judge_order(row) {
         Order::Line(from) => {
-            let nonce = orders::nonce(row);
+            let nonce = tool_orders::nonce(row);
             seal_line(&row[from..], &nonce, which, key, font)
         }
         Order::NoNonce => {
@@ -153,7 +153,7 @@ fn compose(key: &[u8], font: &[u8]) {
     };
     let mut turns = MOST_READS;
     while turns > 0 {
-        match files::hear(STDIN_FILENO, &mut chunk) {
+        match tool_files::hear(STDIN_FILENO, &mut chunk) {
             Heard::Some(got) => {
                 o = fed_all(&chunk[0..got], &mut row, o, key, font);
                 let failed = o.failed;
@@ -185,12 +185,12 @@ fn main() {
     let mut font = [0u8; DIGEST];
     // Of 65,536 bytes: the longest font.
     let mut buffer = io::large_buffer();
-    if !told::is_key(files::load(b"key.bin", &mut key)) {
+    if !tool_key_font::is_key(tool_files::load(b"key.bin", &mut key)) {
         complain(b"no key\n");
         return;
     }
-    let loaded = files::load(b"font.bin", &mut buffer);
-    if !told::digest_font(loaded, &buffer, &mut font) {
+    let loaded = tool_files::load(b"font.bin", &mut buffer);
+    if !tool_key_font::digest_font(loaded, &buffer, &mut font) {
         complain(b"no font\n");
         return;
     }

@@ -1,13 +1,13 @@
 // The GAGE digest of standard input, read through a small window: `gagesum` for instance 1, `gagesum I` for instance I. Only bytes are moved
-// here; what the word and each read mean is decided by `sums`, and the digest is that of `feeding`.
-use digest::DIGEST;
+// here; what the word and each read mean is decided by `tool_sums`, and the digest is that of `running_steps`.
+use digest_call::DIGEST;
 use libc::STDERR_FILENO;
 use libc::STDIN_FILENO;
 use libc::STDOUT_FILENO;
-use running::Finished;
-use running::Record;
-use sums::Named;
-use sums::Sum;
+use running_spec::Finished;
+use running_spec::Record;
+use tool_sums::Named;
+use tool_sums::Sum;
 
 // The window in bytes.
 const WINDOW: usize = 512;
@@ -39,7 +39,7 @@ fn usage() {
 // The digits of a digest and a newline, written at once.
 fn print(digest: &[u8]) {
     let mut row = [0u8; ROW];
-    text::put_hex(digest, &mut row);
+    base_hex::put_hex(digest, &mut row);
     row[DIGITS] = NEWLINE;
     if !io::write_all(STDOUT_FILENO, &row) {
         complain(b"gagesum: not written whole\n");
@@ -49,7 +49,7 @@ fn print(digest: &[u8]) {
 // The digest of what was fed.
 fn give(running: Record) {
     let mut digest = [0u8; DIGEST];
-    match feeding::give(running, &mut digest) {
+    match running_steps::give(running, &mut digest) {
         Finished::Done(_) => print(&digest),
         // Never: the record was started and only fed, and there is room.
         _ => complain(b"gagesum: no digest\n"),
@@ -58,13 +58,13 @@ fn give(running: Record) {
 
 fn digest_input(instance: usize) {
     let mut window = [0u8; WINDOW];
-    let mut running = sums::begin(instance);
+    let mut running = tool_sums::begin(instance);
     let mut turns = MOST_READS;
     while turns > 0 {
-        let heard = files::hear(STDIN_FILENO, &mut window);
-        match sums::judge_part(running, heard, &window) {
+        let heard = tool_files::hear(STDIN_FILENO, &mut window);
+        match tool_sums::judge_part(running, heard, &window) {
             Sum::On => {
-                running = sums::take_part(running, heard, &window);
+                running = tool_sums::take_part(running, heard, &window);
                 turns -= 1;
             }
             Sum::End => {
@@ -100,7 +100,7 @@ fn main() {
     if n > WORD {
         return;
     }
-    match sums::judge_word(&word[0..n]) {
+    match tool_sums::judge_word(&word[0..n]) {
         Named::Instance(i) => digest_input(i),
         Named::Nothing => usage(),
     }

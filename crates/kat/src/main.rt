@@ -2,14 +2,14 @@
 // `kat hash I` for GAGE instance I, `kat aead I` for InGAGE instance I. Thin over the proved calls.
 ghost use Prim.Native.Nat.{_≤_};
 ghost use lib.ListN.{length};
-use cipher::Instance;
-use cipher::Named;
-use digest::DIGEST;
-use digest::Digested;
+use base_hex::Digit;
+use digest_call::DIGEST;
+use digest_call::Digested;
+use ingage_answers::Sealed;
+use ingage_spec::Instance;
+use ingage_spec::Named;
 use libc::STDERR_FILENO;
 use libc::STDOUT_FILENO;
-use sealing::Sealed;
-use text::Digit;
 
 // The longest message of a hash file, and the longest text and associated data of an aead file, in bytes.
 const LONGEST_MESSAGE: usize = 1024;
@@ -41,7 +41,7 @@ fn complain(text: &[u8]) {
 // Upper-case hexadecimal digits of at most LONGEST_MESSAGE bytes.
 fn hex(value: &[u8]) -> bool {
     let mut digits = [0u8; 2 * LONGEST_MESSAGE];
-    let n = text::put_hex(value, &mut digits);
+    let n = base_hex::put_hex(value, &mut digits);
     // Never: no more digits are put than there is room for.
     if n > digits.len() {
         return false;
@@ -83,7 +83,7 @@ fn written_if(whole: bool) -> Entry {
 // 00 01 02 ..
 fn ramp() -> [u8; LONGEST_MESSAGE] {
     let mut bytes = [0u8; LONGEST_MESSAGE];
-    ramp::fill(&mut bytes, 0, 1);
+    base_ramp::fill(&mut bytes, 0, 1);
     bytes
 }
 
@@ -104,7 +104,7 @@ fn hash_rows(number: usize, message: &[u8], digest: &[u8]) -> bool {
 // One entry of a hash file.
 fn hash_entry(instance: usize, number: usize, message: &[u8]) -> Entry {
     let mut out = [0u8; DIGEST];
-    match digest::digest(instance, message, &mut out) {
+    match digest_call::digest(instance, message, &mut out) {
         Digested::Done(_) => written_if(hash_rows(number, message, &out)),
         _ => Entry::Unknown,
     }
@@ -165,7 +165,7 @@ fn sealed_entry(
     out: &mut [u8],
 ) -> Entry {
     let mut seal = [0u8; SEAL];
-    match ingage::seal(instance, key, nonce, associated, message, out, &mut seal) {
+    match ingage_call::seal(instance, key, nonce, associated, message, out, &mut seal) {
         Sealed::Done(_) => {
             if !sealed_of(number, key, nonce, message, associated) {
                 return Entry::Unwritten;
@@ -241,7 +241,7 @@ fn aead_text(instance: usize, z: Instance, bytes: &[u8], p: usize) -> Entry
 }
 
 fn aead(instance: usize) -> Entry {
-    let Named::Known(z) = instances::sizes_of(instance) else {
+    let Named::Known(z) = ingage_table::sizes_of(instance) else {
         return Entry::Unknown;
     };
     let bytes = ramp();
@@ -261,7 +261,7 @@ fn number(word: &[u8]) -> usize {
     let mut n: usize = 0;
     let mut i = 0;
     while i < word.len() {
-        let Digit::Value(v) = text::value(word[i]) else {
+        let Digit::Value(v) = base_hex::value(word[i]) else {
             return 0;
         };
         if v > 9 {
@@ -286,9 +286,9 @@ fn ended(last: Entry) {
 }
 
 fn answered(kind: &[u8], instance: usize) {
-    if lists::compare(kind, b"hash") {
+    if base_lists::compare(kind, b"hash") {
         ended(hash(instance));
-    } else if lists::compare(kind, b"aead") {
+    } else if base_lists::compare(kind, b"aead") {
         ended(aead(instance));
     } else {
         complain(b"usage: kat hash I (1 to 10), kat aead I (1 to 6)\n");

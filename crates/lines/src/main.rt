@@ -1,16 +1,16 @@
 // Lists the lines of a job stream (document 01, 'The listing program'): key.bin, font.bin, then the stream on standard input, one
-// 65,536-byte buffer reused. Thin over the proved calls: every row is what `reader::read` answers.
-use digest::DIGEST;
-use files::Loaded;
-use frame::KEY_LENGTH;
-use layout::Layout;
+// 65,536-byte buffer reused. Thin over the proved calls: every row is what `read_call::read` answers.
+use digest_call::DIGEST;
+use frame_write::KEY_LENGTH;
 use libc::STDERR_FILENO;
 use libc::STDIN_FILENO;
 use libc::STDOUT_FILENO;
-use reader::ALL_WORK;
-use reader::Asked;
-use reader::EDITION_ONE;
-use reader::Reading;
+use line_layout::Layout;
+use read_call::ALL_WORK;
+use read_call::Asked;
+use read_call::EDITION_ONE;
+use read_call::Reading;
+use tool_files::Loaded;
 
 // How the listing stands: where the next reading starts, how many rows were lines and how many refusals, whether it is at its end, and
 // whether that is because a row could not be written.
@@ -61,12 +61,12 @@ fn given(line: &[u8], length: usize) -> bool {
 // The row of a stretch.
 fn row(reading: Reading, line: &[u8]) -> bool {
     let answer = reading.answer;
-    let number = readings::read_number(answer);
+    let number = read_numbers::read_number(answer);
     if !head(reading.first, number) {
         return false;
     }
     if number == 0 {
-        if !given(line, readings::read_length(answer)) {
+        if !given(line, read_numbers::read_length(answer)) {
             return false;
         }
     }
@@ -78,7 +78,7 @@ fn counted(t: Tally, reading: Reading) -> Tally {
     let answer = reading.answer;
     let mut lines = t.lines;
     let mut refused = t.refused;
-    if readings::read_number(answer) == 0 {
+    if read_numbers::read_number(answer) == 0 {
         lines = std::num::wrapping_add_u64(lines, 1);
     } else {
         refused = std::num::wrapping_add_u64(refused, 1);
@@ -109,7 +109,7 @@ fn one(stream: &[u8], key: &[u8], font: &[u8], line: &mut [u8], t: Tally) -> Tal
         allowed: ALL_WORK,
         layout: Layout::Neither,
     };
-    let reading = reader::read(stream, t.next, key, font, everything, line);
+    let reading = read_call::read(stream, t.next, key, font, everything, line);
     if reading.first == reading.closing {
         return stopped(t, false);
     }
@@ -141,7 +141,7 @@ fn last_row(t: Tally) -> bool {
 
 // Every stretch of the stream, and the last row. Each reading ends further on, so as many turns as the stream has bytes are enough.
 fn list(stream: &[u8], key: &[u8], font: &[u8]) -> bool {
-    let mut line = [0u8; line::LONGEST];
+    let mut line = [0u8; line_spec::LONGEST];
     let mut t = Tally {
         next: 0,
         lines: 0,
@@ -164,8 +164,8 @@ fn list(stream: &[u8], key: &[u8], font: &[u8]) -> bool {
 
 // The listing of what stands on standard input, as far as the buffer holds it.
 fn list_input(buffer: &mut [u8], key: &[u8], font: &[u8]) {
-    let loaded = files::take_in(STDIN_FILENO, buffer);
-    match files::held(loaded, buffer.len()) {
+    let loaded = tool_files::take_in(STDIN_FILENO, buffer);
+    match tool_files::held(loaded, buffer.len()) {
         Loaded::Bytes(n) => {
             if !list(&buffer[0..n], key, font) {
                 complain(b"listing not written whole\n");
@@ -189,12 +189,12 @@ fn main() {
     let mut font = [0u8; DIGEST];
     // Of 65,536 bytes: the longest font, and the longest stream.
     let mut buffer = io::large_buffer();
-    if !told::is_key(files::load(b"key.bin", &mut key)) {
+    if !tool_key_font::is_key(tool_files::load(b"key.bin", &mut key)) {
         say(b"no key\n");
         return;
     }
-    let loaded = files::load(b"font.bin", &mut buffer);
-    if !told::digest_font(loaded, &buffer, &mut font) {
+    let loaded = tool_files::load(b"font.bin", &mut buffer);
+    if !tool_key_font::digest_font(loaded, &buffer, &mut font) {
         say(b"no font\n");
         return;
     }

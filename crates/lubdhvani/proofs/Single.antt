@@ -14,7 +14,7 @@ use denote.Ref.{now}
 use denote.Triple.Entry.{Args}
 use denote.Triple.Clauses.{AtExit}
 use borrow.Fn.Kinds.{Dens, endedOf}
-use Rattle.running.specs.Running.{startAnswer, startRecord, startNumber, feedAnswer, feedRecord, feedNumber, finishAnswer, finishRecord, finishOut, finishNumber, finishCount}
+use Rattle.running_spec.specs.Running.{startAnswer, startRecord, startNumber, feedAnswer, feedRecord, feedNumber, finishAnswer, finishRecord, finishOut, finishNumber, finishCount}
 use Rattle.lubdhvani.proofs.lubdhvani_start as start
 use Rattle.lubdhvani.proofs.lubdhvani_feed as feed
 use Rattle.lubdhvani.proofs.lubdhvani_finish as finish

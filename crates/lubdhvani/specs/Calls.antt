@@ -2,7 +2,7 @@
 use Prim.Native.Nat.{ℕ}
 use mathlib.Core.List.{List}
 use lib.ListN.{length}
-use Rattle.gage.specs.Permutation.{numberOf, judged, after}
+use Rattle.gage_spec.specs.Permutation.{numberOf, judged, after}
 
 -- k rounds of the permutation on a state where it stands
 unfoldable pub permuteNumber : ℕ → ℕ → ℕ

@@ -5,14 +5,14 @@ use Prim.Native.Nat.{ℕ, _≤_, _<_}
 use native.Mathlib.Omega.{arith}
 use lib.ListN.{length, take, drop, replicate, drop-of-length-le}
 use lib.Seq.{take-all, take-at}
-use Rattle.lists.specs.Buffers.{copied}
-use Rattle.cells.specs.Sizes.{LARGEST}
-use Rattle.gage.specs.Permutation.{numberOf, judged, answered}
-use Rattle.gage.specs.Answers.{judged-size}
-use Rattle.gage.specs.Tables.{too-large}
-use Rattle.gage.specs.declared.Answer.{Answer}
-use Rattle.gage.specs.declared.Answer.the-variants.{Done, Size, Rounds}
-use Rattle.gage.specs.declared.Permuted.{Permuted}
+use Rattle.base_lists.specs.Buffers.{copied}
+use Rattle.gage_cells.specs.Sizes.{LARGEST}
+use Rattle.gage_spec.specs.Permutation.{numberOf, judged, answered}
+use Rattle.gage_spec.specs.Answers.{judged-size}
+use Rattle.gage_spec.specs.Tables.{too-large}
+use Rattle.gage_spec.specs.declared.Answer.{Answer}
+use Rattle.gage_spec.specs.declared.Answer.the-variants.{Done, Size, Rounds}
+use Rattle.gage_spec.specs.declared.Permuted.{Permuted}
 use Rattle.lubdhvani.specs.Calls.{permuteNumber, permuteState}
 
 module _ (f : ℕ → List ℕ → List ℕ) (k : ℕ) (keeps : (s : List ℕ) → length (f k s) ≡ length s) (s : List ℕ) (fits : length s ≤ LARGEST) where

@@ -2,16 +2,16 @@
 use mathlib.Core.Path.{_≡_, ap, _∙_}
 use mathlib.Core.List.{List}
 use Prim.Native.Nat.{ℕ}
-use Rattle.layout.specs.declared.Layout.{Layout}
-use Rattle.body.specs.Fields.{Own}
-use Rattle.framing.specs.Told.{told}
-use Rattle.frame.specs.declared.Written.{Written}
-use Rattle.frame.specs.Answers.{writeCall}
-use Rattle.converting.specs.declared.Converted.{Converted}
-use Rattle.converting.specs.Answers.{convertCall}
-use Rattle.reader.specs.declared.Asked.{Asked}
-use Rattle.reader.specs.declared.Reading.{Reading}
-use Rattle.reader.specs.Answers.{readAnswer, readOut}
+use Rattle.line_layout.specs.declared.Layout.{Layout}
+use Rattle.frame_body.specs.Fields.{Own}
+use Rattle.frame_spec.specs.Told.{told}
+use Rattle.frame_write.specs.declared.Written.{Written}
+use Rattle.frame_write.specs.Answers.{writeCall}
+use Rattle.convert_spec.specs.declared.Converted.{Converted}
+use Rattle.convert_spec.specs.Answers.{convertCall}
+use Rattle.read_call.specs.declared.Asked.{Asked}
+use Rattle.read_call.specs.declared.Reading.{Reading}
+use Rattle.read_call.specs.Answers.{readAnswer, readOut}
 
 module _ (key font : List ℕ) {l m : Layout} (e : l ≡ m) where
   pub written-named : (own : Own) (L f : List ℕ) {w : Written} {o : List ℕ}

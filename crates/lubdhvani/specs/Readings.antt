@@ -2,10 +2,10 @@
 -- Assumes nothing.
 use mathlib.Core.Path.{_≡_, ap}
 use Prim.Native.Nat.{ℕ}
-use Rattle.layout.specs.Layouts.{layoutOf}
-use Rattle.reader.specs.Answers.{numberOf, lengthOf, callsOf, givenOf}
-use Rattle.reader.specs.declared.Asked as told-anew
-use Rattle.reader.specs.declared.Reading as reading
+use Rattle.line_layout.specs.Layouts.{layoutOf}
+use Rattle.read_call.specs.Answers.{numberOf, lengthOf, callsOf, givenOf}
+use Rattle.read_call.specs.declared.Asked as told-anew
+use Rattle.read_call.specs.declared.Reading as reading
 use Rattle.lubdhvani.specs.declared.Asked.{Asked}
 use Rattle.lubdhvani.specs.declared.Reading.{Reading}
 

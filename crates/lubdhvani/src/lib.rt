@@ -3,58 +3,58 @@
 // permutation, specs/Readings.antt for a reading, and for the other calls the definitions of the calls below.
 ghost use mathlib.Core.Path.{_≡_};
 ghost use lib.ListN.{length, replicate};
-ghost use Rattle.lists.specs.Buffers.{copied};
-ghost use Rattle.digest.specs.Answers.{digestAnswer, digestOut};
-ghost use Rattle.digest.specs.Answers as hashing;
-ghost use Rattle.cells.specs.Sizes.{LARGEST};
-ghost use Rattle.gage.specs.Permutation.{permute, unpermute};
-ghost use Rattle.cipher.specs.Instances.{named};
-ghost use Rattle.sealing.specs.Answers.{sealNamed, openNamed, sealNumber, sealCount, openNumber, openCount};
-ghost use Rattle.frame.specs.Answers.{writeCall};
-ghost use Rattle.frame.specs.Answers as writing;
+ghost use Rattle.base_lists.specs.Buffers.{copied};
+ghost use Rattle.digest_call.specs.Answers.{digestAnswer, digestOut};
+ghost use Rattle.digest_call.specs.Answers as hashing;
+ghost use Rattle.gage_cells.specs.Sizes.{LARGEST};
+ghost use Rattle.gage_spec.specs.Permutation.{permute, unpermute};
+ghost use Rattle.ingage_spec.specs.Instances.{named};
+ghost use Rattle.ingage_answers.specs.Answers.{sealNamed, openNamed, sealNumber, sealCount, openNumber, openCount};
+ghost use Rattle.frame_write.specs.Answers.{writeCall};
+ghost use Rattle.frame_write.specs.Answers as writing;
 ghost use mathlib.Core.List.{[]};
-ghost use Rattle.body.specs.declared.Edition.the-variants.{One, Two};
-ghost use Rattle.body.specs.Fields.{ownOf};
-ghost use Rattle.converting.specs.Answers as converting;
-ghost use Rattle.converting.specs.Answers.{convertCall};
-ghost use Rattle.layout.specs.Layouts.{layoutOf};
-ghost use Rattle.framing.specs.Told.{told};
-ghost use Rattle.reader.specs.Answers.{readAnswer, readOut};
-ghost use Rattle.stream.specs.Stretches.{nextSpan};
-ghost use Rattle.glyphs.specs.Answers as judging;
-ghost use Rattle.bundling.specs.Answers as bundles;
-ghost use Rattle.running.specs.Running.{startAnswer, startRecord, startNumber, feedAnswer, feedRecord, feedNumber, finishAnswer, finishRecord, finishOut, finishNumber, finishCount};
+ghost use Rattle.frame_body.specs.declared.Edition.the-variants.{One, Two};
+ghost use Rattle.frame_body.specs.Fields.{ownOf};
+ghost use Rattle.convert_spec.specs.Answers as converting;
+ghost use Rattle.convert_spec.specs.Answers.{convertCall};
+ghost use Rattle.line_layout.specs.Layouts.{layoutOf};
+ghost use Rattle.frame_spec.specs.Told.{told};
+ghost use Rattle.read_call.specs.Answers.{readAnswer, readOut};
+ghost use Rattle.read_stretch.specs.Stretches.{nextSpan};
+ghost use Rattle.bundle_read.specs.Answers as judging;
+ghost use Rattle.bundle_write.specs.Answers as bundles;
+ghost use Rattle.running_spec.specs.Running.{startAnswer, startRecord, startNumber, feedAnswer, feedRecord, feedNumber, finishAnswer, finishRecord, finishOut, finishNumber, finishCount};
 ghost use Rattle.lubdhvani.specs.Calls.{permuteNumber, permuteState};
 ghost use Rattle.lubdhvani.specs.Readings.{askedOf, readingOut};
-use counts::read_count;
-use feeding::feed_number;
-use feeding::finish_count;
-use feeding::finish_number;
-use feeding::start_number;
-use gage::Answer;
-use gage::LARGEST;
-use layout::layout_of;
-use numbers::digest_count;
-use numbers::digest_number;
-use numbers::open_count;
-use numbers::open_number;
-use numbers::seal_count;
-use numbers::seal_number;
-use numbers::write_count;
-use numbers::write_length;
-use numbers::write_number;
-use readings::read_given;
-use readings::read_length;
-use readings::read_number;
-use running::Finished;
-use running::Record;
+use answer_numbers::digest_count;
+use answer_numbers::digest_number;
+use answer_numbers::open_count;
+use answer_numbers::open_number;
+use answer_numbers::seal_count;
+use answer_numbers::seal_number;
+use answer_numbers::write_count;
+use answer_numbers::write_length;
+use answer_numbers::write_number;
+use gage_spec::Answer;
+use gage_spec::LARGEST;
+use line_layout::layout_of;
+use read_counts::read_count;
+use read_numbers::read_given;
+use read_numbers::read_length;
+use read_numbers::read_number;
+use running_spec::Finished;
+use running_spec::Record;
+use running_steps::feed_number;
+use running_steps::finish_count;
+use running_steps::finish_number;
+use running_steps::start_number;
 
 // A state of at most LARGEST bytes at the start of a whole one.
 fn widened(state: &[u8]) -> [u8; LARGEST]
     ensures { λ r. ⌜ r ≡ copied (now (state .entry)) (replicate LARGEST 0) ⌝ }
 {
     let mut s = [0u8; LARGEST];
-    lists::copy(state, &mut s);
+    base_lists::copy(state, &mut s);
     s
 }
 
@@ -66,13 +66,13 @@ pub extern "C" fn lubdhvani_permute(state: &mut [u8], rounds: usize) -> u32
 {
     let n = state.len();
     if n > LARGEST {
-        return gage::number(Answer::Size);
+        return gage_spec::number(Answer::Size);
     }
-    let r = rounds::permute(widened(state), n, rounds);
+    let r = gage_permute::permute(widened(state), n, rounds);
     let permuted = r.state;
     let answer = r.answer;
-    lists::copy(&permuted, state);
-    gage::number(answer)
+    base_lists::copy(&permuted, state);
+    gage_spec::number(answer)
 }
 
 // Their inverse.
@@ -83,13 +83,13 @@ pub extern "C" fn lubdhvani_unpermute(state: &mut [u8], rounds: usize) -> u32
 {
     let n = state.len();
     if n > LARGEST {
-        return gage::number(Answer::Size);
+        return gage_spec::number(Answer::Size);
     }
-    let r = rounds::unpermute(widened(state), n, rounds);
+    let r = gage_permute::unpermute(widened(state), n, rounds);
     let permuted = r.state;
     let answer = r.answer;
-    lists::copy(&permuted, state);
-    gage::number(answer)
+    base_lists::copy(&permuted, state);
+    gage_spec::number(answer)
 }
 
 // The digest of a message.
@@ -104,7 +104,7 @@ pub extern "C" fn lubdhvani_digest(
     ensures { λ _. ⌜ now (out .exit) ≡ digestOut instance (now (message .entry)) (now (out .entry)) ⌝ }
     ensures { λ _. ⌜ now (calls .exit) ≡ hashing.countOf (digestAnswer instance (now (message .entry)) (now (out .entry))) ⌝ }
 {
-    let answer = digest::digest(instance, message, out);
+    let answer = digest_call::digest(instance, message, out);
     *calls = digest_count(answer);
     digest_number(answer)
 }
@@ -114,7 +114,7 @@ pub extern "C" fn lubdhvani_digest(
 pub extern "C" fn lubdhvani_start(running: &mut Record, instance: usize) -> u32
     ensures { λ r. ⌜ (r ≡ startNumber (startAnswer instance)) × (now (running .exit) ≡ startRecord (now (running .entry)) instance) ⌝ }
 {
-    let answer = lending::start(running, instance);
+    let answer = running_call::start(running, instance);
     start_number(answer)
 }
 
@@ -123,7 +123,7 @@ pub extern "C" fn lubdhvani_start(running: &mut Record, instance: usize) -> u32
 pub extern "C" fn lubdhvani_feed(running: &mut Record, bytes: &[u8]) -> u32
     ensures { λ r. ⌜ (r ≡ feedNumber (feedAnswer (now (running .entry)) (now (bytes .entry)))) × (now (running .exit) ≡ feedRecord (now (running .entry)) (now (bytes .entry))) ⌝ }
 {
-    let answer = lending::feed(running, bytes);
+    let answer = running_call::feed(running, bytes);
     feed_number(answer)
 }
 
@@ -140,7 +140,7 @@ fn finish_report(answer: Finished, calls: &mut usize) -> u32
 pub extern "C" fn lubdhvani_finish(running: &mut Record, out: &mut [u8], calls: &mut usize) -> u32
     ensures { λ r. ⌜ (r ≡ finishNumber (finishAnswer (now (running .entry)) (now (out .entry)))) × (now (running .exit) ≡ finishRecord (now (running .entry)) (now (out .entry))) × (now (out .exit) ≡ finishOut (now (running .entry)) (now (out .entry))) × (now (calls .exit) ≡ finishCount (finishAnswer (now (running .entry)) (now (out .entry)))) ⌝ }
 {
-    let answer = lending::finish(running, out);
+    let answer = running_call::finish(running, out);
     finish_report(answer, calls)
 }
 
@@ -161,7 +161,7 @@ pub extern "C" fn lubdhvani_seal(
     ensures { λ _. ⌜ now (seal .exit) ≡ sealNamed (named instance) (now (key .entry)) (now (nonce .entry)) (now (associated .entry)) (now (message .entry)) (now (out .entry)) (now (seal .entry)) .seal ⌝ }
     ensures { λ _. ⌜ now (calls .exit) ≡ sealCount (sealNamed (named instance) (now (key .entry)) (now (nonce .entry)) (now (associated .entry)) (now (message .entry)) (now (out .entry)) (now (seal .entry)) .answer) ⌝ }
 {
-    let answer = ingage::seal(instance, key, nonce, associated, message, out, seal);
+    let answer = ingage_call::seal(instance, key, nonce, associated, message, out, seal);
     *calls = seal_count(answer);
     seal_number(answer)
 }
@@ -182,7 +182,7 @@ pub extern "C" fn lubdhvani_open(
     ensures { λ _. ⌜ now (out .exit) ≡ openNamed (named instance) (now (key .entry)) (now (nonce .entry)) (now (associated .entry)) (now (cipher .entry)) (now (seal .entry)) (now (out .entry)) .out ⌝ }
     ensures { λ _. ⌜ now (calls .exit) ≡ openCount (openNamed (named instance) (now (key .entry)) (now (nonce .entry)) (now (associated .entry)) (now (cipher .entry)) (now (seal .entry)) (now (out .entry)) .answer) ⌝ }
 {
-    let answer = ingage::open(instance, key, nonce, associated, cipher, seal, out);
+    let answer = ingage_call::open(instance, key, nonce, associated, cipher, seal, out);
     *calls = open_count(answer);
     open_number(answer)
 }
@@ -204,7 +204,7 @@ pub extern "C" fn lubdhvani_write(
     ensures { λ _. ⌜ now (length .exit) ≡ writing.lengthOf (writeCall (told (now (key .entry)) (now (font .entry)) (layoutOf layout)) (ownOf One (now (nonce .entry)) []) (now (line .entry)) (now (frame .entry)) .answer) ⌝ }
     ensures { λ _. ⌜ now (calls .exit) ≡ writing.countOf (writeCall (told (now (key .entry)) (now (font .entry)) (layoutOf layout)) (ownOf One (now (nonce .entry)) []) (now (line .entry)) (now (frame .entry)) .answer) ⌝ }
 {
-    let answer = frame::write(key, nonce, font, layout_of(layout), line, frame);
+    let answer = frame_write::write(key, nonce, font, layout_of(layout), line, frame);
     *length = write_length(answer);
     *calls = write_count(answer);
     write_number(answer)
@@ -228,7 +228,7 @@ pub extern "C" fn lubdhvani_write_two(
     ensures { λ _. ⌜ now (length .exit) ≡ writing.lengthOf (writeCall (told (now (key .entry)) (now (font .entry)) (layoutOf layout)) (ownOf Two (now (nonce .entry)) (now (job .entry))) (now (line .entry)) (now (frame .entry)) .answer) ⌝ }
     ensures { λ _. ⌜ now (calls .exit) ≡ writing.countOf (writeCall (told (now (key .entry)) (now (font .entry)) (layoutOf layout)) (ownOf Two (now (nonce .entry)) (now (job .entry))) (now (line .entry)) (now (frame .entry)) .answer) ⌝ }
 {
-    let answer = frame::write_two(key, nonce, font, layout_of(layout), job, line, frame);
+    let answer = frame_write::write_two(key, nonce, font, layout_of(layout), job, line, frame);
     *length = write_length(answer);
     *calls = write_count(answer);
     write_number(answer)
@@ -249,9 +249,9 @@ pub extern "C" fn lubdhvani_to_one(
     ensures { λ _. ⌜ now (frame .exit) ≡ convertCall (told (now (key .entry)) (now (font .entry)) (layoutOf layout)) (ownOf One (now (nonce .entry)) []) (now (stretch .entry)) (now (frame .entry)) .frame ⌝ }
     ensures { λ _. ⌜ now (length .exit) ≡ converting.lengthIn (convertCall (told (now (key .entry)) (now (font .entry)) (layoutOf layout)) (ownOf One (now (nonce .entry)) []) (now (stretch .entry)) (now (frame .entry)) .answer) ⌝ }
 {
-    let answer = converter::to_one(stretch, key, font, layout_of(layout), nonce, frame);
-    *length = converter::frame_length(answer);
-    converter::number(answer)
+    let answer = convert_call::to_one(stretch, key, font, layout_of(layout), nonce, frame);
+    *length = convert_call::frame_length(answer);
+    convert_call::number(answer)
 }
 
 // Seals the line of a stretch of edition one anew in edition two, with a job.
@@ -270,9 +270,9 @@ pub extern "C" fn lubdhvani_to_two(
     ensures { λ _. ⌜ now (frame .exit) ≡ convertCall (told (now (key .entry)) (now (font .entry)) (layoutOf layout)) (ownOf Two (now (nonce .entry)) (now (job .entry))) (now (stretch .entry)) (now (frame .entry)) .frame ⌝ }
     ensures { λ _. ⌜ now (length .exit) ≡ converting.lengthIn (convertCall (told (now (key .entry)) (now (font .entry)) (layoutOf layout)) (ownOf Two (now (nonce .entry)) (now (job .entry))) (now (stretch .entry)) (now (frame .entry)) .answer) ⌝ }
 {
-    let answer = converter::to_two(stretch, key, font, layout_of(layout), nonce, job, frame);
-    *length = converter::frame_length(answer);
-    converter::number(answer)
+    let answer = convert_call::to_two(stretch, key, font, layout_of(layout), nonce, job, frame);
+    *length = convert_call::frame_length(answer);
+    convert_call::number(answer)
 }
 
 // The places of the next stretch.
@@ -286,7 +286,7 @@ pub extern "C" fn lubdhvani_next_stretch(
     ensures { λ _. ⌜ now (first .exit) ≡ nextSpan (now (stream .entry)) from .first ⌝ }
     ensures { λ _. ⌜ now (closing .exit) ≡ nextSpan (now (stream .entry)) from .closing ⌝ }
 {
-    let span = stream::next_span(stream, from);
+    let span = read_stretch::next_span(stream, from);
     *first = span.first;
     *closing = span.closing;
 }
@@ -325,12 +325,12 @@ pub extern "C" fn lubdhvani_read(
     ensures { λ r. ⌜ r ≡ readingOut (readAnswer (told (now (key .entry)) (now (font .entry)) (layoutOf (asked .layout))) (askedOf asked) (now (stream .entry)) from (now (line .entry))) ⌝ }
     ensures { λ _. ⌜ now (line .exit) ≡ readOut (told (now (key .entry)) (now (font .entry)) (layoutOf (asked .layout))) (askedOf asked) (now (stream .entry)) from (now (line .entry)) ⌝ }
 {
-    let told_anew = reader::Asked {
+    let told_anew = read_call::Asked {
         editions: asked.editions,
         allowed: asked.allowed,
         layout: layout_of(asked.layout),
     };
-    let reading = reader::read(stream, from, key, font, told_anew, line);
+    let reading = read_call::read(stream, from, key, font, told_anew, line);
     let answer = reading.answer;
     Reading {
         first: reading.first,
@@ -356,9 +356,9 @@ pub extern "C" fn lubdhvani_bundle_write(
     ensures { λ _. ⌜ now (bundle .exit) ≡ bundles.writeOut (now (name .entry)) (now (rows .entry)) (now (bundle .entry)) ⌝ }
     ensures { λ _. ⌜ now (length .exit) ≡ bundles.writeLength (bundles.writeAnswer (now (name .entry)) (now (rows .entry)) (now (bundle .entry))) ⌝ }
 {
-    let answer = bundling::write(name, rows, bundle);
-    *length = bundling::write_length(answer);
-    bundling::write_number(answer)
+    let answer = bundle_write::write(name, rows, bundle);
+    *length = bundle_write::write_length(answer);
+    bundle_write::write_number(answer)
 }
 
 // Judges bytes as a bundle.
@@ -367,9 +367,9 @@ pub extern "C" fn lubdhvani_bundle_read(bundle: &[u8], length: &mut usize) -> u3
     ensures { λ r. ⌜ r ≡ judging.numberOf (judging.readAnswer (now (bundle .entry))) ⌝ }
     ensures { λ _. ⌜ now (length .exit) ≡ judging.lengthOf (judging.readAnswer (now (bundle .entry))) ⌝ }
 {
-    let answer = glyphs::read(bundle);
-    *length = bundling::read_length(answer);
-    bundling::read_number(answer)
+    let answer = bundle_read::read(bundle);
+    *length = bundle_write::read_length(answer);
+    bundle_write::read_number(answer)
 }
 
 // The font digest of a bundle.
@@ -378,7 +378,7 @@ pub extern "C" fn lubdhvani_bundle_digest(bundle: &[u8], out: &mut [u8]) -> u32
     ensures { λ r. ⌜ r ≡ bundles.digestNumber (bundles.digestAnswer (now (bundle .entry)) (now (out .entry))) ⌝ }
     ensures { λ _. ⌜ now (out .exit) ≡ bundles.digestOut (now (bundle .entry)) (now (out .entry)) ⌝ }
 {
-    bundling::digest_number(bundling::digest_of(bundle, out))
+    bundle_write::digest_number(bundle_write::digest_of(bundle, out))
 }
 
 // Where the name of a bundle stands.
@@ -387,7 +387,7 @@ pub extern "C" fn lubdhvani_bundle_name(bundle: &[u8], first: &mut usize, length
     ensures { λ _. ⌜ now (first .exit) ≡ bundles.namePart (now (bundle .entry)) .first ⌝ }
     ensures { λ _. ⌜ now (length .exit) ≡ bundles.namePart (now (bundle .entry)) .length ⌝ }
 {
-    let part = bundling::name_part(bundle);
+    let part = bundle_write::name_part(bundle);
     *first = part.first;
     *length = part.length;
 }
@@ -403,7 +403,7 @@ pub extern "C" fn lubdhvani_bundle_rows(
     ensures { λ _. ⌜ now (first .exit) ≡ bundles.rowsPart (now (bundle .entry)) character .first ⌝ }
     ensures { λ _. ⌜ now (length .exit) ≡ bundles.rowsPart (now (bundle .entry)) character .length ⌝ }
 {
-    let part = bundling::rows_part(bundle, character);
+    let part = bundle_write::rows_part(bundle, character);
     *first = part.first;
     *length = part.length;
 }

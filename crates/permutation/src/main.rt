@@ -1,10 +1,10 @@
 // So many rounds of the permutation on a state given in hexadecimal, or their inverse: `permutation SIZE ROUNDS STATE` and
-// `permutation back SIZE ROUNDS STATE`. Only bytes are moved here; what the words mean, and what becomes of them, is decided by `trial`.
-use gage::LARGEST;
+// `permutation back SIZE ROUNDS STATE`. Only bytes are moved here; what the words mean, and what becomes of them, is decided by `tool_trial`.
+use gage_spec::LARGEST;
 use libc::STDERR_FILENO;
 use libc::STDOUT_FILENO;
-use trial::Outcome;
-use trial::Trial;
+use tool_trial::Outcome;
+use tool_trial::Trial;
 
 // The longest word that is looked at: a longer one counts as empty.
 const WORD: usize = 256;
@@ -32,7 +32,7 @@ fn usage() {
 // The digits of a state with a newline behind those of its first n bytes.
 fn row(state: [u8; LARGEST], n: usize) -> [u8; ROW] {
     let mut digits = [0u8; ROW];
-    text::put_hex(&state, &mut digits);
+    base_hex::put_hex(&state, &mut digits);
     if n <= LARGEST {
         digits[2 * n] = NEWLINE;
     }
@@ -84,9 +84,9 @@ fn run(first: usize, second: usize, third: usize, back: bool) {
         return;
     }
     if back {
-        say(trial::back(&size[0..a], &rounds[0..b], &state[0..c]));
+        say(tool_trial::back(&size[0..a], &rounds[0..b], &state[0..c]));
     } else {
-        say(trial::forth(&size[0..a], &rounds[0..b], &state[0..c]));
+        say(tool_trial::forth(&size[0..a], &rounds[0..b], &state[0..c]));
     }
 }
 
@@ -106,7 +106,7 @@ fn main() {
     if n > WORD {
         return;
     }
-    if trial::is_back(&word[0..n]) {
+    if tool_trial::is_back(&word[0..n]) {
         run(2, 3, 4, true);
     } else {
         usage();

@@ -1,5 +1,5 @@
 -- `on_input` is safe and ends: what is asked about stands in the buffer. Assumes nothing.
-use Rattle.files.specs.Held.{held-within}
+use Rattle.tool_files.specs.Held.{held-within}
 use mathlib.Core.Path.{sym, _∙_}
 use borrow.Author.Needs.{needs}
 use Rattle.bundle.proofs.on_input.Statement.{statement}

@@ -1,5 +1,5 @@
 -- `compose` is safe and ends: the buffers keep their lengths, what is heard is within its buffer, and each turn leaves fewer. Assumes nothing.
-use Rattle.files.specs.Held.{heard-within}
+use Rattle.tool_files.specs.Held.{heard-within}
 use mathlib.Core.Path.{_≡_}
 use lib.ListN.{length}
 use native.Mathlib.Omega.{arith}

@@ -1,5 +1,5 @@
 -- `order` is safe and ends: a line begins within its row. Assumes nothing.
-use Rattle.orders.specs.Rows.{line-within}
+use Rattle.tool_orders.specs.Rows.{line-within}
 use mathlib.Core.Path.{sym, _∙_}
 use borrow.Author.Needs.{needs}
 use Rattle.compose.proofs.order.Statement.{statement}

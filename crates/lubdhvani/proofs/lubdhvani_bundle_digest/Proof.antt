@@ -1,7 +1,7 @@
 -- `lubdhvani_bundle_digest` meets its promise: the digest's answer, read off as a number. Assumes nothing.
 use mathlib.Core.Path.{_∙_, ap}
 use borrow.Author.Needs.{needs}
-use Rattle.bundling.specs.Answers.{digestNumber}
+use Rattle.bundle_write.specs.Answers.{digestNumber}
 use Rattle.lubdhvani.proofs.lubdhvani_bundle_digest.Statement.{statement}
 use Rattle.lubdhvani.proofs.lubdhvani_bundle_digest.Tie as tie
 

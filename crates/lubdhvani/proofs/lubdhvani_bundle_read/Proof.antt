@@ -1,7 +1,7 @@
 -- `lubdhvani_bundle_read` meets its promise: the reader's answer, read off as a number and a length. Assumes nothing.
 use mathlib.Core.Path.{_∙_, ap}
 use borrow.Author.Needs.{needs}
-use Rattle.glyphs.specs.Answers.{numberOf, lengthOf}
+use Rattle.bundle_read.specs.Answers.{numberOf, lengthOf}
 use Rattle.lubdhvani.proofs.lubdhvani_bundle_read.Statement.{statement}
 use Rattle.lubdhvani.proofs.lubdhvani_bundle_read.Tie as tie
 

@@ -1,7 +1,7 @@
 -- `lubdhvani_bundle_write` meets its promise: the writer's answer, read off as a number and a length. Assumes nothing.
 use mathlib.Core.Path.{_∙_, ap}
 use borrow.Author.Needs.{needs}
-use Rattle.bundling.specs.Answers.{writeNumber, writeLength}
+use Rattle.bundle_write.specs.Answers.{writeNumber, writeLength}
 use Rattle.lubdhvani.proofs.lubdhvani_bundle_write.Statement.{statement}
 use Rattle.lubdhvani.proofs.lubdhvani_bundle_write.Tie as tie
 

@@ -1,5 +1,5 @@
 -- `lubdhvani_digest` meets its promise: the digest's answer, read off as a number and a count. Assumes nothing.
-use Rattle.digest.specs.Answers.{numberOf, countOf}
+use Rattle.digest_call.specs.Answers.{numberOf, countOf}
 use mathlib.Core.Path.{_∙_, ap}
 use borrow.Author.Needs.{needs}
 use Rattle.lubdhvani.proofs.lubdhvani_digest.Statement.{statement}

@@ -1,4 +1,4 @@
--- `lubdhvani_feed` meets its contract: a walk of its MIR, by hand. The reference is passed on to `lending::feed`, and its answer is read off as a number.
+-- `lubdhvani_feed` meets its contract: a walk of its MIR, by hand. The reference is passed on to `running_call::feed`, and its answer is read off as a number.
 -- Assumes nothing.
 use mathlib.Core.Path.{_≡_, refl, ap, _∙_}
 use Prim.Native.Nat.{ℕ}
@@ -35,21 +35,21 @@ use denote.Triple.Table.{entered, cited}
 use denote.Triple.Walked.{says, Stays, gave-ref, stay-dropped, walkOf, goes-gave-ref, goes-dropped, Walks, ends-at, walked, walk-meets}
 use denote.Exit.{yes}
 use denote.Slice.{sliceVal, slice-vals, shr-slice-tells, ShrSlice, Room}
-use Rattle.running.specs.Running.{feedAnswer, feedRecord, feedNumber}
-use Rattle.running.specs.Cutting.{Feeds}
-use Rattle.running.specs.declared.Record.{Record}
-use Rattle.running.proofs.Record as T
-use Rattle.running.specs.declared.Fed.{Fed}
-use Rattle.running.proofs.Fed as S
-use Rattle.running.proofs.Fed.Laws as S′
-use Rattle.lending.proofs.feed as one
-use Rattle.lending.proofs.feed.Symbol as one-def
-use Rattle.lending.proofs.feed.Symbol.{name as #lending·feed}
-use Rattle.lending.proofs.feed.Met as one-thm
-use Rattle.feeding.proofs.feed_number as two
-use Rattle.feeding.proofs.feed_number.Symbol as two-def
-use Rattle.feeding.proofs.feed_number.Symbol.{name as #two}
-use Rattle.feeding.proofs.feed_number.Met as two-thm
+use Rattle.running_spec.specs.Running.{feedAnswer, feedRecord, feedNumber}
+use Rattle.running_spec.specs.Cutting.{Feeds}
+use Rattle.running_spec.specs.declared.Record.{Record}
+use Rattle.running_spec.proofs.Record as T
+use Rattle.running_spec.specs.declared.Fed.{Fed}
+use Rattle.running_spec.proofs.Fed as S
+use Rattle.running_spec.proofs.Fed.Laws as S′
+use Rattle.running_call.proofs.feed as one
+use Rattle.running_call.proofs.feed.Symbol as one-def
+use Rattle.running_call.proofs.feed.Symbol.{name as #lending·feed}
+use Rattle.running_call.proofs.feed.Met as one-thm
+use Rattle.running_steps.proofs.feed_number as two
+use Rattle.running_steps.proofs.feed_number.Symbol as two-def
+use Rattle.running_steps.proofs.feed_number.Symbol.{name as #two}
+use Rattle.running_steps.proofs.feed_number.Met as two-thm
 use Rattle.lubdhvani.proofs.lubdhvani_feed.Key.{name as #here}
 use Rattle.lubdhvani.proofs.lubdhvani_feed as here
 use Rattle.lubdhvani.proofs.lubdhvani_feed.Statement as stated
@@ -115,7 +115,7 @@ module _ {M : Type 1} (𝓤 : URA M) (H : Heap 𝓤) (A : Atoms 𝓤) (W : Given
         alloc1 ! (λ l₀. alloc1 ! (λ l₁. alloc1 ! (λ l₂. alloc1 ! (λ l₃. alloc1 ! (λ l₄. alloc0 ! $ params1 ! $ pass1 ! (init ! 6 refl (tt, tt)) $ pass1 ! (init ! 4 refl (tt, (tt, (record { fits = fits .0 }, tt)))) $ pass0 ! $
         -- [_4; …; _3; …; _2; …; _1; …; room for _0; …; what is had on entry]
         assigns ! (addr ! (from ! (hop ! (look ! 6 refl) (stop !)))) (from ! (stop !)) (init ! 0 refl (tt, tt)) $
-        -- `lending::feed`
+        -- `running_call::feed`
         move ! (10 ∷ []) $ use1 W (raw (One 𝓤 H A mem run .pre to-one)) goes-one $
         calls-at ! fm (One 𝓤 H A mem run) known-one to-one (and-then ! (load ! (from ! (stop !)) (look ! 1 refl)) (and-then ! (load ! (from ! (stop !)) (look ! 5 refl)) (no-more !))) (λ u.
         use1 W (later (some (λ (r : Fed). (tokens ⊛ ‵ (S.the-row .own r (u ∷ []))) ⊛ raw (ensured 𝓤 H A one.ended (one.clauses 𝓤 H A mem run) (κ, (κ₁, tt)) x tt r)))) (id⊢ 𝓤 _) $ await ! tt $ pick ! (λ r.

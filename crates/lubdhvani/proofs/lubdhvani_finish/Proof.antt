@@ -1,4 +1,4 @@
--- `lubdhvani_finish` meets its contract: a walk of its MIR, by hand. Record and buffer are passed on to `lending::finish`, and the count's place to
+-- `lubdhvani_finish` meets its contract: a walk of its MIR, by hand. Record and buffer are passed on to `running_call::finish`, and the count's place to
 -- what reads its answer off as numbers. Assumes nothing.
 use mathlib.Core.Path.{_≡_, refl, ap, _∙_}
 use Prim.Native.Nat.{ℕ}
@@ -35,17 +35,17 @@ use denote.Triple.Spec.{Meets, tripleOf}
 use denote.Triple.Table.{entered, cited}
 use denote.Triple.Walked.{says, Stays, gave-ref, gave-slice, walkOf, goes-gave-ref, goes-gave-slice, Walks, ends-at, walked, walk-meets}
 use denote.Slice.{sliceVal, slice-vals, mut-slice-tells, MutSlice, Room, finally}
-use Rattle.running.specs.Running.{finishAnswer, finishNumber, finishCount}
-use Rattle.running.specs.Cutting.{Finishes}
-use Rattle.running.specs.declared.Record.{Record}
-use Rattle.running.proofs.Record as T
-use Rattle.running.specs.declared.Finished.{Finished}
-use Rattle.running.proofs.Finished as S
-use Rattle.running.proofs.Finished.Laws as S′
-use Rattle.lending.proofs.finish as one
-use Rattle.lending.proofs.finish.Symbol as one-def
-use Rattle.lending.proofs.finish.Symbol.{name as #lending·finish}
-use Rattle.lending.proofs.finish.Met as one-thm
+use Rattle.running_spec.specs.Running.{finishAnswer, finishNumber, finishCount}
+use Rattle.running_spec.specs.Cutting.{Finishes}
+use Rattle.running_spec.specs.declared.Record.{Record}
+use Rattle.running_spec.proofs.Record as T
+use Rattle.running_spec.specs.declared.Finished.{Finished}
+use Rattle.running_spec.proofs.Finished as S
+use Rattle.running_spec.proofs.Finished.Laws as S′
+use Rattle.running_call.proofs.finish as one
+use Rattle.running_call.proofs.finish.Symbol as one-def
+use Rattle.running_call.proofs.finish.Symbol.{name as #lending·finish}
+use Rattle.running_call.proofs.finish.Met as one-thm
 use Rattle.lubdhvani.proofs.finish_report as two
 use Rattle.lubdhvani.proofs.finish_report.Symbol as two-def
 use Rattle.lubdhvani.proofs.finish_report.Symbol.{name as #two}
@@ -132,7 +132,7 @@ module _ {M : Type 1} (𝓤 : URA M) (H : Heap 𝓤) (A : Atoms 𝓤) (W : Given
         assigns ! (addr ! (from ! (hop ! (look ! 14 refl) (stop !)))) (from ! (stop !)) (init ! 6 refl (tt, tt)) $
         assigns ! (addr ! (from ! (fld ! refl (hop ! (look-in ! 12 (sub ! 0 refl (whole !))) (stop !))))) (from ! (stop !)) (init ! 4 refl (tt, tt)) $
         assigns ! (agg ! (and-then ! (load ! (from ! (stop !)) (look ! 4 refl)) (and-then ! (load ! (from ! (fld ! refl (stop !))) (look-in ! 12 (sub ! 1 refl (whole !)))) (no-more !)))) (from ! (stop !)) (init ! 2 refl (tt, (tt, (record { fits = room .0 }, tt)))) $
-        -- what `lending::finish` asks, and what is left for the second call
+        -- what `running_call::finish` asks, and what is left for the second call
         move ! (19 ∷ []) $ fsplit ! $ move ! (1 ∷ []) $ fsplit ! $ move ! (1 ∷ []) $ fsplit ! $ move ! (22 ∷ []) $ split ! $ move ! (1 ∷ []) $ split ! $
         move ! (5 ∷ 4 ∷ []) $ fjoin ! $ move ! (5 ∷ 0 ∷ []) $ fjoin ! $ nothing ! $ move ! (2 ∷ 0 ∷ []) $ join ! $ move ! (3 ∷ 0 ∷ []) $ join ! $
         use2 W (raw (One 𝓤 H A mem run .pre to-one)) goes-one $

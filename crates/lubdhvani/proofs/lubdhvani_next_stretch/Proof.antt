@@ -1,5 +1,5 @@
 -- `lubdhvani_next_stretch` meets its promise: the two places of the span. Assumes nothing.
-use Rattle.stream.specs.declared.Span.{Span}
+use Rattle.read_stretch.specs.declared.Span.{Span}
 use mathlib.Core.Path.{ap}
 use borrow.Author.Needs.{needs}
 use Rattle.lubdhvani.proofs.lubdhvani_next_stretch.Statement.{statement}

@@ -1,5 +1,5 @@
 -- `lubdhvani_open` meets its promise: the opening's answer, read off as a number and a count. Assumes nothing.
-use Rattle.sealing.specs.Answers.{openNumber, openCount}
+use Rattle.ingage_answers.specs.Answers.{openNumber, openCount}
 use mathlib.Core.Path.{_∙_, ap}
 use borrow.Author.Needs.{needs}
 use Rattle.lubdhvani.proofs.lubdhvani_open.Statement.{statement}

@@ -1,5 +1,5 @@
 -- `lubdhvani_seal` meets its promise: the sealing's answer, read off as a number and a count. Assumes nothing.
-use Rattle.sealing.specs.Answers.{sealNumber, sealCount}
+use Rattle.ingage_answers.specs.Answers.{sealNumber, sealCount}
 use mathlib.Core.Path.{_∙_, ap}
 use borrow.Author.Needs.{needs}
 use Rattle.lubdhvani.proofs.lubdhvani_seal.Statement.{statement}

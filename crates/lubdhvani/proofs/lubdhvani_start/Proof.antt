@@ -1,4 +1,4 @@
--- `lubdhvani_start` meets its contract: a walk of its MIR, by hand. The reference is passed on to `lending::start`, and its answer is read off as a number.
+-- `lubdhvani_start` meets its contract: a walk of its MIR, by hand. The reference is passed on to `running_call::start`, and its answer is read off as a number.
 -- Assumes nothing.
 use mathlib.Core.Path.{_≡_, refl, ap, _∙_}
 use Prim.Native.Nat.{ℕ, _<_, _^_}
@@ -33,21 +33,21 @@ use denote.Triple.Spec.{Meets, tripleOf}
 use denote.Triple.Table.{entered, cited}
 use denote.Triple.Walked.{says, Stays, gave-ref, stay-dropped, walkOf, goes-gave-ref, goes-dropped, Walks, ends-at, walked, walk-meets}
 use denote.Exit.{yes}
-use Rattle.running.specs.Running.{startAnswer, startRecord, startNumber}
-use Rattle.running.specs.Cutting.{Starts}
-use Rattle.running.specs.declared.Record.{Record}
-use Rattle.running.proofs.Record as T
-use Rattle.running.specs.declared.Started.{Started}
-use Rattle.running.proofs.Started as S
-use Rattle.running.proofs.Started.Laws as S′
-use Rattle.lending.proofs.start as one
-use Rattle.lending.proofs.start.Symbol as one-def
-use Rattle.lending.proofs.start.Symbol.{name as #lending·start}
-use Rattle.lending.proofs.start.Met as one-thm
-use Rattle.feeding.proofs.start_number as two
-use Rattle.feeding.proofs.start_number.Symbol as two-def
-use Rattle.feeding.proofs.start_number.Symbol.{name as #two}
-use Rattle.feeding.proofs.start_number.Met as two-thm
+use Rattle.running_spec.specs.Running.{startAnswer, startRecord, startNumber}
+use Rattle.running_spec.specs.Cutting.{Starts}
+use Rattle.running_spec.specs.declared.Record.{Record}
+use Rattle.running_spec.proofs.Record as T
+use Rattle.running_spec.specs.declared.Started.{Started}
+use Rattle.running_spec.proofs.Started as S
+use Rattle.running_spec.proofs.Started.Laws as S′
+use Rattle.running_call.proofs.start as one
+use Rattle.running_call.proofs.start.Symbol as one-def
+use Rattle.running_call.proofs.start.Symbol.{name as #lending·start}
+use Rattle.running_call.proofs.start.Met as one-thm
+use Rattle.running_steps.proofs.start_number as two
+use Rattle.running_steps.proofs.start_number.Symbol as two-def
+use Rattle.running_steps.proofs.start_number.Symbol.{name as #two}
+use Rattle.running_steps.proofs.start_number.Met as two-thm
 use Rattle.lubdhvani.proofs.lubdhvani_start.Key.{name as #here}
 use Rattle.lubdhvani.proofs.lubdhvani_start as here
 use Rattle.lubdhvani.proofs.lubdhvani_start.Statement as stated
@@ -113,7 +113,7 @@ module _ {M : Type 1} (𝓤 : URA M) (H : Heap 𝓤) (A : Atoms 𝓤) (W : Given
         alloc1 ! (λ l₀. alloc1 ! (λ l₁. alloc1 ! (λ l₂. alloc1 ! (λ l₃. alloc1 ! (λ l₄. alloc0 ! $ params1 ! $ pass1 ! (init ! 6 refl (tt, tt)) $ pass1 ! (init ! 4 refl (tt, record { fits = fits })) $ pass0 ! $
         -- [_4; …; _3; …; _2; …; _1; …; room for _0; …; what is had on entry]
         assigns ! (addr ! (from ! (hop ! (look ! 6 refl) (stop !)))) (from ! (stop !)) (init ! 0 refl (tt, tt)) $
-        -- `lending::start`
+        -- `running_call::start`
         move ! (10 ∷ []) $ use1 W (raw (One 𝓤 H A mem run .pre to-one)) goes-one $
         calls-at ! fm (One 𝓤 H A mem run) known-one to-one (and-then ! (load ! (from ! (stop !)) (look ! 1 refl)) (and-then ! (load ! (from ! (stop !)) (look ! 5 refl)) (no-more !))) (λ u.
         use1 W (later (some (λ (r : Started). (tokens ⊛ ‵ (S.the-row .own r (u ∷ []))) ⊛ raw (ensured 𝓤 H A one.ended (one.clauses 𝓤 H A mem run) (κ, tt) x tt r)))) (id⊢ 𝓤 _) $ await ! tt $ pick ! (λ r.

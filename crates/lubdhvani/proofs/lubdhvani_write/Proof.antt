@@ -1,9 +1,9 @@
 -- `lubdhvani_write` meets its promise: the writer's answer, read off as number, length and count. Assumes nothing.
-use Rattle.frame.specs.Answers as writing
+use Rattle.frame_write.specs.Answers as writing
 use mathlib.Core.Path.{_∙_, ap}
 use mathlib.Core.List.{[]}
-use Rattle.body.specs.declared.Edition.the-variants.{One}
-use Rattle.body.specs.Fields.{ownOf}
+use Rattle.frame_body.specs.declared.Edition.the-variants.{One}
+use Rattle.frame_body.specs.Fields.{ownOf}
 use Rattle.lubdhvani.specs.Named.{written-named}
 use borrow.Author.Needs.{needs}
 use Rattle.lubdhvani.proofs.lubdhvani_write.Statement.{statement}

@@ -1,8 +1,8 @@
 -- `lubdhvani_write_two` meets its promise: the answer of edition two's writer, read off as number, length and count. Assumes nothing.
-use Rattle.frame.specs.Answers as writing
+use Rattle.frame_write.specs.Answers as writing
 use mathlib.Core.Path.{_∙_, ap}
-use Rattle.body.specs.declared.Edition.the-variants.{Two}
-use Rattle.body.specs.Fields.{ownOf}
+use Rattle.frame_body.specs.declared.Edition.the-variants.{Two}
+use Rattle.frame_body.specs.Fields.{ownOf}
 use Rattle.lubdhvani.specs.Named.{written-named}
 use borrow.Author.Needs.{needs}
 use Rattle.lubdhvani.proofs.lubdhvani_write_two.Statement.{statement}

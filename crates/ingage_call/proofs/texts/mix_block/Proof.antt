@@ -1,0 +1,25 @@
+-- `mix_block` meets its promise: the part handed on is the block's first bytes. Assumes nothing.
+use mathlib.Core.Path.{_≡_}
+use Prim.Native.Nat.{_-_}
+use native.Mathlib.Omega.{arith}
+use borrow.Author.Needs.{needs}
+use Rattle.ingage_call.proofs.texts.mix_block.Statement.{statement}
+use Rattle.ingage_call.proofs.texts.mix_block.Tie as tie
+
+sub-mix : tie.Need-sub-mix
+sub-mix c = search needs
+
+part-mix-start : tie.Need-part-mix-start
+part-mix-start c = search needs
+
+part-mix-end : tie.Need-part-mix-end
+part-mix-end c = let m = c .before .pre .small in omega arith
+
+mix-requires : tie.Need-mix-requires
+mix-requires c κs = search needs
+
+returns : tie.Need-returns
+returns c = let e : c .before .before .before .args .z .rate - 0 ≡ c .before .before .before .args .z .rate = omega arith in rw e at (c .mix .ensures)
+
+pub mix-block-spec : {M : Type 1} → statement M
+mix-block-spec = tie.close (tie.spec sub-mix part-mix-start part-mix-end mix-requires returns)
