@@ -20,7 +20,7 @@ static const double REPEAT = 3e5, LONGEST = 4e9;
 
 static uint8_t message[LUBDHVANI_LONGEST_INPUT], out[LUBDHVANI_LONGEST_INPUT], stream[LUBDHVANI_LONGEST_INPUT];
 static uint8_t key[LUBDHVANI_LONGEST_KEY], nonce[LUBDHVANI_LONGEST_NONCE], font[LUBDHVANI_DIGEST], seal[LUBDHVANI_SEAL], line[LUBDHVANI_LONGEST_LINE];
-static size_t calls, stream_length, digested = sizeof message;
+static size_t stream_length, digested = sizeof message;
 
 typedef void permutes(uint8_t *, size_t);
 typedef void digests(unsigned, const uint8_t *, size_t, uint8_t *);
@@ -32,12 +32,12 @@ static const size_t key_of[LUBDHVANI_CIPHERS] = {16, 16, 16, 16, 32, 32}, nonce_
 static void ours_permute(uint8_t *s, size_t n) { lubdhvani_permute(s, n, LUBDHVANI_ROUNDS); }
 static void ours_digest(unsigned instance, const uint8_t *m, size_t length, uint8_t *to)
 {
-    lubdhvani_digest(instance, m, length, to, LUBDHVANI_DIGEST, &calls);
+    lubdhvani_digest(instance, m, length, to, LUBDHVANI_DIGEST);
 }
 static void ours_seal(unsigned i, const uint8_t *k, const uint8_t *n, const uint8_t *a, size_t alen, const uint8_t *m, size_t mlen,
                       uint8_t *to, uint8_t t[16])
 {
-    lubdhvani_seal(i, k, key_of[i - 1], n, nonce_of[i - 1], a, alen, m, mlen, to, mlen, t, LUBDHVANI_SEAL, &calls);
+    lubdhvani_seal(i, k, key_of[i - 1], n, nonce_of[i - 1], a, alen, m, mlen, to, mlen, t, LUBDHVANI_SEAL);
 }
 
 static permutes *const permute_by[VERSIONS] = {ours_permute, plain_sse2_permute, plain_bits_permute, plain_wrap_permute, plain_mod_permute};
@@ -128,12 +128,13 @@ static void fill_frames(size_t length, enum kind kind)
 {
     static const char order[] = "A123456789A 0123456789C 0000012345B";
     uint8_t frame[LUBDHVANI_FRAME];
-    size_t at = 0, n;
+    size_t at = 0;
     for (unsigned k = 0; at < length; k++) {
         nonce[0] = (uint8_t)k;
         nonce[1] = (uint8_t)(k >> 8);
-        lubdhvani_write(key, LUBDHVANI_KEY, nonce, LUBDHVANI_NONCE, font, sizeof font, LUBDHVANI_LAYOUT_NEITHER, (const uint8_t *)order,
-                        sizeof order - 1, frame, sizeof frame, &n, &calls);
+        const size_t n = lubdhvani_write(key, LUBDHVANI_KEY, nonce, LUBDHVANI_NONCE, font, sizeof font, LUBDHVANI_LAYOUT_NEITHER,
+                                         (const uint8_t *)order, sizeof order - 1, frame, sizeof frame)
+                             .length;
         if (kind == DAMAGED)
             frame[n / 2] ^= 0x01;
         for (size_t i = 0; i < n && at < length; i++)

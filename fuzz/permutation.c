@@ -119,11 +119,13 @@ int LLVMFuzzerTestOneInput(const uint8_t *data, size_t length)
     memcpy(head, data, headed);
     memcpy(state, data + headed, length - headed < MOST ? length - headed : MOST);
 
-    /* any count of rounds, one that a byte holds, or one at the bound */
+    /* any count of rounds, one that a byte holds, one at the bound, or one around which planes are drawn out anew */
     size_t rounds;
     memcpy(&rounds, head + 4, sizeof rounds);
     if (head[0] & 1)
         rounds = head[0] & 2 ? head[4] : LUBDHVANI_MOST_ROUNDS - 1 + head[4] % 4u;
+    if (head[0] & 4)
+        rounds = 1 + head[4] % 12u;
     /* a permitted size, or any up to the longest */
     const size_t size = head[1] & 3 ? sizes[head[2] % SIZES] : (head[2] + 256u * head[3]) % (MOST + 1);
     tried(state, size, rounds);

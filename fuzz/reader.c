@@ -1,6 +1,6 @@
 /* A fuzzer for writers, reader and converter, over include/lubdhvani.h (libFuzzer). An input is what the reader is told, a place, and either
- * a stream or a recipe for one: frames written, frames with something wrong, raw bytes, damage. The stream is read to its end,
- * and every answer is held to the rules of the header. fuzz/README.md says what this can and can't see. */
+ * a stream or a recipe for one: frames written, frames with something wrong, raw bytes, damage; or frames joined with fillers. The stream is
+ * read to its end, and every answer is held to the rules of the header. fuzz/README.md says what this can and can't see. */
 #define _DEFAULT_SOURCE
 #include "lubdhvani.h"
 
@@ -200,7 +200,6 @@ static size_t sealed_body(const struct own *own, const uint8_t *line, size_t n, 
 {
     const struct shape shape = shape_of(own->two);
     uint8_t *const at = body + shape.line_at;
-    size_t calls;
     put_head(body, 1, LUBDHVANI_NONCE);
     memcpy(body + NONCE_AT, own->nonce, LUBDHVANI_NONCE);
     put_head(body + FIELD_2, 2, LUBDHVANI_DIGEST);
@@ -211,23 +210,22 @@ static size_t sealed_body(const struct own *own, const uint8_t *line, size_t n, 
     }
     put_head(body + shape.field_3, 3, n);
     put_head(at + n, 4, LUBDHVANI_SEAL);
-    must(lubdhvani_seal(1, key, LUBDHVANI_KEY, own->nonce, LUBDHVANI_NONCE, body + FIELD_2, shape.associated, line, n, at, n, at + n + HEAD,
-                        LUBDHVANI_SEAL, &calls) == LUBDHVANI_DONE,
-         "a line is sealed");
-    must(calls == n + shape.calls, "the calls of sealing a line");
+    const struct lubdhvani_counted sealed = lubdhvani_seal(1, key, LUBDHVANI_KEY, own->nonce, LUBDHVANI_NONCE, body + FIELD_2, shape.associated,
+                                                           line, n, at, n, at + n + HEAD, LUBDHVANI_SEAL);
+    must(sealed.number == LUBDHVANI_DONE, "a line is sealed");
+    must(sealed.calls == n + shape.calls, "the calls of sealing a line");
     return shape.beside_line + n;
 }
 
 /* The writer of an edition, with just the room that it asks for. */
-static uint32_t written(const uint8_t *its_key, const uint8_t *its_font, size_t layout, const struct own *own, const uint8_t *line,
-                        size_t n, uint8_t *frame, size_t *length, size_t *calls)
+static struct lubdhvani_framed written(const uint8_t *its_key, const uint8_t *its_font, size_t layout, const struct own *own,
+                                       const uint8_t *line, size_t n, uint8_t *frame)
 {
     const size_t room = shape_of(own->two).room;
     if (own->two)
         return lubdhvani_write_two(its_key, LUBDHVANI_KEY, own->nonce, LUBDHVANI_NONCE, its_font, LUBDHVANI_DIGEST, layout, own->job,
-                                   LUBDHVANI_JOB, line, n, frame, room, length, calls);
-    return lubdhvani_write(its_key, LUBDHVANI_KEY, own->nonce, LUBDHVANI_NONCE, its_font, LUBDHVANI_DIGEST, layout, line, n, frame, room,
-                           length, calls);
+                                   LUBDHVANI_JOB, line, n, frame, room);
+    return lubdhvani_write(its_key, LUBDHVANI_KEY, own->nonce, LUBDHVANI_NONCE, its_font, LUBDHVANI_DIGEST, layout, line, n, frame, room);
 }
 
 /* A job as a reading tells it, its high byte first; none is zero. */
@@ -239,32 +237,68 @@ static size_t job_number(const struct own *own)
     return number;
 }
 
+/* No two orders share a frame (order W13): with one field changed, nonce, font digest, a digit of the line, or job or edition, the writer makes
+ * another frame. The seal's last bytes choose what is changed. */
+static void check_apart(const uint8_t *its_key, const uint8_t *its_font, size_t layout, const struct own *own, const uint8_t *line, size_t n,
+                        const uint8_t *frame, size_t length)
+{
+    const uint8_t field = frame[length - 2], at = frame[length - 3], bit = (uint8_t)(1 << field / 4 % 8);
+    uint8_t its_line[LUBDHVANI_LONGEST_LINE], digest[LUBDHVANI_DIGEST], other[LUBDHVANI_FRAME_TWO];
+    struct own its_own = *own;
+    memcpy(its_line, line, n);
+    memcpy(digest, its_font, sizeof digest);
+    switch (field % 4) {
+    case 0:
+        its_own.nonce[at % LUBDHVANI_NONCE] ^= bit;
+        break;
+    case 1:
+        digest[at % LUBDHVANI_DIGEST] ^= bit;
+        break;
+    case 2: /* a line that was written has a digit, and another one in its place makes a line too */
+        for (size_t i = at;; i++)
+            if (is_digit(its_line[i % n])) {
+                its_line[i % n] = (uint8_t)('0' + (its_line[i % n] - '0' + 1) % 10);
+                break;
+            }
+        break;
+    default:
+        if (own->two)
+            its_own.job[at % LUBDHVANI_JOB] ^= bit;
+        else
+            its_own.two = 1;
+    }
+    const struct lubdhvani_framed f = written(its_key, digest, layout, &its_own, its_line, n, other);
+    must(f.number == LUBDHVANI_DONE, "an order with one field changed is written too");
+    must(f.length != length || memcmp(other, frame, length) != 0, "no two orders share a frame");
+}
+
 /* The writer; what it wrote is read back alone, under the same layout. */
 static void write_line(const uint8_t *its_key, const uint8_t *its_font, size_t layout, const struct own *own, const uint8_t *line, size_t n)
 {
     const struct shape shape = shape_of(own->two);
     uint8_t frame[LUBDHVANI_FRAME_TWO + CANARY], back[LUBDHVANI_LONGEST_LINE];
-    size_t length, calls;
     memset(frame, UNTOUCHED, sizeof frame);
-    uint32_t number = written(its_key, its_font, layout, own, line, n, frame, &length, &calls);
+    const struct lubdhvani_framed f = written(its_key, its_font, layout, own, line, n, frame);
 
     uint32_t expected = n < 1 || n > LUBDHVANI_LONGEST_LINE ? LUBDHVANI_TOO_LONG : ruled(line, n, layout);
-    must(number == expected, "the writer's number");
-    must(number == LUBDHVANI_DONE ? calls == n + shape.calls && length >= shape.beside_line + n + 2 && length <= shape.room
-                                  : calls == 0 && length == 0,
+    must(f.number == expected, "the writer's number");
+    must(f.number == LUBDHVANI_DONE ? f.calls == n + shape.calls && f.length >= shape.beside_line + n + 2 && f.length <= shape.room
+                                    : f.calls == 0 && f.length == 0,
          "the writer's length and calls");
-    for (size_t i = length; i < sizeof frame; i++)
+    for (size_t i = f.length; i < sizeof frame; i++)
         must(frame[i] == UNTOUCHED, "the writer writes the frame only");
-    if (number != LUBDHVANI_DONE)
+    if (f.number != LUBDHVANI_DONE)
         return;
     struct lubdhvani_asked asked = everything;
     asked.layout = layout;
     const struct lubdhvani_reading r =
-        lubdhvani_read(frame, length, 0, its_key, LUBDHVANI_KEY, its_font, LUBDHVANI_DIGEST, asked, back, sizeof back);
-    must(r.number == LUBDHVANI_DONE && r.given && r.first == 1 && r.closing == length - 1 && r.length == n && memcmp(back, line, n) == 0,
+        lubdhvani_read(frame, f.length, 0, its_key, LUBDHVANI_KEY, its_font, LUBDHVANI_DIGEST, asked, back, sizeof back);
+    must(r.outcome == LUBDHVANI_LINE && r.number == LUBDHVANI_DONE && r.first == 1 && r.closing == f.length - 1 && r.length == n &&
+             memcmp(back, line, n) == 0,
          "a line that was written is read");
     must(r.edition == 1u + (own->two != 0) && r.job == job_number(own), "with its edition and its job");
-    append(frame, length);
+    check_apart(its_key, its_font, layout, own, line, n, frame, f.length);
+    append(frame, f.length);
 }
 
 static void damage(void)
@@ -428,8 +462,7 @@ struct told {
 /* What a stretch must be answered with: stuffing and fields are judged here, the seal by lubdhvani_open. */
 
 struct judged {
-    uint32_t number;
-    size_t length, calls;
+    size_t number, length, calls;
     struct own own;
     uint8_t line[LUBDHVANI_LONGEST_LINE];
 };
@@ -499,8 +532,10 @@ static struct judged judge(const uint8_t *stretch, size_t length, const struct t
     if (two)
         memcpy(j.own.job, body + JOB_AT, LUBDHVANI_JOB);
     const uint8_t *const at = body + shape.line_at;
-    j.number = lubdhvani_open(1, told->key, LUBDHVANI_KEY, j.own.nonce, LUBDHVANI_NONCE, body + FIELD_2, shape.associated, at, line,
-                              at + line + HEAD, LUBDHVANI_SEAL, j.line, sizeof j.line, &j.calls);
+    const struct lubdhvani_counted opened = lubdhvani_open(1, told->key, LUBDHVANI_KEY, j.own.nonce, LUBDHVANI_NONCE, body + FIELD_2,
+                                                           shape.associated, at, line, at + line + HEAD, LUBDHVANI_SEAL, j.line, sizeof j.line);
+    j.number = opened.number;
+    j.calls = opened.calls;
     must(j.number == LUBDHVANI_DONE || j.number == LUBDHVANI_BAD_SEAL, "a ciphertext is opened or its seal is wrong");
     for (size_t i = j.number == LUBDHVANI_DONE ? line : 0; i < sizeof j.line; i++)
         must(j.line[i] == 0, "nothing is left of a message whose seal is wrong, and nothing stands behind one that was opened");
@@ -515,26 +550,25 @@ static struct judged judge(const uint8_t *stretch, size_t length, const struct t
 static void check_rewritten(const struct judged *j, const struct told *told, const uint8_t *stretch, size_t length)
 {
     uint8_t frame[LUBDHVANI_FRAME_TWO];
-    size_t frame_length, calls;
-    must(written(told->key, told->font, told->asked.layout, &j->own, j->line, j->length, frame, &frame_length, &calls) == LUBDHVANI_DONE,
-         "a line given out can be written");
-    must(frame_length == length + 2 && memcmp(frame + 1, stretch, length) == 0, "a line is given out only for the writer's bytes");
+    const struct lubdhvani_framed f = written(told->key, told->font, told->asked.layout, &j->own, j->line, j->length, frame);
+    must(f.number == LUBDHVANI_DONE, "a line given out can be written");
+    must(f.length == length + 2 && memcmp(frame + 1, stretch, length) == 0, "a line is given out only for the writer's bytes");
 }
 
-/* The converter to an edition: its number, with what it must leave alone. */
-static uint32_t converted(const struct told *told, const uint8_t *stretch, size_t length, const struct own *own,
-                          uint8_t frame[LUBDHVANI_FRAME_TWO], size_t *frame_length)
+/* The converter to an edition, with what it must leave alone. */
+static struct lubdhvani_measured converted(const struct told *told, const uint8_t *stretch, size_t length, const struct own *own,
+                                           uint8_t frame[LUBDHVANI_FRAME_TWO])
 {
     memset(frame, UNTOUCHED, LUBDHVANI_FRAME_TWO);
     const size_t room = shape_of(own->two).room;
-    const uint32_t number =
+    const struct lubdhvani_measured c =
         own->two ? lubdhvani_to_two(stretch, length, told->key, LUBDHVANI_KEY, told->font, LUBDHVANI_DIGEST, told->asked.layout, own->nonce,
-                                    LUBDHVANI_NONCE, own->job, LUBDHVANI_JOB, frame, room, frame_length)
+                                    LUBDHVANI_NONCE, own->job, LUBDHVANI_JOB, frame, room)
                  : lubdhvani_to_one(stretch, length, told->key, LUBDHVANI_KEY, told->font, LUBDHVANI_DIGEST, told->asked.layout, own->nonce,
-                                    LUBDHVANI_NONCE, frame, room, frame_length);
-    for (size_t i = *frame_length; i < LUBDHVANI_FRAME_TWO; i++)
+                                    LUBDHVANI_NONCE, frame, room);
+    for (size_t i = c.length; i < LUBDHVANI_FRAME_TWO; i++)
         must(frame[i] == UNTOUCHED, "the converter writes the frame only");
-    return number;
+    return c;
 }
 
 /* A stretch handed to both calls of the converter, which are told the reader's layout. It is converted exactly where a reader of its edition
@@ -548,15 +582,15 @@ static void check_converted(const struct told *told, const uint8_t *stretch, siz
         const struct judged j = judge(stretch, length, &both);
         const struct own own = {.two = two, .nonce = {MARK, ESCAPE}, .job = {ESCAPE, MARK}};
         uint8_t frame[LUBDHVANI_FRAME_TWO], back[LUBDHVANI_FRAME_TWO];
-        size_t n, back_length;
-        const uint32_t number = converted(told, stretch, length, &own, frame, &n);
+        const struct lubdhvani_measured there = converted(told, stretch, length, &own, frame);
         const int shaped = j.number != LUBDHVANI_BAD_SHAPE && j.number != LUBDHVANI_BAD_STUFFING;
-        must(number == (shaped && j.own.two == two ? LUBDHVANI_OTHER_EDITION : j.number), "the converter's number");
-        must((n > 0) == (number == LUBDHVANI_DONE), "a frame is written exactly where the stretch is converted");
-        if (n == 0)
+        must(there.number == (shaped && j.own.two == two ? LUBDHVANI_OTHER_EDITION : j.number), "the converter's number");
+        must((there.length > 0) == (there.number == LUBDHVANI_DONE), "a frame is written exactly where the stretch is converted");
+        if (there.length == 0)
             continue;
-        must(converted(told, frame + 1, n - 2, &j.own, back, &back_length) == LUBDHVANI_DONE, "what was converted is converted back");
-        must(back_length == length + 2 && back[0] == MARK && back[length + 1] == MARK && memcmp(back + 1, stretch, length) == 0,
+        const struct lubdhvani_measured again = converted(told, frame + 1, there.length - 2, &j.own, back);
+        must(again.number == LUBDHVANI_DONE, "what was converted is converted back");
+        must(again.length == length + 2 && back[0] == MARK && back[length + 1] == MARK && memcmp(back + 1, stretch, length) == 0,
              "going back gives the first frame");
     }
 }
@@ -581,6 +615,18 @@ struct reading {
     uint8_t around[CANARY + LUBDHVANI_LONGEST_LINE + MORE_ROOM + CANARY];
 };
 
+/* A walker that stands at the place sees the same, and goes to where the reading ends. */
+static void check_step(const uint8_t *stream, size_t place, const struct told *told, const struct reading *r)
+{
+    struct lubdhvani_walker walker = {.stream = stream, .length = built, .at = place};
+    uint8_t line[LUBDHVANI_LONGEST_LINE + MORE_ROOM];
+    memset(line, UNTOUCHED, sizeof line);
+    const struct lubdhvani_reading step =
+        lubdhvani_next(&walker, told->key, LUBDHVANI_KEY, told->font, LUBDHVANI_DIGEST, told->asked, line, told->room);
+    must(memcmp(&step, &r->is, sizeof step) == 0 && memcmp(line, r->around + CANARY, told->room) == 0, "a walker reads what the read call reads");
+    must(walker.stream == stream && walker.length == built && walker.at == step.closing, "and stands where that reading ends");
+}
+
 static struct reading read_once(const uint8_t *stream, size_t place, const struct told *told)
 {
     struct reading r;
@@ -589,10 +635,12 @@ static struct reading read_once(const uint8_t *stream, size_t place, const struc
     for (size_t i = 0; i < sizeof r.around; i++)
         must((i >= CANARY && i < CANARY + r.is.length) || r.around[i] == UNTOUCHED, "the reader writes the line only");
     must(memcmp(stream, building, built) == 0, "the stream stays");
+    check_step(stream, place, told, &r);
     must(r.is.number <= LUBDHVANI_BEYOND || r.is.number == LUBDHVANI_NOT_TRADE || r.is.number == LUBDHVANI_OVER_WORK ||
              r.is.number == LUBDHVANI_OTHER_LAYOUT,
          "a number of the table");
-    must(r.is.given == (r.is.length > 0) && r.is.calls <= told->asked.allowed, "a line is told from the end, and no count is over what is allowed");
+    must((r.is.outcome == LUBDHVANI_LINE) == (r.is.length > 0) && r.is.calls <= told->asked.allowed,
+         "a line is told from the end, and no count is over what is allowed");
     *(r.is.length > 0 ? &lines_met : &numbers_met[r.is.number]) += 1;
     return r;
 }
@@ -608,7 +656,7 @@ static uint32_t refusal(size_t place, size_t room)
 
 static void check_end(const uint8_t *stream, size_t place, const struct reading *r)
 {
-    must(r->is.number == LUBDHVANI_DONE && r->is.closing == built && r->is.length == 0 && r->is.calls == 0, "the end of the stream");
+    must(r->is.outcome == LUBDHVANI_END && r->is.number == LUBDHVANI_DONE && r->is.closing == built && r->is.length == 0 && r->is.calls == 0, "the end of the stream");
     for (size_t i = place, run = 0, opened = 0; i < built; i++) {
         must(!(opened && run > 0 && stream[i] == MARK), "no stretch is passed over at the end");
         run = stream[i] == MARK ? 0 : run + 1;
@@ -632,6 +680,7 @@ static void check_judged(const uint8_t *stream, const struct told *told, const s
     const size_t length = r->is.closing - r->is.first;
     const struct judged j = judge(stream + r->is.first, length, told);
     must(r->is.number == j.number && r->is.length == j.length && r->is.calls == j.calls, "the answer is the one its rules give");
+    must(r->is.outcome == (j.number == LUBDHVANI_DONE ? LUBDHVANI_LINE : LUBDHVANI_STRETCH_REFUSED), "a line or a stretch refused");
     must(memcmp(r->around + CANARY, j.line, r->is.length) == 0, "the line is the one that was sealed");
     must(r->is.edition == (j.length == 0 ? 0 : 1u + (j.own.two != 0)) && r->is.job == (j.length == 0 ? 0 : job_number(&j.own)),
          "edition and job are the line's, and zero without one");
@@ -650,35 +699,206 @@ static void check_alone(const uint8_t *stream, const struct told *told, const st
     uint8_t line[LUBDHVANI_LONGEST_LINE];
     const struct lubdhvani_reading alone = lubdhvani_read(stream + r->is.first - 1, built - r->is.first + 1, 0, told->key, LUBDHVANI_KEY,
                                                           told->font, LUBDHVANI_DIGEST, told->asked, line, sizeof line);
-    must(alone.number == r->is.number && alone.first == 1 && alone.closing == r->is.closing - r->is.first + 1 && alone.length == r->is.length &&
+    must(alone.outcome == r->is.outcome && alone.number == r->is.number && alone.first == 1 && alone.closing == r->is.closing - r->is.first + 1 && alone.length == r->is.length &&
              alone.calls == r->is.calls && memcmp(line, r->around + CANARY, alone.length) == 0,
          "what stands before a mark changes nothing behind it");
 }
 
 static void read_all(const uint8_t *stream, size_t place, const struct told *told)
 {
-    for (uint32_t before = MET_NONE;;) {
+    for (size_t before = MET_NONE;;) {
         const struct reading r = read_once(stream, place, told);
         met[MET_NUMBERS * before + r.is.number]++;
         before = r.is.number;
 
         const uint32_t refused = refusal(place, told->room);
         if (refused != 0) {
-            must(r.is.number == refused && r.is.first == place && r.is.closing == place && r.is.length == 0 && r.is.calls == 0, "the call is refused");
+            must(r.is.outcome == LUBDHVANI_CALL_REFUSED && r.is.number == refused && r.is.first == place && r.is.closing == place &&
+                     r.is.length == 0 && r.is.calls == 0,
+                 "the call is refused");
             return;
         }
-        size_t first, closing;
-        lubdhvani_next_stretch(stream, built, place, &first, &closing);
-        must(r.is.first == first && r.is.closing == closing, "next_stretch finds the same");
-        if (first == built) {
+        const struct lubdhvani_span next = lubdhvani_next_stretch(stream, built, place);
+        must(r.is.first == next.first && r.is.closing == next.closing, "next_stretch finds the same");
+        if (next.first == built) {
             check_end(stream, place, &r);
             return;
         }
         check_places(stream, place, &r);
         check_judged(stream, told, &r);
         check_alone(stream, told, &r);
-        place = closing;
+        place = next.closing;
     }
+}
+
+/* The nonce of what stands between two marks is the one that is found here, where the bytes are the fields of a body. */
+static void check_nonce(const uint8_t *stretch, size_t length)
+{
+    static const uint8_t none[LUBDHVANI_NONCE];
+    uint8_t body[LUBDHVANI_LONGEST_STRETCH];
+    size_t n;
+    const struct lubdhvani_nonce_found its = lubdhvani_nonce(stretch, length);
+    const int found = length <= LUBDHVANI_LONGEST_STRETCH && unstuffed(stretch, length, body, &n) && (has_fields(body, n, 0) || has_fields(body, n, 1));
+    must(its.found == (found ? 1u : 0u), "a nonce is found exactly in the fields of a body");
+    must(memcmp(its.bytes, found ? body + NONCE_AT : none, LUBDHVANI_NONCE) == 0, "it is that of the body, or zeros");
+}
+
+/* Accepting the stream (order W12): what it must answer, stretch by stretch as they are judged here, with all the work allowed. */
+static void check_accepted(const uint8_t *stream, const struct told *told)
+{
+    static uint8_t seen[LUBDHVANI_MOST_STRETCHES][LUBDHVANI_NONCE];
+    struct told all = *told;
+    all.asked.allowed = LUBDHVANI_ALL_WORK;
+    size_t number = LUBDHVANI_DONE, first = built, closing = built, count = 0, place = 0;
+    struct lubdhvani_span next;
+
+    for (size_t from = 0; (next = lubdhvani_next_stretch(stream, built, from)).first != built; from = next.closing)
+        if (++count > LUBDHVANI_MOST_STRETCHES)
+            break;
+    if (built > LUBDHVANI_LONGEST_INPUT || count > LUBDHVANI_MOST_STRETCHES) {
+        number = built > LUBDHVANI_LONGEST_INPUT ? LUBDHVANI_TOO_LONG : LUBDHVANI_TOO_MANY;
+        first = closing = 0;
+    } else {
+        for (size_t lines = 0; number == LUBDHVANI_DONE && lines < count; lines++) {
+            next = lubdhvani_next_stretch(stream, built, place);
+            const struct judged j = judge(stream + next.first, next.closing - next.first, &all);
+            number = j.number;
+            check_nonce(stream + next.first, next.closing - next.first);
+            for (size_t i = 0; number == LUBDHVANI_DONE && i < lines; i++)
+                if (memcmp(seen[i], j.own.nonce, LUBDHVANI_NONCE) == 0)
+                    number = LUBDHVANI_REPEATED;
+            memcpy(seen[lines], j.own.nonce, LUBDHVANI_NONCE);
+            if (number != LUBDHVANI_DONE) {
+                first = next.first;
+                closing = next.closing;
+            }
+            place = next.closing;
+        }
+    }
+    const struct lubdhvani_accepted a =
+        lubdhvani_accept(stream, built, told->key, LUBDHVANI_KEY, told->font, LUBDHVANI_DIGEST, told->asked.editions, told->asked.layout);
+    must(a.number == number && a.first == first && a.closing == closing, "the stream is accepted, or its first stretch at fault is named");
+}
+
+/* Frames joined with fillers (order W13): what must be read, one by one. With no line it is a refusal. */
+
+struct expected {
+    size_t first, closing, length;
+    struct own own;
+    uint8_t line[LUBDHVANI_LONGEST_LINE];
+};
+
+/* A line that the writer takes under the layout. */
+static size_t take_accepted(uint8_t *line, size_t layout)
+{
+    const int laid = layout != LUBDHVANI_LAYOUT_NEITHER;
+    const size_t n = laid ? LAYOUT_BESIDE + (layout == LUBDHVANI_LAYOUT_A ? 10 : 12) : 1u + take() % LUBDHVANI_LONGEST_LINE;
+    for (size_t i = 0; i < n; i++)
+        line[i] = (uint8_t)('0' + take() % 10);
+    if (laid) {
+        line[0] = line[BETWEEN + 1] = TRANSIT;
+        line[n - 1] = ON_US;
+    }
+    return n;
+}
+
+/* Appends a frame with its marks, or what stands between them alone. */
+static struct expected append_made(const uint8_t *its_key, size_t layout, int marks)
+{
+    struct expected e = {.own = take_own()};
+    uint8_t frame[LUBDHVANI_FRAME_TWO];
+    e.length = take_accepted(e.line, layout);
+    const struct lubdhvani_framed f = written(its_key, font, layout, &e.own, e.line, e.length, frame);
+    must(f.number == LUBDHVANI_DONE, "a line that the rules take is written");
+    e.first = built + (marks ? 1 : 0);
+    e.closing = e.first + f.length - 2;
+    append(marks ? frame : frame + 1, marks ? f.length : f.length - 2);
+    return e;
+}
+
+/* The filler behind a frame: none, bytes of the input, more of them than a stretch may have, badly stuffed ones, or what stands between the
+ * marks of a frame of another key, or of this one, which must be read as its line. */
+static struct expected append_filler(size_t layout)
+{
+    enum { NONE, SOME, LONG, BAD, OF_OTHER_KEY, OF_THIS_KEY, KINDS };
+    static const uint8_t zero = 0, escape = ESCAPE;
+    const int kind = take() % KINDS;
+    struct expected e = {.first = built};
+    if (kind == OF_OTHER_KEY || kind == OF_THIS_KEY) {
+        e = append_made(kind == OF_THIS_KEY ? key : other_key, layout, 0);
+        e.length = kind == OF_THIS_KEY ? e.length : 0;
+        return e;
+    }
+    for (size_t n = kind == NONE ? 0 : kind == LONG ? LUBDHVANI_LONGEST_STRETCH + 1u + take() : take(); n > 0; n--) {
+        const uint8_t byte = take();
+        append(byte == MARK ? &zero : &byte, 1);
+    }
+    if (kind == BAD)
+        append(&escape, 1);
+    e.closing = built;
+    return e;
+}
+
+static void check_joined(size_t layout)
+{
+    enum { FRAMES = 4 };
+    struct told told = {key, font, LUBDHVANI_LONGEST_LINE, everything};
+    struct expected all[2 * FRAMES];
+    size_t place = 0, n = 0;
+    told.asked.layout = layout;
+    for (size_t left = 1 + take() % FRAMES; left > 0; left--) {
+        all[n++] = append_made(key, layout, 1);
+        const struct expected filler = append_filler(layout);
+        if (left > 1 && filler.first < filler.closing)
+            all[n++] = filler;
+    }
+    const uint8_t *const stream = lent_stream();
+    for (size_t i = 0; i < n; i++) {
+        const struct expected *const e = &all[i];
+        const struct reading r = read_once(stream, place, &told);
+        must(r.is.first == e->first && r.is.closing == e->closing, "frames and fillers are read where they stand");
+        must(r.is.outcome == (e->length > 0 ? LUBDHVANI_LINE : LUBDHVANI_STRETCH_REFUSED) && r.is.length == e->length &&
+                 memcmp(r.around + CANARY, e->line, e->length) == 0,
+             "a frame is read as its line, and a filler is refused unless it is what stands between the marks of one");
+        must(e->length == 0 || (r.is.edition == 1u + (e->own.two != 0) && r.is.job == job_number(&e->own) &&
+                                r.is.calls == e->length + shape_of(e->own.two).calls),
+             "a joined line comes with its edition, job and calls");
+        place = r.is.closing;
+    }
+    const struct reading r = read_once(stream, place, &told);
+    must(r.is.outcome == LUBDHVANI_END && r.is.closing == built, "the filler behind the last frame leaves nothing");
+}
+
+/* An index of the stream: fresh, and from the stream cut off at a place and then whole; each entry is what the read call sees, and each look-up says so. */
+static void check_index(const uint8_t *stream, size_t place, const struct told *told)
+{
+    static uint32_t table[LUBDHVANI_INDEX], grown[LUBDHVANI_INDEX];
+    const struct lubdhvani_asked asked = {.editions = told->asked.editions, .allowed = LUBDHVANI_ALL_WORK, .layout = told->asked.layout};
+    uint8_t line[LUBDHVANI_LONGEST_LINE];
+    size_t from = 0, lines = 0;
+    if (built > LUBDHVANI_LONGEST_INPUT)
+        return;
+    const struct lubdhvani_indexed up = lubdhvani_index_update(stream, built, told->key, LUBDHVANI_KEY, told->font, LUBDHVANI_DIGEST, asked.editions,
+                                                               asked.layout, table, LUBDHVANI_INDEX, 0);
+    struct lubdhvani_indexed part = lubdhvani_index_update(stream, place < built ? place : built, told->key, LUBDHVANI_KEY, told->font,
+                                                           LUBDHVANI_DIGEST, asked.editions, asked.layout, grown, LUBDHVANI_INDEX, 0);
+    if (part.number == LUBDHVANI_DONE) {
+        part = lubdhvani_index_update(stream, built, told->key, LUBDHVANI_KEY, told->font, LUBDHVANI_DIGEST, asked.editions, asked.layout, grown,
+                                      LUBDHVANI_INDEX, part.count);
+        must(part.number == up.number, "an index brought up to date has the fresh build's number");
+        must(up.number != LUBDHVANI_DONE || (part.count == up.count && memcmp(grown, table, up.count * sizeof *table) == 0), "and its entries");
+    }
+    must(up.number == LUBDHVANI_DONE || (up.number == LUBDHVANI_TOO_MANY && up.count == 0), "an index is built, or there are too many stretches");
+    for (size_t i = 0; i < up.count; i++) {
+        const struct lubdhvani_reading r =
+            lubdhvani_read(stream, built, from, told->key, LUBDHVANI_KEY, told->font, LUBDHVANI_DIGEST, asked, line, sizeof line);
+        const struct lubdhvani_entry e = lubdhvani_index_entry(table, LUBDHVANI_INDEX, up.count, i);
+        must(e.there == 1 && e.place == r.first && e.number == r.number, "an entry is what the read call sees");
+        if (r.outcome == LUBDHVANI_LINE)
+            must(lubdhvani_index_line(table, LUBDHVANI_INDEX, up.count, ++lines).index == i, "a line is found by its count");
+        from = r.closing;
+    }
+    must(lubdhvani_index_line(table, LUBDHVANI_INDEX, up.count, lines + 1).there == 0, "no line behind the last");
 }
 
 int LLVMFuzzerInitialize(int *argc, char ***argv)
@@ -705,6 +925,10 @@ int LLVMFuzzerTestOneInput(const uint8_t *data, size_t size)
     size_t place = take_two();
     const uint8_t work = take(), editions = take();
     const size_t layout = take_layout();
+    if ((how & 0x07) == 0x06) {
+        check_joined(layout % 3);
+        return 0;
+    }
     if (how & 0x01)
         append(input, input_left);
     else
@@ -717,5 +941,7 @@ int LLVMFuzzerTestOneInput(const uint8_t *data, size_t size)
         {.editions = editions, .allowed = work & 0x80 ? work & 0x7F : LUBDHVANI_ALL_WORK, .layout = layout},
     };
     read_all(lent_stream(), place, &told);
+    check_index(lent_stream(), place, &told);
+    check_accepted(lent_stream(), &told);
     return 0;
 }

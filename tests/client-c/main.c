@@ -1,5 +1,6 @@
 /* A composer and a press in small, over include/lubdhvani.h: twelve lines are sealed and sent, the link damages some of them,
- * and the press lists what arrives. Every answer is compared with the one expected; the status is 1 if one differs. */
+ * and the press lists what arrives. Every answer is compared with the one expected; the status is 1 if one differs. VERSION_TOLD is the version
+ * of the file VERSION, as one number. */
 #include "lubdhvani.h"
 
 #include <stdio.h>
@@ -57,12 +58,13 @@ static void check_digest(void)
         0x3D, 0x55, 0x7E, 0x63, 0x35, 0xEB, 0xC0, 0x69, 0xB1, 0x35, 0x18, 0xF3, 0x9D, 0x50, 0xAB, 0xD8,
         0x7B, 0xA7, 0xA6, 0x7A, 0xE3, 0xC3, 0xEB, 0x93, 0x56, 0xFA, 0xD5, 0x18, 0x9B, 0x2B, 0xA9, 0xF0};
     uint8_t digest[LUBDHVANI_DIGEST];
-    size_t calls;
+    struct lubdhvani_counted d = lubdhvani_digest(1, NULL, 0, digest, sizeof digest);
 
-    check(lubdhvani_digest(1, NULL, 0, digest, sizeof digest, &calls) == LUBDHVANI_DONE, "the empty message is digested");
+    check(d.number == LUBDHVANI_DONE, "the empty message is digested");
     check(memcmp(digest, expected, sizeof digest) == 0, "its digest");
-    check(calls == 33, "the calls of its digest");
-    check(lubdhvani_digest(11, NULL, 0, digest, sizeof digest, &calls) == LUBDHVANI_UNKNOWN && calls == 0, "there is no instance 11");
+    check(d.calls == 33, "the calls of its digest");
+    d = lubdhvani_digest(11, NULL, 0, digest, sizeof digest);
+    check(d.number == LUBDHVANI_UNKNOWN && d.calls == 0, "there is no instance 11");
 }
 
 /* A font digested as it loads, through a window of 512 bytes: the same digest and the same count. */
@@ -73,8 +75,8 @@ static void check_running(void)
 {
     static uint8_t loaded[3 * WINDOW + 77];
     struct lubdhvani_running running = {0}, before;
+    struct lubdhvani_counted finished, at_once;
     uint8_t whole[LUBDHVANI_DIGEST], digest[LUBDHVANI_DIGEST];
-    size_t calls, whole_calls;
 
     for (size_t i = 0; i < sizeof loaded; i++)
         loaded[i] = (uint8_t)(7 * i);
@@ -86,11 +88,13 @@ static void check_running(void)
     }
     before = running;
     check(lubdhvani_feed(&running, loaded, LUBDHVANI_LONGEST_INPUT) == LUBDHVANI_TOO_LONG, "more than 65,536 bytes are too long");
-    check(lubdhvani_finish(&running, digest, sizeof digest - 1, &calls) == LUBDHVANI_NO_ROOM && calls == 0, "31 bytes are no room");
+    finished = lubdhvani_finish(&running, digest, sizeof digest - 1);
+    check(finished.number == LUBDHVANI_NO_ROOM && finished.calls == 0, "31 bytes are no room");
     check(memcmp(&running, &before, sizeof running) == 0, "refusals leave the record as it was");
-    check(lubdhvani_finish(&running, digest, sizeof digest, &calls) == LUBDHVANI_DONE, "the digest is given");
-    check(lubdhvani_digest(1, loaded, sizeof loaded, whole, sizeof whole, &whole_calls) == LUBDHVANI_DONE
-              && memcmp(digest, whole, sizeof digest) == 0 && calls == whole_calls,
+    finished = lubdhvani_finish(&running, digest, sizeof digest);
+    check(finished.number == LUBDHVANI_DONE, "the digest is given");
+    at_once = lubdhvani_digest(1, loaded, sizeof loaded, whole, sizeof whole);
+    check(at_once.number == LUBDHVANI_DONE && memcmp(digest, whole, sizeof digest) == 0 && finished.calls == at_once.calls,
           "it is that of the whole, with its count");
     check(lubdhvani_feed(&running, loaded, 0) == LUBDHVANI_AFTER_FINISH, "a finished digest can't be fed");
 }
@@ -102,23 +106,20 @@ static void check_seal(void)
     static const uint8_t nonce[LUBDHVANI_NONCE] = "never again", message[] = "0000012500B";
     uint8_t cipher[sizeof message], seal[LUBDHVANI_SEAL], back[sizeof message + 1];
     const size_t n = sizeof message;
-    size_t calls;
+    struct lubdhvani_counted c = lubdhvani_seal(1, key, sizeof key, nonce, sizeof nonce, font, sizeof font, message, n, cipher,
+                                                sizeof cipher, seal, sizeof seal);
 
-    check(lubdhvani_seal(1, key, sizeof key, nonce, sizeof nonce, font, sizeof font, message, n, cipher, sizeof cipher, seal,
-                         sizeof seal, &calls) == LUBDHVANI_DONE,
-          "a message is sealed");
-    check(calls == sizeof font + n + 4, "the calls of sealing");
+    check(c.number == LUBDHVANI_DONE, "a message is sealed");
+    check(c.calls == sizeof font + n + 4, "the calls of sealing");
 
     memset(back, 0xEE, sizeof back);
-    check(lubdhvani_open(1, key, sizeof key, nonce, sizeof nonce, font, sizeof font, cipher, n, seal, sizeof seal, back, sizeof back,
-                         &calls) == LUBDHVANI_DONE,
-          "it is opened");
+    c = lubdhvani_open(1, key, sizeof key, nonce, sizeof nonce, font, sizeof font, cipher, n, seal, sizeof seal, back, sizeof back);
+    check(c.number == LUBDHVANI_DONE, "it is opened");
     check(memcmp(back, message, n) == 0 && back[n] == 0xEE, "the message comes back, and nothing behind it");
 
     seal[15] ^= 0x01;
-    check(lubdhvani_open(1, key, sizeof key, nonce, sizeof nonce, font, sizeof font, cipher, n, seal, sizeof seal, back, sizeof back,
-                         &calls) == LUBDHVANI_BAD_SEAL,
-          "a wrong seal is refused");
+    c = lubdhvani_open(1, key, sizeof key, nonce, sizeof nonce, font, sizeof font, cipher, n, seal, sizeof seal, back, sizeof back);
+    check(c.number == LUBDHVANI_BAD_SEAL, "a wrong seal is refused");
     check(all_are(0, back, n) && back[n] == 0xEE, "nothing of the message is left, and nothing behind it changed");
 }
 
@@ -131,22 +132,20 @@ static void check_instances(void)
     enum { RATE = 8 };
     uint8_t cipher[sizeof message], seal[LUBDHVANI_SEAL], back[sizeof message];
     const size_t n = sizeof message;
-    size_t calls;
+    struct lubdhvani_counted c = lubdhvani_seal(LUBDHVANI_CIPHERS, long_key, sizeof long_key, nonce, sizeof nonce, font, sizeof font, message,
+                                                n, cipher, sizeof cipher, seal, sizeof seal);
 
-    check(lubdhvani_seal(LUBDHVANI_CIPHERS, long_key, sizeof long_key, nonce, sizeof nonce, font, sizeof font, message, n, cipher,
-                         sizeof cipher, seal, sizeof seal, &calls) == LUBDHVANI_DONE,
-          "a message is sealed with the last instance");
-    check(calls == 4 + sizeof font / RATE + n / RATE, "the calls of sealing eight bytes at a time");
-    check(lubdhvani_open(LUBDHVANI_CIPHERS, long_key, sizeof long_key, nonce, sizeof nonce, font, sizeof font, cipher, n, seal,
-                         sizeof seal, back, sizeof back, &calls) == LUBDHVANI_DONE,
-          "it is opened with the last instance");
+    check(c.number == LUBDHVANI_DONE, "a message is sealed with the last instance");
+    check(c.calls == 4 + sizeof font / RATE + n / RATE, "the calls of sealing eight bytes at a time");
+    c = lubdhvani_open(LUBDHVANI_CIPHERS, long_key, sizeof long_key, nonce, sizeof nonce, font, sizeof font, cipher, n, seal, sizeof seal,
+                       back, sizeof back);
+    check(c.number == LUBDHVANI_DONE, "it is opened with the last instance");
     check(memcmp(back, message, n) == 0, "its message comes back");
-    check(lubdhvani_open(LUBDHVANI_CIPHERS, key, sizeof key, nonce, sizeof nonce, font, sizeof font, cipher, n, seal, sizeof seal,
-                         back, sizeof back, &calls) == LUBDHVANI_SIZES,
-          "a shorter key is not its key");
-    check(lubdhvani_open(LUBDHVANI_CIPHERS + 1, NULL, 0, NULL, 0, NULL, 0, cipher, n, NULL, 0, NULL, 0, &calls) == LUBDHVANI_UNKNOWN
-              && calls == 0,
-          "there is no instance 7");
+    c = lubdhvani_open(LUBDHVANI_CIPHERS, key, sizeof key, nonce, sizeof nonce, font, sizeof font, cipher, n, seal, sizeof seal, back,
+                       sizeof back);
+    check(c.number == LUBDHVANI_SIZES, "a shorter key is not its key");
+    c = lubdhvani_open(LUBDHVANI_CIPHERS + 1, NULL, 0, NULL, 0, NULL, 0, cipher, n, NULL, 0, NULL, 0);
+    check(c.number == LUBDHVANI_UNKNOWN && c.calls == 0, "there is no instance 7");
 }
 
 /* A line of blanks is not the trade's. */
@@ -155,14 +154,13 @@ static void check_trade(void)
 {
     static const uint8_t nonce[LUBDHVANI_NONCE] = "once only";
     uint8_t blanks[LUBDHVANI_LONGEST_LINE], frame[LUBDHVANI_FRAME];
-    size_t length, calls;
 
     memset(blanks, ' ', sizeof blanks);
     memset(frame, 0xEE, sizeof frame);
-    check(lubdhvani_write(key, sizeof key, nonce, sizeof nonce, font, sizeof font, LUBDHVANI_LAYOUT_NEITHER, blanks, sizeof blanks, frame,
-                          sizeof frame, &length, &calls) == LUBDHVANI_NOT_TRADE,
-          "a line of blanks is refused");
-    check(length == 0 && calls == 0 && all_are(0xEE, frame, sizeof frame), "and no frame is written");
+    const struct lubdhvani_framed f = lubdhvani_write(key, sizeof key, nonce, sizeof nonce, font, sizeof font, LUBDHVANI_LAYOUT_NEITHER, blanks,
+                                                      sizeof blanks, frame, sizeof frame);
+    check(f.number == LUBDHVANI_NOT_TRADE, "a line of blanks is refused");
+    check(f.length == 0 && f.calls == 0 && all_are(0xEE, frame, sizeof frame), "and no frame is written");
 }
 
 /* A line of layout A: written and read under A and under neither, refused under B and under a number that is no layout. */
@@ -177,7 +175,8 @@ static void check_read_under(size_t layout, int has, const uint8_t *frame, size_
     memset(line, '#', sizeof line);
     const struct lubdhvani_reading r = lubdhvani_read(frame, length, 0, key, sizeof key, font, sizeof font, asked, line, sizeof line);
 
-    check(r.number == (has ? LUBDHVANI_DONE : LUBDHVANI_OTHER_LAYOUT) && r.given == (uint32_t)has, what);
+    check(r.number == (has ? LUBDHVANI_DONE : LUBDHVANI_OTHER_LAYOUT), what);
+    check(r.outcome == (has ? LUBDHVANI_LINE : LUBDHVANI_STRETCH_REFUSED), "it is a line, or a stretch refused");
     check(r.calls == OF_A + 39 && r.closing == length - 1, "the stretch was worked out, and reading goes on behind it");
     check(has ? r.length == OF_A && memcmp(line, of_a, OF_A) == 0 : all_are('#', line, sizeof line), "its line is given, or none");
 }
@@ -196,19 +195,19 @@ static void check_layouts(void)
         {3, 0, "a line of A under 3, which is no layout"},
     };
     uint8_t frame[LUBDHVANI_FRAME], other[LUBDHVANI_FRAME];
-    size_t length, calls, none;
+    const struct lubdhvani_framed f =
+        lubdhvani_write(key, sizeof key, nonce, sizeof nonce, font, sizeof font, LUBDHVANI_LAYOUT_A, of_a, OF_A, frame, sizeof frame);
 
-    check(lubdhvani_write(key, sizeof key, nonce, sizeof nonce, font, sizeof font, LUBDHVANI_LAYOUT_A, of_a, OF_A, frame, sizeof frame, &length, &calls) == LUBDHVANI_DONE,
-          "a line of A is written");
+    check(f.number == LUBDHVANI_DONE, "a line of A is written");
     memset(other, 0xEE, sizeof other);
     for (size_t i = 0; i < sizeof named / sizeof named[0]; i++) {
-        check_read_under(named[i].layout, named[i].has, frame, length, named[i].what);
+        check_read_under(named[i].layout, named[i].has, frame, f.length, named[i].what);
         if (named[i].has)
             continue;
-        check(lubdhvani_write(key, sizeof key, nonce, sizeof nonce, font, sizeof font, named[i].layout, of_a, OF_A, other,
-                              sizeof other, &none, &calls) == LUBDHVANI_OTHER_LAYOUT,
-              "it is not written either");
-        check(none == 0 && calls == 0 && all_are(0xEE, other, sizeof other), "and no frame is there");
+        const struct lubdhvani_framed none =
+            lubdhvani_write(key, sizeof key, nonce, sizeof nonce, font, sizeof font, named[i].layout, of_a, OF_A, other, sizeof other);
+        check(none.number == LUBDHVANI_OTHER_LAYOUT, "it is not written either");
+        check(none.length == 0 && none.calls == 0 && all_are(0xEE, other, sizeof other), "and no frame is there");
     }
 }
 
@@ -237,7 +236,7 @@ enum { ORDERS = sizeof orders / sizeof orders[0] };
 
 /* What the press must find. Noise comes before the first line. */
 static const struct {
-    uint32_t number;
+    size_t number;
     const char *line;
 } expected[] = {
     {LUBDHVANI_BAD_STUFFING, ""},
@@ -296,21 +295,21 @@ static void compose(void)
     for (size_t k = 0; k < ORDERS; k++) {
         const uint8_t *line = (const uint8_t *)orders[k].line, *its_font = orders[k].damage == OTHER_FONT ? other_font : font;
         uint8_t nonce[LUBDHVANI_NONCE] = {0}, frame[LUBDHVANI_FRAME + 1];
-        size_t length, calls, n = strlen(orders[k].line);
+        const size_t n = strlen(orders[k].line);
 
         nonce[11] = (uint8_t)k; /* the line's number; a nonce is never used twice with one key */
-        check(lubdhvani_write(key, sizeof key, nonce, sizeof nonce, its_font, LUBDHVANI_DIGEST, LUBDHVANI_LAYOUT_NEITHER, line, n, frame,
-                              sizeof frame, &length, &calls) == LUBDHVANI_DONE,
-              "a line is written");
-        check(length >= n + 74 && length <= LUBDHVANI_FRAME && calls == n + 39, "the frame's length and calls");
-        send(frame, damaged(orders[k].damage, frame, length));
+        const struct lubdhvani_framed f = lubdhvani_write(key, sizeof key, nonce, sizeof nonce, its_font, LUBDHVANI_DIGEST,
+                                                          LUBDHVANI_LAYOUT_NEITHER, line, n, frame, sizeof frame);
+        check(f.number == LUBDHVANI_DONE, "a line is written");
+        check(f.length >= n + 74 && f.length <= LUBDHVANI_FRAME && f.calls == n + 39, "the frame's length and calls");
+        send(frame, damaged(orders[k].damage, frame, f.length));
     }
     send(cut_off, sizeof cut_off); /* the start of a frame that never came: no stretch */
 }
 
 /* The press: reads from place to place up to the end of the stream, beat by beat, and lists what it finds. */
 
-static const char *meaning(uint32_t number)
+static const char *meaning(size_t number)
 {
     switch (number) {
     case LUBDHVANI_BAD_SEAL:
@@ -352,17 +351,18 @@ static struct lubdhvani_reading read_in_beats(size_t place, uint8_t line[LUBDHVA
 
 static void print_row(const struct lubdhvani_reading *r, const uint8_t *line)
 {
-    if (r->given)
+    if (r->outcome == LUBDHVANI_LINE)
         printf("%5zu  line     %.*s\n", r->first, (int)r->length, (const char *)line);
     else
-        printf("%5zu  refused  %u %s\n", r->first, (unsigned)r->number, meaning(r->number));
+        printf("%5zu  refused  %zu %s\n", r->first, r->number, meaning(r->number));
 }
 
 /* What the press must find in this row. */
 static void check_row(size_t row, const struct lubdhvani_reading *r, const uint8_t line[LUBDHVANI_LONGEST_LINE])
 {
     size_t n = strlen(expected[row].line);
-    check(r->number == expected[row].number && r->given == (n > 0), "the number of this stretch");
+    check(r->number == expected[row].number, "the number of this stretch");
+    check(r->outcome == (n > 0 ? LUBDHVANI_LINE : LUBDHVANI_STRETCH_REFUSED), "it is a line, or a stretch refused");
     check(r->length == n && memcmp(line, expected[row].line, n) == 0, "its line is the one that was sealed, or none");
     check(all_are('#', line + n, LUBDHVANI_LONGEST_LINE - n), "nothing else is written");
 }
@@ -373,23 +373,22 @@ static void press(void)
 
     for (;;) {
         uint8_t line[LUBDHVANI_LONGEST_LINE];
-        size_t first, closing;
         const struct lubdhvani_reading r = read_in_beats(place, line);
-        lubdhvani_next_stretch(stream, stream_length, place, &first, &closing);
-        check(r.first == first && r.closing == closing, "next_stretch finds the stretch that was read");
-        if (r.number == LUBDHVANI_DONE && !r.given) {
-            check(first == stream_length && closing == stream_length, "the end of the stream is its length");
+        const struct lubdhvani_span next = lubdhvani_next_stretch(stream, stream_length, place);
+        check(r.first == next.first && r.closing == next.closing, "next_stretch finds the stretch that was read");
+        if (r.outcome == LUBDHVANI_END) {
+            check(r.number == LUBDHVANI_DONE && r.first == stream_length && r.closing == stream_length, "the end of the stream is its length");
             break;
         }
         print_row(&r, line);
-        if (!(place < first && first < closing && closing < stream_length && row < EXPECTED)) {
+        if (!(place < r.first && r.first < r.closing && r.closing < stream_length && row < EXPECTED)) {
             check(0, "reading goes on, from stretch to stretch, as many as there are");
             return;
         }
         check_row(row, &r, line);
-        printed += r.given;
+        printed += r.outcome == LUBDHVANI_LINE;
         row++;
-        place = closing;
+        place = r.closing;
     }
     check(row == EXPECTED, "every stretch was read");
     printf("client-c: %d lines sent, %zu printed, %zu stretches refused\n", ORDERS, printed, row - printed);
@@ -399,42 +398,159 @@ static void press(void)
 
 static void check_parts(const uint8_t *bundle, size_t length, const uint8_t *rows)
 {
-    size_t first, size;
-    lubdhvani_bundle_name(bundle, length, &first, &size);
-    check(size == 6 && memcmp(bundle + first, "sample", 6) == 0, "the name of the bundle");
-    lubdhvani_bundle_rows(bundle, length, 'D', &first, &size);
-    check(size == LUBDHVANI_GLYPH_ROWS && memcmp(bundle + first, rows + 13 * LUBDHVANI_GLYPH_ROWS, size) == 0, "the rows of D");
-    lubdhvani_bundle_rows(bundle, length, 'E', &first, &size);
-    check(first == length && size == 0, "E is none of the fourteen");
+    struct lubdhvani_part part = lubdhvani_bundle_name(bundle, length);
+    check(part.length == 6 && memcmp(bundle + part.first, "sample", 6) == 0, "the name of the bundle");
+    part = lubdhvani_bundle_rows(bundle, length, 'D');
+    check(part.length == LUBDHVANI_GLYPH_ROWS && memcmp(bundle + part.first, rows + 13 * LUBDHVANI_GLYPH_ROWS, part.length) == 0,
+          "the rows of D");
+    part = lubdhvani_bundle_rows(bundle, length, 'E');
+    check(part.first == length && part.length == 0, "E is none of the fourteen");
 }
 
 static void check_bundle(void)
 {
     uint8_t rows[LUBDHVANI_BUNDLE_ROWS], bundle[LUBDHVANI_BUNDLE], digest[LUBDHVANI_DIGEST], plain[LUBDHVANI_DIGEST];
     const uint8_t *name = (const uint8_t *)"sample";
-    size_t length, name_length, calls;
     for (size_t i = 0; i < sizeof rows; i++)
         rows[i] = (uint8_t)(11 * i % 127);
 
-    check(lubdhvani_bundle_write(name, 6, rows, sizeof rows, bundle, sizeof bundle, &length) == LUBDHVANI_DONE, "a bundle is written");
-    check(length == 191, "185 bytes and the name");
-    check(lubdhvani_bundle_read(bundle, length, &name_length) == LUBDHVANI_DONE && name_length == 6, "and read");
-    check_parts(bundle, length, rows);
-    check(lubdhvani_bundle_digest(bundle, length, digest, sizeof digest) == LUBDHVANI_DONE, "it is digested");
-    check(lubdhvani_digest(1, bundle, length, plain, sizeof plain, &calls) == LUBDHVANI_DONE, "so are its bytes");
+    struct lubdhvani_measured made = lubdhvani_bundle_write(name, 6, rows, sizeof rows, bundle, sizeof bundle), read;
+    check(made.number == LUBDHVANI_DONE && made.length == 191, "a bundle is written, 185 bytes and the name");
+    read = lubdhvani_bundle_read(bundle, made.length);
+    check(read.number == LUBDHVANI_DONE && read.length == 6, "and read");
+    check_parts(bundle, made.length, rows);
+    check(lubdhvani_bundle_digest(bundle, made.length, digest, sizeof digest) == LUBDHVANI_DONE, "it is digested");
+    check(lubdhvani_digest(1, bundle, made.length, plain, sizeof plain).number == LUBDHVANI_DONE, "so are its bytes");
     check(memcmp(digest, plain, sizeof digest) == 0, "its digest is that of its bytes");
 
-    check(lubdhvani_bundle_read(bundle, length - 1, &name_length) == LUBDHVANI_NO_BUNDLE, "a bundle cut short is none");
+    read = lubdhvani_bundle_read(bundle, made.length - 1);
+    check(read.number == LUBDHVANI_NO_BUNDLE && read.length == 0, "a bundle cut short is none");
     memcpy(rows, rows + 5 * LUBDHVANI_GLYPH_ROWS, LUBDHVANI_GLYPH_ROWS);
-    check(lubdhvani_bundle_write(name, 6, rows, sizeof rows, bundle, sizeof bundle, &length) == LUBDHVANI_ALIKE, "two glyphs alike");
+    made = lubdhvani_bundle_write(name, 6, rows, sizeof rows, bundle, sizeof bundle);
+    check(made.number == LUBDHVANI_ALIKE && made.length == 0, "two glyphs alike");
     rows[0] |= 0x80;
-    check(lubdhvani_bundle_write(name, 6, rows, sizeof rows, bundle, sizeof bundle, &length) == LUBDHVANI_NO_BUNDLE, "a top bit");
+    check(lubdhvani_bundle_write(name, 6, rows, sizeof rows, bundle, sizeof bundle).number == LUBDHVANI_NO_BUNDLE, "a top bit");
+}
+
+/* The same stream by a walker, with all the work allowed: what it sees is what the press must find. */
+
+static void check_walker(void)
+{
+    static const struct lubdhvani_asked asked = {.editions = LUBDHVANI_EDITION_ONE, .allowed = LUBDHVANI_ALL_WORK};
+    struct lubdhvani_walker walker = {.stream = stream, .length = stream_length};
+    uint8_t line[LUBDHVANI_LONGEST_LINE];
+
+    for (size_t row = 0; row < EXPECTED; row++) {
+        const size_t from = walker.at;
+        memset(line, '#', sizeof line);
+        const struct lubdhvani_reading r = lubdhvani_next(&walker, key, sizeof key, font, sizeof font, asked, line, sizeof line);
+        check_row(row, &r, line);
+        check(from < r.first && walker.at == r.closing, "the walker stands where its reading ends");
+        check(walker.stream == stream && walker.length == stream_length, "its stream stays");
+    }
+    struct lubdhvani_reading r = lubdhvani_next(&walker, key, sizeof key, font, sizeof font, asked, line, sizeof line);
+    check(r.outcome == LUBDHVANI_END && walker.at == stream_length, "then it is at the end");
+    walker.at = 7;
+    r = lubdhvani_next(&walker, key, sizeof key - 1, font, sizeof font, asked, line, sizeof line);
+    check(r.outcome == LUBDHVANI_CALL_REFUSED && r.number == LUBDHVANI_SIZES && walker.at == 7, "a refused call moves no walker");
+}
+
+/* A bureau's stream: accepted whole, and its first stretch at fault. */
+
+static void check_accept(void)
+{
+    static uint8_t sent[8 * LUBDHVANI_FRAME_TWO];
+    uint8_t nonce[LUBDHVANI_NONCE] = "a bureau's";
+    static const uint8_t line[] = "A123456789A 42C", job[LUBDHVANI_JOB] = {0, 0, 0, 7};
+    size_t places[5], length = 0;
+
+    for (size_t i = 0; i < 4; i++) {
+        struct lubdhvani_framed made;
+        places[i] = length;
+        nonce[11] = (uint8_t)i;
+        if (i % 2)
+            made = lubdhvani_write_two(key, sizeof key, nonce, sizeof nonce, font, sizeof font, LUBDHVANI_LAYOUT_NEITHER, job, sizeof job, line,
+                                       sizeof line - 1, sent + length, sizeof sent - length);
+        else
+            made = lubdhvani_write(key, sizeof key, nonce, sizeof nonce, font, sizeof font, LUBDHVANI_LAYOUT_NEITHER, line, sizeof line - 1,
+                                   sent + length, sizeof sent - length);
+        check(made.number == LUBDHVANI_DONE, "the bureau's line is sealed");
+        const struct lubdhvani_nonce_found its = lubdhvani_nonce(sent + length + 1, made.length - 2);
+        check(its.found == 1 && memcmp(its.bytes, nonce, sizeof nonce) == 0, "the nonce of its stretch");
+        check(lubdhvani_nonce(sent + length, made.length).found == 0, "none with the marks among the bytes");
+        length += made.length;
+    }
+    places[4] = length;
+    struct lubdhvani_accepted a =
+        lubdhvani_accept(sent, length, key, sizeof key, font, sizeof font, LUBDHVANI_BOTH_EDITIONS, LUBDHVANI_LAYOUT_NEITHER);
+    check(a.number == LUBDHVANI_DONE && a.first == length && a.closing == length, "the bureau's stream gets yes");
+    a = lubdhvani_accept(sent, length, key, sizeof key, font, sizeof font, LUBDHVANI_EDITION_ONE, LUBDHVANI_LAYOUT_NEITHER);
+    check(a.number == LUBDHVANI_BAD_SHAPE && a.first == places[1] + 1 && a.closing == places[2] - 1, "edition two is not allowed");
+    /* The second line once more, behind all: the copy is the fault. */
+    memcpy(sent + length, sent + places[1], places[2] - places[1]);
+    a = lubdhvani_accept(sent, length + places[2] - places[1], key, sizeof key, font, sizeof font, LUBDHVANI_BOTH_EDITIONS, LUBDHVANI_LAYOUT_NEITHER);
+    check(a.number == LUBDHVANI_REPEATED && a.first == length + 1, "a nonce twice: the second stretch is named");
+    sent[places[4] - 2] ^= 1;
+    a = lubdhvani_accept(sent, length, key, sizeof key, font, sizeof font, LUBDHVANI_BOTH_EDITIONS, LUBDHVANI_LAYOUT_NEITHER);
+    check(a.number == LUBDHVANI_BAD_SEAL && a.first == places[3] + 1 && a.closing == places[4] - 1, "a broken seal at the end");
+    a = lubdhvani_accept(sent, length, key, sizeof key - 1, font, sizeof font, LUBDHVANI_BOTH_EDITIONS, LUBDHVANI_LAYOUT_NEITHER);
+    check(a.number == LUBDHVANI_SIZES && a.first == 0 && a.closing == 0, "a key of 15 bytes");
+}
+
+/* The four outcomes of a reading beside the press's three: a call that is refused. */
+
+static void check_refused_call(void)
+{
+    static const struct lubdhvani_asked asked = {.editions = LUBDHVANI_EDITION_ONE, .allowed = LUBDHVANI_ALL_WORK};
+    uint8_t line[LUBDHVANI_LONGEST_LINE];
+    memset(line, '#', sizeof line);
+    const struct lubdhvani_reading r =
+        lubdhvani_read(stream, stream_length, stream_length + 1, key, sizeof key, font, sizeof font, asked, line, sizeof line);
+    check(r.outcome == LUBDHVANI_CALL_REFUSED && r.number == LUBDHVANI_BEYOND, "a place beyond the end is refused");
+    check(r.first == stream_length + 1 && r.closing == r.first && all_are('#', line, sizeof line), "its place comes back, and no line");
+}
+
+/* An index beside the stream: each row's place and number, the lines counted, and the same table from the stream as it grows. */
+
+static void check_index(void)
+{
+    static uint32_t table[LUBDHVANI_INDEX], fresh[LUBDHVANI_INDEX];
+    struct lubdhvani_indexed up = {0}, whole;
+    struct lubdhvani_walker walker = {.stream = stream, .length = stream_length};
+    uint8_t line[LUBDHVANI_LONGEST_LINE];
+    size_t lines = 0;
+
+    for (size_t length = 0; length <= stream_length; length++) {
+        up = lubdhvani_index_update(stream, length, key, sizeof key, font, sizeof font, LUBDHVANI_EDITION_ONE, LUBDHVANI_LAYOUT_NEITHER, table,
+                                    LUBDHVANI_INDEX, up.count);
+        check(up.number == LUBDHVANI_DONE, "the index is brought up to date");
+    }
+    whole = lubdhvani_index_update(stream, stream_length, key, sizeof key, font, sizeof font, LUBDHVANI_EDITION_ONE, LUBDHVANI_LAYOUT_NEITHER, fresh,
+                                   LUBDHVANI_INDEX, 0);
+    check(whole.count == up.count && memcmp(table, fresh, up.count * sizeof *table) == 0, "byte by byte it is what a fresh build gives");
+    check(up.count == EXPECTED, "an entry for each stretch");
+    for (size_t row = 0; row < up.count; row++) {
+        static const struct lubdhvani_asked asked = {.editions = LUBDHVANI_EDITION_ONE, .allowed = LUBDHVANI_ALL_WORK};
+        const struct lubdhvani_reading r = lubdhvani_next(&walker, key, sizeof key, font, sizeof font, asked, line, sizeof line);
+        const struct lubdhvani_entry e = lubdhvani_index_entry(table, LUBDHVANI_INDEX, up.count, row);
+        check(e.there == 1 && e.place == r.first && e.number == r.number, "with its place and its number");
+        if (r.outcome == LUBDHVANI_LINE) {
+            const struct lubdhvani_entry_line at = lubdhvani_index_line(table, LUBDHVANI_INDEX, up.count, ++lines);
+            check(at.there == 1 && at.index == row && at.place == r.first, "and each line is found by its count");
+        }
+    }
+    check(lubdhvani_index_entry(table, LUBDHVANI_INDEX, up.count, up.count).there == 0, "no entry behind the last");
+    check(lubdhvani_index_line(table, LUBDHVANI_INDEX, up.count, lines + 1).there == 0, "no line behind the last");
+    up = lubdhvani_index_update(stream, 0, key, sizeof key, font, sizeof font, LUBDHVANI_EDITION_ONE, LUBDHVANI_LAYOUT_NEITHER, table,
+                                LUBDHVANI_INDEX, up.count);
+    check(up.number == LUBDHVANI_BEYOND && up.count == EXPECTED, "an index of a longer stream is refused");
 }
 
 int main(void)
 {
-    size_t calls;
-    check(lubdhvani_digest(1, font_file, sizeof font_file - 1, font, sizeof font, &calls) == LUBDHVANI_DONE, "the font is digested");
+    check(lubdhvani_version() == LUBDHVANI_VERSION, "library and header are of one version");
+    check(LUBDHVANI_VERSION == VERSION_TOLD, "it is the one of the file VERSION");
+    check(lubdhvani_digest(1, font_file, sizeof font_file - 1, font, sizeof font).number == LUBDHVANI_DONE, "the font is digested");
     check_permutation();
     check_digest();
     check_running();
@@ -442,9 +558,13 @@ int main(void)
     check_instances();
     check_trade();
     check_layouts();
+    check_accept();
     check_bundle();
     compose();
     press();
+    check_walker();
+    check_refused_call();
+    check_index();
     puts(wrong ? "client-c: not as expected" : "client-c: all as expected");
     return wrong;
 }

@@ -6,7 +6,7 @@
 use std::process::exit;
 
 /// The calls of include/lubdhvani.h as safe functions: a slice is a pointer and
-/// its length, and what goes out through pointers is given back.
+/// its length.
 mod lubdhvani {
     pub const KEY: usize = 16;
     pub const NONCE: usize = 12;
@@ -15,20 +15,29 @@ mod lubdhvani {
     pub const LONGEST_LINE: usize = 65;
     pub const FRAME: usize = 276;
 
-    pub const DONE: u32 = 0;
-    pub const INSTANCE: u32 = 1;
-    pub const BAD_SEAL: u32 = 5;
-    pub const BAD_STUFFING: u32 = 6;
-    pub const BAD_SHAPE: u32 = 7;
-    pub const OTHER_FONT: u32 = 8;
-    pub const UNLISTED: u32 = 9;
-    pub const NO_BUNDLE: u32 = 11;
-    pub const ALIKE: u32 = 12;
-    pub const NOT_TRADE: u32 = 13;
-    pub const OVER_WORK: u32 = 15;
-    pub const OTHER_LAYOUT: u32 = 17;
-    pub const NO_ROUNDS: u32 = 18;
+    pub const DONE: usize = 0;
+    pub const INSTANCE: usize = 1;
+    pub const BAD_SEAL: usize = 5;
+    pub const BAD_STUFFING: usize = 6;
+    pub const BAD_SHAPE: usize = 7;
+    pub const OTHER_FONT: usize = 8;
+    pub const UNLISTED: usize = 9;
+    pub const NO_BUNDLE: usize = 11;
+    pub const ALIKE: usize = 12;
+    pub const NOT_TRADE: usize = 13;
+    pub const OVER_WORK: usize = 15;
+    pub const OTHER_LAYOUT: usize = 17;
+    pub const NO_ROUNDS: usize = 18;
+    pub const REPEATED: usize = 22;
 
+    /// What a reading is.
+    pub const END: usize = 0;
+    pub const LINE: usize = 1;
+    pub const STRETCH_REFUSED: usize = 2;
+    pub const CALL_REFUSED: usize = 3;
+
+    /// The header's version.
+    pub const VERSION: u32 = 20000;
     /// Enough for every stretch.
     pub const ALL_WORK: usize = 111;
     pub const EDITION_ONE: usize = 1;
@@ -42,129 +51,206 @@ mod lubdhvani {
         fn lubdhvani_unpermute(state: *mut u8, size: usize, rounds: usize) -> u32;
         fn lubdhvani_digest(
             instance: usize, message: *const u8, message_length: usize, out: *mut u8, room: usize,
-            calls: *mut usize,
-        ) -> u32;
+        ) -> Counted;
         fn lubdhvani_seal(
             instance: usize, key: *const u8, key_length: usize, nonce: *const u8, nonce_length: usize,
             associated: *const u8, associated_length: usize, message: *const u8, message_length: usize,
-            out: *mut u8, room: usize, seal: *mut u8, seal_length: usize, calls: *mut usize,
-        ) -> u32;
+            out: *mut u8, room: usize, seal: *mut u8, seal_length: usize,
+        ) -> Counted;
         fn lubdhvani_open(
             instance: usize, key: *const u8, key_length: usize, nonce: *const u8, nonce_length: usize,
             associated: *const u8, associated_length: usize, cipher: *const u8, cipher_length: usize,
-            seal: *const u8, seal_length: usize, out: *mut u8, room: usize, calls: *mut usize,
-        ) -> u32;
+            seal: *const u8, seal_length: usize, out: *mut u8, room: usize,
+        ) -> Counted;
         fn lubdhvani_write(
             key: *const u8, key_length: usize, nonce: *const u8, nonce_length: usize,
             font: *const u8, font_length: usize, layout: usize, line: *const u8, line_length: usize,
-            frame: *mut u8, room: usize, length: *mut usize, calls: *mut usize,
-        ) -> u32;
-        fn lubdhvani_next_stretch(
-            stream: *const u8, stream_length: usize, from: usize, first: *mut usize, closing: *mut usize,
-        );
+            frame: *mut u8, room: usize,
+        ) -> Framed;
+        fn lubdhvani_next_stretch(stream: *const u8, stream_length: usize, from: usize) -> Span;
         fn lubdhvani_read(
             stream: *const u8, stream_length: usize, from: usize, key: *const u8, key_length: usize,
             font: *const u8, font_length: usize, asked: Asked, line: *mut u8, room: usize,
         ) -> Reading;
+        fn lubdhvani_next(
+            walker: *mut RawWalker, key: *const u8, key_length: usize,
+            font: *const u8, font_length: usize, asked: Asked, line: *mut u8, room: usize,
+        ) -> Reading;
+        fn lubdhvani_index_update(
+            stream: *const u8, stream_length: usize, key: *const u8, key_length: usize,
+            font: *const u8, font_length: usize, editions: usize, layout: usize,
+            table: *mut u32, entries: usize, count: usize,
+        ) -> Indexed;
+        fn lubdhvani_index_entry(table: *const u32, entries: usize, count: usize, index: usize) -> Entry;
+        fn lubdhvani_index_line(table: *const u32, entries: usize, count: usize, k: usize) -> EntryLine;
         fn lubdhvani_bundle_write(
             name: *const u8, name_length: usize, rows: *const u8, rows_length: usize,
-            bundle: *mut u8, room: usize, length: *mut usize,
-        ) -> u32;
-        fn lubdhvani_bundle_read(bundle: *const u8, bundle_length: usize, length: *mut usize) -> u32;
+            bundle: *mut u8, room: usize,
+        ) -> Measured;
+        fn lubdhvani_bundle_read(bundle: *const u8, bundle_length: usize) -> Measured;
         fn lubdhvani_bundle_digest(
             bundle: *const u8, bundle_length: usize, out: *mut u8, room: usize,
         ) -> u32;
-        fn lubdhvani_bundle_name(
-            bundle: *const u8, bundle_length: usize, first: *mut usize, length: *mut usize,
-        );
-        fn lubdhvani_bundle_rows(
-            bundle: *const u8, bundle_length: usize, character: u8, first: *mut usize,
-            length: *mut usize,
-        );
+        fn lubdhvani_bundle_name(bundle: *const u8, bundle_length: usize) -> Part;
+        fn lubdhvani_bundle_rows(bundle: *const u8, bundle_length: usize, character: u8) -> Part;
+        fn lubdhvani_accept(
+            stream: *const u8, stream_length: usize, key: *const u8, key_length: usize, font: *const u8, font_length: usize,
+            editions: usize, layout: usize,
+        ) -> Accepted;
+        fn lubdhvani_nonce(stretch: *const u8, stretch_length: usize) -> NonceFound;
+        fn lubdhvani_version() -> u32;
+    }
+
+    /// A number, and a count of calls of the permutation.
+    #[repr(C)]
+    #[derive(Clone, Copy, PartialEq)]
+    pub struct Counted {
+        pub number: usize,
+        pub calls: usize,
+    }
+
+    /// A number, and the length of what was written or found.
+    #[repr(C)]
+    #[derive(Clone, Copy, PartialEq)]
+    pub struct Measured {
+        pub number: usize,
+        pub length: usize,
+    }
+
+    /// What a writer answers.
+    #[repr(C)]
+    #[derive(Clone, Copy, PartialEq)]
+    pub struct Framed {
+        pub number: usize,
+        pub length: usize,
+        pub calls: usize,
+    }
+
+    #[repr(C)]
+    struct Span {
+        first: usize,
+        closing: usize,
+    }
+
+    #[repr(C)]
+    struct Part {
+        first: usize,
+        length: usize,
     }
 
     // SAFETY, here and below: each pointer is to as many bytes as are said, and
     // what is written is borrowed for writing, so that nothing else shares it.
-    pub fn permute(state: &mut [u8], rounds: usize) -> u32 {
-        unsafe { lubdhvani_permute(state.as_mut_ptr(), state.len(), rounds) }
+    pub fn permute(state: &mut [u8], rounds: usize) -> usize {
+        unsafe { lubdhvani_permute(state.as_mut_ptr(), state.len(), rounds) as usize }
     }
 
-    pub fn unpermute(state: &mut [u8], rounds: usize) -> u32 {
-        unsafe { lubdhvani_unpermute(state.as_mut_ptr(), state.len(), rounds) }
+    pub fn unpermute(state: &mut [u8], rounds: usize) -> usize {
+        unsafe { lubdhvani_unpermute(state.as_mut_ptr(), state.len(), rounds) as usize }
     }
 
-    /// Number and calls.
+    pub fn version() -> u32 {
+        unsafe { lubdhvani_version() }
+    }
+
     #[rustfmt::skip]
-    pub fn digest(instance: usize, message: &[u8], out: &mut [u8]) -> (u32, usize) {
-        let mut calls = 0;
-        let number = unsafe {
-            lubdhvani_digest(
-                instance, message.as_ptr(), message.len(), out.as_mut_ptr(), out.len(), &mut calls,
-            )
-        };
-        (number, calls)
+    pub fn digest(instance: usize, message: &[u8], out: &mut [u8]) -> Counted {
+        unsafe {
+            lubdhvani_digest(instance, message.as_ptr(), message.len(), out.as_mut_ptr(), out.len())
+        }
     }
 
-    /// Number and calls.
     #[rustfmt::skip]
     pub fn seal(
         instance: usize, key: &[u8], nonce: &[u8], associated: &[u8], message: &[u8], out: &mut [u8], seal: &mut [u8],
-    ) -> (u32, usize) {
-        let mut calls = 0;
-        let number = unsafe {
+    ) -> Counted {
+        unsafe {
             lubdhvani_seal(
                 instance, key.as_ptr(), key.len(), nonce.as_ptr(), nonce.len(),
                 associated.as_ptr(), associated.len(), message.as_ptr(), message.len(),
-                out.as_mut_ptr(), out.len(), seal.as_mut_ptr(), seal.len(), &mut calls,
+                out.as_mut_ptr(), out.len(), seal.as_mut_ptr(), seal.len(),
             )
-        };
-        (number, calls)
+        }
     }
 
-    /// Number and calls.
     #[rustfmt::skip]
     pub fn open(
         instance: usize, key: &[u8], nonce: &[u8], associated: &[u8], cipher: &[u8], seal: &[u8], out: &mut [u8],
-    ) -> (u32, usize) {
-        let mut calls = 0;
-        let number = unsafe {
+    ) -> Counted {
+        unsafe {
             lubdhvani_open(
                 instance, key.as_ptr(), key.len(), nonce.as_ptr(), nonce.len(),
                 associated.as_ptr(), associated.len(), cipher.as_ptr(), cipher.len(),
-                seal.as_ptr(), seal.len(), out.as_mut_ptr(), out.len(), &mut calls,
+                seal.as_ptr(), seal.len(), out.as_mut_ptr(), out.len(),
             )
-        };
-        (number, calls)
+        }
     }
 
-    /// Number, the frame's length and calls.
     #[rustfmt::skip]
     pub fn write(
         key: &[u8], nonce: &[u8], font: &[u8], layout: usize, line: &[u8], frame: &mut [u8],
-    ) -> (u32, usize, usize) {
-        let (mut length, mut calls) = (0, 0);
-        let number = unsafe {
+    ) -> Framed {
+        unsafe {
             lubdhvani_write(
                 key.as_ptr(), key.len(), nonce.as_ptr(), nonce.len(), font.as_ptr(), font.len(),
-                layout, line.as_ptr(), line.len(), frame.as_mut_ptr(), frame.len(), &mut length, &mut calls,
+                layout, line.as_ptr(), line.len(), frame.as_mut_ptr(), frame.len(),
             )
-        };
-        (number, length, calls)
+        }
     }
 
     /// The next stretch itself, a part of the stream; empty where there is none.
     pub fn next_stretch(stream: &[u8], from: usize) -> &[u8] {
-        let (mut first, mut closing) = (0, 0);
+        let span = unsafe { lubdhvani_next_stretch(stream.as_ptr(), stream.len(), from) };
+        &stream[span.first..span.closing]
+    }
+
+    /// An index beside the stream: the entries of a table that are in use.
+    pub const INDEX: usize = 512;
+
+    #[repr(C)]
+    pub struct Indexed {
+        pub number: usize,
+        pub count: usize,
+    }
+
+    #[repr(C)]
+    pub struct Entry {
+        pub there: usize,
+        pub place: usize,
+        pub number: usize,
+    }
+
+    #[repr(C)]
+    pub struct EntryLine {
+        pub there: usize,
+        pub index: usize,
+        pub place: usize,
+    }
+
+    /// Edition one and neither layout, as the press reads.
+    pub fn index_update(stream: &[u8], key: &[u8], font: &[u8], table: &mut [u32], count: usize) -> Indexed {
         unsafe {
-            lubdhvani_next_stretch(
+            lubdhvani_index_update(
                 stream.as_ptr(),
                 stream.len(),
-                from,
-                &mut first,
-                &mut closing,
+                key.as_ptr(),
+                key.len(),
+                font.as_ptr(),
+                font.len(),
+                EDITION_ONE,
+                NEITHER,
+                table.as_mut_ptr(),
+                table.len(),
+                count,
             )
-        };
-        &stream[first..closing]
+        }
+    }
+
+    pub fn index_entry(table: &[u32], count: usize, index: usize) -> Entry {
+        unsafe { lubdhvani_index_entry(table.as_ptr(), table.len(), count, index) }
+    }
+
+    pub fn index_line(table: &[u32], count: usize, k: usize) -> EntryLine {
+        unsafe { lubdhvani_index_line(table.as_ptr(), table.len(), count, k) }
     }
 
     /// What a reader is told anew at each call.
@@ -176,18 +262,19 @@ mod lubdhvani {
         pub layout: usize,
     }
 
-    /// What a reading comes to; `given` is 1 where a line is given, else 0.
+    /// What a reading comes to; `outcome` is one of END, LINE, STRETCH_REFUSED
+    /// and CALL_REFUSED.
     #[repr(C)]
     #[derive(Clone, Copy)]
     pub struct Reading {
+        pub outcome: usize,
+        pub number: usize,
         pub first: usize,
         pub closing: usize,
         pub length: usize,
         pub calls: usize,
         pub edition: usize,
         pub job: usize,
-        pub number: u32,
-        pub given: u32,
     }
 
     #[rustfmt::skip]
@@ -200,56 +287,121 @@ mod lubdhvani {
         }
     }
 
+    /// A number, and the places of the stretch at fault.
+    #[repr(C)]
+    #[derive(Clone, Copy, Debug, PartialEq, Eq)]
+    pub struct Accepted {
+        pub number: usize,
+        pub first: usize,
+        pub closing: usize,
+    }
+
+    #[rustfmt::skip]
+    pub fn accept(stream: &[u8], key: &[u8], font: &[u8], editions: usize, layout: usize) -> Accepted {
+        unsafe {
+            lubdhvani_accept(
+                stream.as_ptr(), stream.len(), key.as_ptr(), key.len(), font.as_ptr(), font.len(), editions, layout,
+            )
+        }
+    }
+
+    #[repr(C)]
+    struct NonceFound {
+        found: u32,
+        bytes: [u8; 12],
+    }
+
+    /// The nonce of the bytes between two marks, where they are a frame's.
+    pub fn nonce(stretch: &[u8]) -> Option<[u8; 12]> {
+        let nonce = unsafe { lubdhvani_nonce(stretch.as_ptr(), stretch.len()) };
+        match nonce.found {
+            0 => None,
+            _ => Some(nonce.bytes),
+        }
+    }
+
+    #[repr(C)]
+    struct RawWalker {
+        stream: *const u8,
+        length: usize,
+        at: usize,
+    }
+
+    /// A walker over a stream that is borrowed as long as it walks.
+    pub struct Walker<'a> {
+        raw: RawWalker,
+        stream: std::marker::PhantomData<&'a [u8]>,
+    }
+
+    impl<'a> Walker<'a> {
+        pub fn new(stream: &'a [u8]) -> Walker<'a> {
+            let raw = RawWalker {
+                stream: stream.as_ptr(),
+                length: stream.len(),
+                at: 0,
+            };
+            Walker {
+                raw,
+                stream: std::marker::PhantomData,
+            }
+        }
+
+        pub fn place(&self) -> usize {
+            self.raw.at
+        }
+
+        #[rustfmt::skip]
+        pub fn next(&mut self, key: &[u8], font: &[u8], asked: Asked, line: &mut [u8]) -> Reading {
+            unsafe {
+                lubdhvani_next(
+                    &mut self.raw, key.as_ptr(), key.len(), font.as_ptr(), font.len(), asked,
+                    line.as_mut_ptr(), line.len(),
+                )
+            }
+        }
+    }
+
     /// The number, and the bundle's length.
     #[rustfmt::skip]
-    pub fn bundle_write(name: &[u8], rows: &[u8], bundle: &mut [u8]) -> (u32, usize) {
-        let mut length = 0;
-        let number = unsafe {
+    pub fn bundle_write(name: &[u8], rows: &[u8], bundle: &mut [u8]) -> Measured {
+        unsafe {
             lubdhvani_bundle_write(
                 name.as_ptr(), name.len(), rows.as_ptr(), rows.len(), bundle.as_mut_ptr(), bundle.len(),
-                &mut length,
             )
-        };
-        (number, length)
+        }
     }
 
     /// The number, and the name's length.
-    pub fn bundle_read(bundle: &[u8]) -> (u32, usize) {
-        let mut length = 0;
-        let number = unsafe { lubdhvani_bundle_read(bundle.as_ptr(), bundle.len(), &mut length) };
-        (number, length)
+    pub fn bundle_read(bundle: &[u8]) -> Measured {
+        unsafe { lubdhvani_bundle_read(bundle.as_ptr(), bundle.len()) }
     }
 
     #[rustfmt::skip]
-    pub fn bundle_digest(bundle: &[u8], out: &mut [u8]) -> u32 {
+    pub fn bundle_digest(bundle: &[u8], out: &mut [u8]) -> usize {
         unsafe {
-            lubdhvani_bundle_digest(bundle.as_ptr(), bundle.len(), out.as_mut_ptr(), out.len())
+            lubdhvani_bundle_digest(bundle.as_ptr(), bundle.len(), out.as_mut_ptr(), out.len()) as usize
         }
     }
 
     /// The name itself, a part of the bundle; empty where the bytes are none.
     pub fn bundle_name(bundle: &[u8]) -> &[u8] {
-        let (mut first, mut length) = (0, 0);
-        unsafe { lubdhvani_bundle_name(bundle.as_ptr(), bundle.len(), &mut first, &mut length) };
-        &bundle[first..first + length]
+        let part = unsafe { lubdhvani_bundle_name(bundle.as_ptr(), bundle.len()) };
+        &bundle[part.first..part.first + part.length]
     }
 
     /// The rows of a character, a part of the bundle; empty where there are none.
-    #[rustfmt::skip]
     pub fn bundle_rows(bundle: &[u8], character: u8) -> &[u8] {
-        let (mut first, mut length) = (0, 0);
-        unsafe {
-            lubdhvani_bundle_rows(bundle.as_ptr(), bundle.len(), character, &mut first, &mut length)
-        };
-        &bundle[first..first + length]
+        let part = unsafe { lubdhvani_bundle_rows(bundle.as_ptr(), bundle.len(), character) };
+        &bundle[part.first..part.first + part.length]
     }
 }
 
-use lubdhvani::{Asked, Reading, ALL_WORK, EDITION_ONE, OVER_WORK};
-use lubdhvani::{ALIKE, NO_BUNDLE, NO_ROUNDS};
+use lubdhvani::{Asked, Reading, Walker, ALL_WORK, EDITION_ONE, OVER_WORK};
+use lubdhvani::{ALIKE, NO_BUNDLE, NO_ROUNDS, REPEATED};
 use lubdhvani::{
     BAD_SEAL, BAD_SHAPE, BAD_STUFFING, DONE, INSTANCE, NOT_TRADE, OTHER_FONT, UNLISTED,
 };
+use lubdhvani::{CALL_REFUSED, END, LINE, STRETCH_REFUSED};
 use lubdhvani::{DIGEST, FRAME, KEY, LONGEST_LINE, NONCE, SEAL};
 use lubdhvani::{LAYOUT_A, LAYOUT_B, NEITHER, OTHER_LAYOUT};
 
@@ -316,23 +468,30 @@ impl Checks {
         let mut digest = [0; DIGEST];
         let done = lubdhvani::digest(1, &[], &mut digest);
         self.check(
-            done == (DONE, 33),
+            (done.number, done.calls) == (DONE, 33),
             "the empty message is digested in 33 calls",
         );
         let hex: String = digest.iter().map(|byte| format!("{:02X}", byte)).collect();
         self.check(hex == expected, "its digest");
         let refused = lubdhvani::digest(11, &[], &mut digest);
-        self.check(refused == (INSTANCE, 0), "there is no instance 11");
+        self.check(
+            (refused.number, refused.calls) == (INSTANCE, 0),
+            "there is no instance 11",
+        );
     }
 
     /// A bundle: made, judged, taken apart, digested.
     fn bundle(&mut self) {
         let mut rows: Vec<u8> = (0..126).map(|i| (11 * i % 127) as u8).collect();
         let mut room = [0; 217];
-        let (number, length) = lubdhvani::bundle_write(b"sample", &rows, &mut room);
-        self.check(number == DONE && length == 191, "a bundle is written");
-        let bundle = &room[..length];
-        self.check(lubdhvani::bundle_read(bundle) == (DONE, 6), "and read");
+        let made = lubdhvani::bundle_write(b"sample", &rows, &mut room);
+        self.check(
+            made.number == DONE && made.length == 191,
+            "a bundle is written",
+        );
+        let bundle = &room[..made.length];
+        let read = lubdhvani::bundle_read(bundle);
+        self.check((read.number, read.length) == (DONE, 6), "and read");
         self.check(lubdhvani::bundle_name(bundle) == b"sample", "its name");
         let of_a = lubdhvani::bundle_rows(bundle, b'A');
         self.check(of_a == &rows[90..99], "the rows of A");
@@ -341,10 +500,13 @@ impl Checks {
         lubdhvani::digest(1, bundle, &mut plain);
         self.check(number == DONE && digest == plain, "its digest");
         let short = lubdhvani::bundle_read(&bundle[1..]);
-        self.check(short == (NO_BUNDLE, 0), "a bundle cut short is none");
+        self.check(
+            (short.number, short.length) == (NO_BUNDLE, 0),
+            "a bundle cut short is none",
+        );
         rows.copy_within(9..18, 117);
-        let (number, _) = lubdhvani::bundle_write(b"sample", &rows, &mut room);
-        self.check(number == ALIKE, "two glyphs with the same dots");
+        let alike = lubdhvani::bundle_write(b"sample", &rows, &mut room);
+        self.check(alike.number == ALIKE, "two glyphs with the same dots");
     }
 
     fn seal(&mut self, font: &[u8]) {
@@ -352,11 +514,15 @@ impl Checks {
         let message = b"0000012500B";
         let (mut cipher, mut seal) = ([0; 11], [0; SEAL]);
         let done = lubdhvani::seal(1, THE_KEY, nonce, font, message, &mut cipher, &mut seal);
-        self.check(done == (DONE, DIGEST + 11 + 4), "a message is sealed");
+        let calls = DIGEST + 11 + 4;
+        self.check(
+            (done.number, done.calls) == (DONE, calls),
+            "a message is sealed",
+        );
 
         let mut back = [0xee; 12];
         let done = lubdhvani::open(1, THE_KEY, nonce, font, &cipher, &seal, &mut back);
-        self.check(done == (DONE, DIGEST + 11 + 4), "it is opened");
+        self.check((done.number, done.calls) == (DONE, calls), "it is opened");
         self.check(
             back[..11] == *message && back[11] == 0xee,
             "the message comes back, alone",
@@ -365,7 +531,7 @@ impl Checks {
         seal[15] ^= 0x01;
         let refused = lubdhvani::open(1, THE_KEY, nonce, font, &cipher, &seal, &mut back);
         self.check(
-            refused == (BAD_SEAL, DIGEST + 11 + 4),
+            (refused.number, refused.calls) == (BAD_SEAL, calls),
             "a wrong seal is refused",
         );
         self.check(
@@ -376,12 +542,42 @@ impl Checks {
 
     /// A line of layout A is given under A and under neither, and refused under
     /// B and under what is no layout.
+    /// A bureau's stream of two lines gets yes, and with one of them twice not.
+    fn accept(&mut self, font: &[u8]) {
+        let (mut stream, mut first) = (Vec::new(), 0);
+        for nonce in [b"first nonce.", b"second nonce"] {
+            let mut frame = [0; FRAME];
+            let made = lubdhvani::write(THE_KEY, nonce, font, NEITHER, b"42C", &mut frame);
+            let frame = &frame[..made.length];
+            self.check(made.number == DONE, "the bureau's line is sealed");
+            self.check(
+                lubdhvani::nonce(&frame[1..frame.len() - 1]) == Some(*nonce),
+                "the nonce of its stretch",
+            );
+            self.check(lubdhvani::nonce(frame).is_none(), "none with the marks");
+            stream.extend_from_slice(frame);
+            first = if first == 0 { stream.len() } else { first };
+        }
+        let length = stream.len();
+        let yes = lubdhvani::accept(&stream, THE_KEY, font, EDITION_ONE, NEITHER);
+        self.check(
+            (yes.number, yes.first, yes.closing) == (DONE, length, length),
+            "the bureau's stream gets yes",
+        );
+        stream.extend_from_within(..first);
+        let fault = lubdhvani::accept(&stream, THE_KEY, font, EDITION_ONE, NEITHER);
+        self.check(
+            (fault.number, fault.first) == (REPEATED, length + 1),
+            "a nonce twice: the second stretch is named",
+        );
+    }
+
     fn layouts(&mut self, font: &[u8]) {
         let (nonce, of_a) = (b"once in A...", b"A123456780A0012345678C");
         let (mut frame, mut other) = ([0; FRAME], [0xee; FRAME]);
-        let (number, length, _) =
-            lubdhvani::write(THE_KEY, nonce, font, LAYOUT_A, of_a, &mut frame);
-        self.check(number == DONE, "a line of A is written");
+        let made = lubdhvani::write(THE_KEY, nonce, font, LAYOUT_A, of_a, &mut frame);
+        self.check(made.number == DONE, "a line of A is written");
+        let frame = &frame[..made.length];
         for (layout, has) in [
             (LAYOUT_A, true),
             (LAYOUT_B, false),
@@ -393,13 +589,13 @@ impl Checks {
                 ..EVERYTHING
             };
             let mut line = [b'#'; LONGEST_LINE];
-            let reading = lubdhvani::read(&frame[..length], 0, THE_KEY, font, asked, &mut line);
+            let reading = lubdhvani::read(frame, 0, THE_KEY, font, asked, &mut line);
             let expected = if has {
-                (DONE, of_a.len())
+                (LINE, DONE, of_a.len())
             } else {
-                (OTHER_LAYOUT, 0)
+                (STRETCH_REFUSED, OTHER_LAYOUT, 0)
             };
-            let found = (reading.number, reading.length);
+            let found = (reading.outcome, reading.number, reading.length);
             self.check(
                 found == expected && reading.calls == of_a.len() + 39,
                 "it is read by its layout",
@@ -409,7 +605,8 @@ impl Checks {
         }
         let refused = lubdhvani::write(THE_KEY, nonce, font, LAYOUT_B, of_a, &mut other);
         self.check(
-            refused == (OTHER_LAYOUT, 0, 0) && other == [0xee; FRAME],
+            (refused.number, refused.length, refused.calls) == (OTHER_LAYOUT, 0, 0)
+                && other == [0xee; FRAME],
             "nor is it written",
         );
     }
@@ -425,7 +622,7 @@ impl Checks {
                 _ => font,
             };
             let mut frame = [0; FRAME];
-            let (number, length, calls) = lubdhvani::write(
+            let made = lubdhvani::write(
                 THE_KEY,
                 &nonce,
                 its_font,
@@ -434,10 +631,10 @@ impl Checks {
                 &mut frame,
             );
             self.check(
-                number == DONE && calls == line.len() + 39,
+                made.number == DONE && made.calls == line.len() + 39,
                 "a line is written",
             );
-            stream.extend(damaged(*damage, &frame[..length]));
+            stream.extend(damaged(*damage, &frame[..made.length]));
         }
         stream.extend([0x01, 0x00, 0x0c]); // a frame that never came: no stretch
         stream
@@ -470,6 +667,62 @@ impl Checks {
         reading
     }
 
+    /// The same stream by a walker, with all the work allowed.
+    fn walk(&mut self, font: &[u8], stream: &[u8]) {
+        let mut walker = Walker::new(stream);
+        for (number, expected) in EXPECTED {
+            let mut line = [b'#'; LONGEST_LINE];
+            let reading = walker.next(THE_KEY, font, EVERYTHING, &mut line);
+            let found = (reading.number, &line[..reading.length]);
+            self.check(
+                found == (number, expected.as_bytes()),
+                "the walker sees what the press finds",
+            );
+            self.check(
+                walker.place() == reading.closing,
+                "and stands where its reading ends",
+            );
+        }
+        let mut line = [b'#'; LONGEST_LINE];
+        let reading = walker.next(THE_KEY, font, EVERYTHING, &mut line);
+        self.check(
+            reading.outcome == END && walker.place() == stream.len(),
+            "then it is at the end",
+        );
+    }
+
+    /// An index brought up to date byte by byte, each line found by its count.
+    fn index(&mut self, font: &[u8], stream: &[u8]) {
+        let (mut table, mut count) = ([0; lubdhvani::INDEX], 0);
+        for length in 0..=stream.len() {
+            let up = lubdhvani::index_update(&stream[..length], THE_KEY, font, &mut table, count);
+            self.check(up.number == DONE, "the index is brought up to date");
+            count = up.count;
+        }
+        let mut walker = Walker::new(stream);
+        let mut lines = 0;
+        for index in 0..count {
+            let reading = walker.next(THE_KEY, font, EVERYTHING, &mut [0; LONGEST_LINE]);
+            let entry = lubdhvani::index_entry(&table, count, index);
+            self.check(
+                (entry.there, entry.place, entry.number) == (1, reading.first, reading.number),
+                "an entry has its stretch's place and number",
+            );
+            if entry.number == DONE {
+                lines += 1;
+                let line = lubdhvani::index_line(&table, count, lines);
+                self.check(
+                    (line.there, line.index, line.place) == (1, index, reading.first),
+                    "a line is found by its count",
+                );
+            }
+        }
+        self.check(
+            count == EXPECTED.len() && lubdhvani::index_line(&table, count, lines + 1).there == 0,
+            "an entry for each stretch, and no line behind the last",
+        );
+    }
+
     /// Reads from place to place up to the end, and lists what is found.
     fn press(&mut self, font: &[u8], stream: &[u8]) {
         let mut found = Vec::new();
@@ -484,15 +737,18 @@ impl Checks {
             let kept = rest.iter().all(|&byte| byte == b'#');
             self.check(kept, "nothing is written but the line");
 
-            if reading.number == DONE && reading.given == 0 {
+            if reading.outcome == END || reading.outcome == CALL_REFUSED {
                 let at_end = reading.first == stream.len() && reading.closing == stream.len();
-                self.check(at_end, "the end of the stream is its length");
+                self.check(
+                    at_end && reading.outcome == END,
+                    "the end of the stream is its length",
+                );
                 break;
             }
             let line = String::from_utf8_lossy(given).into_owned();
-            match reading.number {
-                DONE => println!("{:5}  line     {}", reading.first, line),
-                no => println!("{:5}  refused  {} {}", reading.first, no, meaning(no)),
+            match (reading.outcome, reading.number) {
+                (LINE, _) => println!("{:5}  line     {}", reading.first, line),
+                (_, no) => println!("{:5}  refused  {} {}", reading.first, no, meaning(no)),
             }
             found.push((reading.number, line));
             if reading.first <= place || reading.closing <= reading.first {
@@ -542,7 +798,7 @@ const ORDERS: [(&str, Damage); 12] = [
 ];
 
 /// What the press must find. Noise comes before the first line.
-const EXPECTED: [(u32, &str); 12] = [
+const EXPECTED: [(usize, &str); 12] = [
     (BAD_STUFFING, ""),
     (DONE, "A123456780A 0012345678C 0000012500B"),
     (BAD_SEAL, ""),
@@ -557,7 +813,7 @@ const EXPECTED: [(u32, &str); 12] = [
     (DONE, "7"),
 ];
 
-fn meaning(number: u32) -> &'static str {
+fn meaning(number: usize) -> &'static str {
     match number {
         BAD_SEAL => "wrong seal",
         BAD_STUFFING => "bad stuffing",
@@ -587,15 +843,22 @@ fn damaged(damage: Damage, frame: &[u8]) -> Vec<u8> {
 fn main() {
     let mut checks = Checks { wrong: 0 };
     let mut font = [0; DIGEST];
-    let (number, _) = lubdhvani::digest(1, FONT_FILE, &mut font);
-    checks.check(number == DONE, "the font is digested");
+    checks.check(
+        lubdhvani::version() == lubdhvani::VERSION,
+        "library and header are of one version",
+    );
+    let digested = lubdhvani::digest(1, FONT_FILE, &mut font);
+    checks.check(digested.number == DONE, "the font is digested");
     checks.permutation();
     checks.digest();
     checks.seal(&font);
     checks.bundle();
     checks.layouts(&font);
+    checks.accept(&font);
     let stream = checks.compose(&font);
     checks.press(&font, &stream);
+    checks.walk(&font, &stream);
+    checks.index(&font, &stream);
     if checks.wrong > 0 {
         println!("client-rust: not as expected");
         exit(1)

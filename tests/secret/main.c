@@ -1,7 +1,8 @@
 /* Calls of the static library with secret bytes marked undefined, to run under valgrind's memcheck: it reports every branch and every address
    that depends on them. Each call's output must still be undefined afterwards, so that the test is not empty.
-   secret work     permute and unpermute at every size, digest at every instance, seal
-   secret write    write with a secret key
+   secret work     permute and unpermute at every size, digest and running digest at every instance, seal
+   secret write    write and write_two with a secret key
+   secret open     open with a secret key at every instance, under a seal that is not the one worked out
    secret lookup   the permutation of lookup.c, which looks products up */
 #include "../../include/lubdhvani.h"
 #include "lookup.h"
@@ -48,11 +49,26 @@ static void permutations(void)
 static void digests(void)
 {
     uint8_t message[MESSAGE] = {0}, out[LUBDHVANI_DIGEST];
-    size_t calls;
     for (size_t i = 1; i <= LUBDHVANI_INSTANCES; i++) {
         secret(message, sizeof message);
-        failed |= lubdhvani_digest(i, message, sizeof message, out, sizeof out, &calls) != LUBDHVANI_DONE;
+        failed |= lubdhvani_digest(i, message, sizeof message, out, sizeof out).number != LUBDHVANI_DONE;
         given("digest", i, out, sizeof out);
+    }
+}
+
+/* In two pieces, neither of whole blocks. What a record holds of the message is secret then; what is tested in it is not. */
+static void running_digests(void)
+{
+    enum { FIRST = 17 };
+    uint8_t message[MESSAGE] = {0}, out[LUBDHVANI_DIGEST];
+    for (size_t i = 1; i <= LUBDHVANI_INSTANCES; i++) {
+        struct lubdhvani_running running = {0};
+        secret(message, sizeof message);
+        failed |= lubdhvani_start(&running, i) != LUBDHVANI_DONE;
+        failed |= lubdhvani_feed(&running, message, FIRST) != LUBDHVANI_DONE;
+        failed |= lubdhvani_feed(&running, message + FIRST, sizeof message - FIRST) != LUBDHVANI_DONE;
+        failed |= lubdhvani_finish(&running, out, sizeof out).number != LUBDHVANI_DONE;
+        given("running digest", i, out, sizeof out);
     }
 }
 
@@ -63,12 +79,12 @@ static void seals(void)
 {
     uint8_t key[LUBDHVANI_LONGEST_KEY] = {0}, nonce[LUBDHVANI_LONGEST_NONCE] = {0}, associated[ASSOCIATED] = {0}, message[MESSAGE] = {0};
     uint8_t out[MESSAGE], seal[LUBDHVANI_SEAL];
-    size_t calls;
     for (size_t i = 1; i <= LUBDHVANI_CIPHERS; i++) {
         secret(key, sizeof key);
         secret(message, sizeof message);
         failed |= lubdhvani_seal(i, key, key_of[i - 1], nonce, nonce_of[i - 1], associated, sizeof associated, message, sizeof message, out,
-                                 sizeof out, seal, sizeof seal, &calls)
+                                 sizeof out, seal, sizeof seal)
+                      .number
                   != LUBDHVANI_DONE;
         given("ciphertext, instance", i, out, sizeof out);
         given("seal, instance", i, seal, sizeof seal);
@@ -78,12 +94,34 @@ static void seals(void)
 static void writes(void)
 {
     static const uint8_t line[LINE + 1] = "012345 678C 0000125B";
-    uint8_t key[LUBDHVANI_KEY] = {0}, nonce[LUBDHVANI_NONCE] = {0}, font[LUBDHVANI_DIGEST] = {0}, frame[LUBDHVANI_FRAME] = {0};
-    size_t length, calls;
+    uint8_t key[LUBDHVANI_KEY] = {0}, nonce[LUBDHVANI_NONCE] = {0}, font[LUBDHVANI_DIGEST] = {0}, job[LUBDHVANI_JOB] = {0};
+    uint8_t frame[LUBDHVANI_FRAME_TWO] = {0};
     secret(key, sizeof key);
     failed |= lubdhvani_write(key, sizeof key, nonce, sizeof nonce, font, sizeof font, LUBDHVANI_LAYOUT_NEITHER, line, LINE, frame,
-                              sizeof frame, &length, &calls)
+                              sizeof frame)
+                  .number
               != LUBDHVANI_DONE;
+    failed |= lubdhvani_write_two(key, sizeof key, nonce, sizeof nonce, font, sizeof font, LUBDHVANI_LAYOUT_NEITHER, job, sizeof job, line,
+                                  LINE, frame, sizeof frame)
+                  .number
+              != LUBDHVANI_DONE;
+}
+
+/* That the seal is wrong is told, so it is public, and nothing else is: the answer is made public, and the buffer is zero, which no secret says. */
+static void opens(void)
+{
+    uint8_t key[LUBDHVANI_LONGEST_KEY] = {0}, nonce[LUBDHVANI_LONGEST_NONCE] = {0}, associated[ASSOCIATED] = {0}, cipher[MESSAGE] = {0};
+    uint8_t out[MESSAGE], seal[LUBDHVANI_SEAL] = {0}, undefined[MESSAGE];
+    for (size_t i = 1; i <= LUBDHVANI_CIPHERS; i++) {
+        secret(key, sizeof key);
+        struct lubdhvani_counted opened = lubdhvani_open(i, key, key_of[i - 1], nonce, nonce_of[i - 1], associated, sizeof associated, cipher,
+                                                         sizeof cipher, seal, sizeof seal, out, sizeof out);
+        (void)VALGRIND_MAKE_MEM_DEFINED(&opened, sizeof opened);
+        failed |= opened.number != LUBDHVANI_BAD_SEAL;
+        failed |= VALGRIND_GET_VBITS(out, undefined, sizeof out) != 1;
+        for (size_t k = 0; k < sizeof out; k++)
+            failed |= undefined[k] != 0 || out[k] != 0;
+    }
 }
 
 static void looked_up(void)
@@ -102,9 +140,12 @@ int main(int count, char **word)
     if (strcmp(word[1], "work") == 0) {
         permutations();
         digests();
+        running_digests();
         seals();
     } else if (strcmp(word[1], "write") == 0)
         writes();
+    else if (strcmp(word[1], "open") == 0)
+        opens();
     else
         looked_up();
     return failed;

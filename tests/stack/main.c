@@ -26,63 +26,90 @@ static uint8_t state[LUBDHVANI_LARGEST_STATE], digest[LUBDHVANI_DIGEST], line[LU
 static uint8_t text[LUBDHVANI_LONGEST_TEXT], out[LUBDHVANI_LONGEST_TEXT], associated[LUBDHVANI_LONGEST_ASSOCIATED];
 static uint8_t frame[LUBDHVANI_FRAME_TWO], other[LUBDHVANI_FRAME_TWO], stretch[LUBDHVANI_LONGEST_STRETCH + 2];
 static uint8_t name[LUBDHVANI_LONGEST_NAME], rows[LUBDHVANI_BUNDLE_ROWS], bundle[LUBDHVANI_BUNDLE];
-static size_t calls, length, first, closing, line_length = sizeof line, layout = LUBDHVANI_LAYOUT_NEITHER;
+static size_t length, line_length = sizeof line, layout = LUBDHVANI_LAYOUT_NEITHER;
 static struct lubdhvani_running running;
 static struct lubdhvani_asked everything = {.editions = LUBDHVANI_BOTH_EDITIONS, .allowed = LUBDHVANI_ALL_WORK};
 
 static void permute(void) { lubdhvani_permute(state, sizeof state, LUBDHVANI_MOST_ROUNDS); }
 static void unpermute(void) { lubdhvani_unpermute(state, sizeof state, LUBDHVANI_MOST_ROUNDS); }
-static void digest_one(void) { lubdhvani_digest(1, text, sizeof text, digest, sizeof digest, &calls); }
-static void digest_last(void) { lubdhvani_digest(LUBDHVANI_INSTANCES, text, sizeof text, digest, sizeof digest, &calls); }
+static void digest_one(void) { lubdhvani_digest(1, text, sizeof text, digest, sizeof digest); }
+static void digest_last(void) { lubdhvani_digest(LUBDHVANI_INSTANCES, text, sizeof text, digest, sizeof digest); }
 static void start_one(void) { lubdhvani_start(&running, 1); }
 static void start_last(void) { lubdhvani_start(&running, LUBDHVANI_INSTANCES); }
 static void feed_text(void) { lubdhvani_feed(&running, text, sizeof text); }
-static void finish(void) { lubdhvani_finish(&running, digest, sizeof digest, &calls); }
+static void finish(void) { lubdhvani_finish(&running, digest, sizeof digest); }
 static void seal_text(void)
 {
     lubdhvani_seal(1, key, sizeof key, nonce, sizeof nonce, associated, sizeof associated, text, sizeof text, out, sizeof out, seal,
-                   sizeof seal, &calls);
+                   sizeof seal);
 }
 static void open_text(void)
 {
     lubdhvani_open(1, key, sizeof key, nonce, sizeof nonce, associated, sizeof associated, text, sizeof text, seal, sizeof seal, out,
-                   sizeof out, &calls);
+                   sizeof out);
 }
 static void write_line(void)
 {
-    lubdhvani_write(key, sizeof key, nonce, sizeof nonce, font, sizeof font, layout, line, line_length, frame, sizeof frame, &length, &calls);
+    length = lubdhvani_write(key, sizeof key, nonce, sizeof nonce, font, sizeof font, layout, line, line_length, frame, sizeof frame).length;
 }
 static void write_two(void)
 {
-    lubdhvani_write_two(key, sizeof key, nonce, sizeof nonce, font, sizeof font, layout, job, sizeof job, line, line_length, frame, sizeof frame,
-                        &length, &calls);
+    length = lubdhvani_write_two(key, sizeof key, nonce, sizeof nonce, font, sizeof font, layout, job, sizeof job, line, line_length, frame,
+                                 sizeof frame)
+                 .length;
 }
 static void converted_to_one(const uint8_t *from, size_t n)
 {
-    lubdhvani_to_one(from, n, key, sizeof key, font, sizeof font, layout, nonce, sizeof nonce, other, sizeof other, &calls);
+    lubdhvani_to_one(from, n, key, sizeof key, font, sizeof font, layout, nonce, sizeof nonce, other, sizeof other);
 }
 static void converted_to_two(const uint8_t *from, size_t n)
 {
-    lubdhvani_to_two(from, n, key, sizeof key, font, sizeof font, layout, nonce, sizeof nonce, job, sizeof job, other, sizeof other,
-                     &calls);
+    lubdhvani_to_two(from, n, key, sizeof key, font, sizeof font, layout, nonce, sizeof nonce, job, sizeof job, other, sizeof other);
 }
 static void to_one_line(void) { converted_to_one(frame + 1, length - 2); }
 static void to_two_line(void) { converted_to_two(frame + 1, length - 2); }
 static void to_one_stretch(void) { converted_to_one(stretch + 1, sizeof stretch - 2); }
 static void to_two_stretch(void) { converted_to_two(stretch + 1, sizeof stretch - 2); }
-static void bundle_write(void) { lubdhvani_bundle_write(name, sizeof name, rows, sizeof rows, bundle, sizeof bundle, &length); }
-static void bundle_read(void) { lubdhvani_bundle_read(bundle, length, &calls); }
+static void bundle_write(void) { length = lubdhvani_bundle_write(name, sizeof name, rows, sizeof rows, bundle, sizeof bundle).length; }
+static void bundle_read(void) { lubdhvani_bundle_read(bundle, length); }
 static void bundle_digest(void) { lubdhvani_bundle_digest(bundle, length, digest, sizeof digest); }
-static void bundle_rows(void) { lubdhvani_bundle_rows(bundle, length, '7', &first, &closing); }
-static void next_stretch(void) { lubdhvani_next_stretch(stretch, sizeof stretch, 0, &first, &closing); }
+static void bundle_rows(void) { lubdhvani_bundle_rows(bundle, length, '7'); }
+static void next_stretch(void) { lubdhvani_next_stretch(stretch, sizeof stretch, 0); }
 static void read_frame(void)
 {
     lubdhvani_read(frame, length, 0, key, sizeof key, font, sizeof font, everything, line, sizeof line);
+}
+static void next_frame(void)
+{
+    struct lubdhvani_walker walker = {.stream = frame, .length = length};
+    lubdhvani_next(&walker, key, sizeof key, font, sizeof font, everything, line, sizeof line);
+}
+static void next_read_stretch(void)
+{
+    struct lubdhvani_walker walker = {.stream = stretch, .length = sizeof stretch};
+    lubdhvani_next(&walker, key, sizeof key, font, sizeof font, everything, line, sizeof line);
 }
 static void read_stretch(void)
 {
     lubdhvani_read(stretch, sizeof stretch, 0, key, sizeof key, font, sizeof font, everything, line, sizeof line);
 }
+
+static void accept_frame(void) { lubdhvani_accept(frame, length, key, sizeof key, font, sizeof font, LUBDHVANI_BOTH_EDITIONS, layout); }
+static void accept_stretch(void)
+{
+    lubdhvani_accept(stretch, sizeof stretch, key, sizeof key, font, sizeof font, LUBDHVANI_BOTH_EDITIONS, layout);
+}
+static void nonce_frame(void) { lubdhvani_nonce(frame + 1, length - 2); }
+static void nonce_stretch(void) { lubdhvani_nonce(stretch + 1, sizeof stretch - 2); }
+static uint32_t table[LUBDHVANI_INDEX];
+static void indexed(const uint8_t *from, size_t n)
+{
+    lubdhvani_index_update(from, n, key, sizeof key, font, sizeof font, LUBDHVANI_BOTH_EDITIONS, layout, table, LUBDHVANI_INDEX, 0);
+}
+static void index_frame(void) { indexed(frame, length); }
+static void index_stretch(void) { indexed(stretch, sizeof stretch); }
+static void index_entry(void) { lubdhvani_index_entry(table, LUBDHVANI_INDEX, LUBDHVANI_INDEX, LUBDHVANI_INDEX - 1); }
+static void index_line(void) { lubdhvani_index_line(table, LUBDHVANI_INDEX, LUBDHVANI_INDEX, LUBDHVANI_INDEX); }
 
 /* Stretches of the greatest length: two bytes again and again, and a last one of its own. */
 static void longest(uint8_t even, uint8_t odd, uint8_t last)
@@ -167,10 +194,29 @@ static const struct {
     {"read, a line", a_frame, read_frame, LUBDHVANI_STACK},
     {"read, a line of edition two", a_frame_two, read_frame, LUBDHVANI_STACK},
     {"read, a line of layout B", a_frame_of_b, read_frame, LUBDHVANI_STACK},
+    {"next, a line of edition two", a_frame_two, next_frame, LUBDHVANI_STACK},
     {"read, longest stretch, plain", plain, read_stretch, LUBDHVANI_STACK},
     {"read, longest stretch, escapes", escapes, read_stretch, LUBDHVANI_STACK},
     {"read, longest stretch, dangling escape", dangling, read_stretch, LUBDHVANI_STACK},
     {"read, longest stretch, bad escape", bad_escape, read_stretch, LUBDHVANI_STACK},
+    {"next, longest stretch, plain", plain, next_read_stretch, LUBDHVANI_STACK},
+    {"accept, a line of edition two", a_frame_two, accept_frame, LUBDHVANI_STACK},
+    {"accept, a line of layout B", a_frame_of_b, accept_frame, LUBDHVANI_STACK},
+    {"accept, longest stretch, plain", plain, accept_stretch, LUBDHVANI_STACK},
+    {"accept, longest stretch, escapes", escapes, accept_stretch, LUBDHVANI_STACK},
+    {"accept, longest stretch, dangling escape", dangling, accept_stretch, LUBDHVANI_STACK},
+    {"accept, longest stretch, bad escape", bad_escape, accept_stretch, LUBDHVANI_STACK},
+    {"nonce, a line of edition two", a_frame_two, nonce_frame, LUBDHVANI_STACK},
+    {"nonce, longest stretch, plain", plain, nonce_stretch, LUBDHVANI_STACK},
+    {"nonce, longest stretch, escapes", escapes, nonce_stretch, LUBDHVANI_STACK},
+    {"nonce, longest stretch, dangling escape", dangling, nonce_stretch, LUBDHVANI_STACK},
+    {"index_entry", nothing, index_entry, LUBDHVANI_STACK_BUT_READ},
+    {"index_line", nothing, index_line, LUBDHVANI_STACK_BUT_READ},
+    {"index_update, a line", a_frame, index_frame, LUBDHVANI_STACK},
+    {"index_update, longest stretch, plain", plain, index_stretch, LUBDHVANI_STACK},
+    {"index_update, longest stretch, escapes", escapes, index_stretch, LUBDHVANI_STACK},
+    {"index_update, longest stretch, dangling escape", dangling, index_stretch, LUBDHVANI_STACK},
+    {"index_update, longest stretch, bad escape", bad_escape, index_stretch, LUBDHVANI_STACK},
     {"to_one, a line", a_frame_two, to_one_line, LUBDHVANI_STACK},
     {"to_two, a line", a_frame, to_two_line, LUBDHVANI_STACK},
     {"to_two, a line of layout B", a_frame_of_b, to_two_line, LUBDHVANI_STACK},
