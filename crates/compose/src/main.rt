@@ -3,7 +3,7 @@
 // others are still written. Half an order is none: a last row without its newline is not sealed. Nonces come from the caller; none is made
 // here.
 use digest_call::DIGEST;
-use frame_write::KEY_LENGTH;
+use frame_spec::KEY_LENGTH;
 use libc::STDERR_FILENO;
 use libc::STDIN_FILENO;
 use libc::STDOUT_FILENO;
@@ -13,9 +13,6 @@ use tool_orders::Order;
 
 // The most of a row that is kept: nonce, blank and longest line fit with room to spare, and a longer row keeps a line that is too long.
 const ROW: usize = 128;
-
-// Document 01's number for a nonce of the wrong size.
-const WRONG_SIZE: u32 = 2;
 
 // No run makes more reads: standard input then counts as one that can't be read on.
 const MOST_READS: u64 = 0xFFFF_FFFF_FFFF_FFFF;
@@ -57,10 +54,10 @@ fn send(frame: &[u8], which: u64) -> bool {
 
 // One line under its nonce: its frame on standard output, or its refusal on standard error; false where the frame can't be written.
 fn seal_line(line: &[u8], nonce: &[u8], which: u64, key: &[u8], font: &[u8]) -> bool {
-    let mut frame = [0u8; frame_write::FRAME_ROOM];
+    let mut frame = [0u8; frame_spec::FRAME_ROOM];
     let written = frame_write::write(key, nonce, font, Layout::Neither, line, &mut frame);
-    let number = answer_numbers::write_number(written);
-    let length = answer_numbers::write_length(written);
+    let number = frame_write::write_number(written);
+    let length = frame_write::write_length(written);
     if number != 0 {
         refused(which, number);
         return true;
@@ -74,13 +71,14 @@ fn seal_line(line: &[u8], nonce: &[u8], which: u64, key: &[u8], font: &[u8]) -> 
 
 // One order; false where its frame can't be written.
 fn order(row: &[u8], which: u64, key: &[u8], font: &[u8]) -> bool {
-    match tool_orders::judge_order(row) {
+    let found = tool_orders::judge_order(row);
+    match found {
         Order::Line(from) => {
             let nonce = tool_orders::nonce(row);
             seal_line(&row[from..], &nonce, which, key, font)
         }
         Order::NoNonce => {
-            refused(which, WRONG_SIZE);
+            refused(which, tool_orders::order_number(found));
             true
         }
     }

@@ -51,13 +51,21 @@ fn print(state: [u8; LARGEST], n: usize) {
     }
 }
 
+// The number of a refusal, and why.
+fn refused(number: u32, why: &[u8]) {
+    complain(b"refused ");
+    io::print_decimal(STDERR_FILENO, number as u64);
+    complain(why);
+}
+
 fn say(trial: Trial) {
     let outcome = trial.outcome;
+    let number = tool_trial::outcome_number(outcome);
     let state = trial.state;
     match outcome {
         Outcome::Done => print(state, trial.size),
-        Outcome::Size => complain(b"refused 1: the size is not permitted\n"),
-        Outcome::Rounds => complain(b"refused 18: the rounds are not 1 to 255\n"),
+        Outcome::Size => refused(number, b": the size is not permitted\n"),
+        Outcome::Rounds => refused(number, b": the rounds are not 1 to 255\n"),
         Outcome::NoNumber => usage(),
         Outcome::NoState => complain(
             b"no state: two hexadecimal digits for each byte of the size\n",

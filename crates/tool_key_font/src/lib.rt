@@ -3,7 +3,7 @@
 ghost use mathlib.Core.Path.{_≡_};
 ghost use Rattle.tool_key_font.specs.Told.{isKey, isFont, fontOut};
 use digest_call::Digested;
-use frame_write::KEY_LENGTH;
+use frame_spec::KEY_LENGTH;
 use tool_files::Loaded;
 
 // Fonts are digested with this hash instance (document 01, 'The listing program').

@@ -31,3 +31,8 @@ orderOf row = cond (eqb (blankAt row) nonceDigits) (cond (allDigits (take nonceD
 
 abbrev pub nonceOf : List ℕ → List ℕ
 nonceOf row = bytesFrom row 0 nonceLength
+
+-- document 01's number: a row without a nonce is one whose nonce is not of 12 bytes
+abbrev pub orderNumber : Order → ℕ
+orderNumber (Line n) = 0
+orderNumber NoNonce = 2

@@ -1,7 +1,7 @@
 // What a row of orders is, for `compose`: the nonce as hexadecimal digits, a blank, the line. `judge_order` says whether a row is an order
 // and where its line begins, `nonce` what nonce its digits are. The promises cite specs/Orders.antt.
 ghost use mathlib.Core.Path.{_≡_};
-ghost use Rattle.tool_orders.specs.Orders.{blankAt, orderOf, nonceOf};
+ghost use Rattle.tool_orders.specs.Orders.{blankAt, orderOf, nonceOf, orderNumber};
 use frame_body::NONCE_LENGTH;
 
 const BLANK: u8 = 0x20;
@@ -46,6 +46,16 @@ pub fn judge_order(row: &[u8]) -> Order
         return Order::Line(at + 1);
     }
     Order::Line(at)
+}
+
+// Document 01's number of what a row is: that of a nonce of the wrong size where there is none.
+pub fn order_number(order: Order) -> u32
+    ensures { λ r. ⌜ r ≡ orderNumber order ⌝ }
+{
+    match order {
+        Order::Line(_) => 0,
+        Order::NoNonce => 2,
+    }
 }
 
 // The nonce that a row's first digits are: two digits a byte, high digit first.

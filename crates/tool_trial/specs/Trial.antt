@@ -65,3 +65,12 @@ triedBy f Not k t = refusal NoNumber
 
 abbrev pub tried : (ℕ → List ℕ → List ℕ) → List ℕ → List ℕ → List ℕ → Trial
 tried f size rounds t = triedBy f (numberIn size) (numberIn rounds) t
+
+-- document 01's number of a size that is not permitted, order W9's of rounds that are not 1 to 255; 0 where it is done, and where the words are no trial, for
+-- which the papers have no number
+abbrev pub outcomeNumber : Outcome → ℕ
+outcomeNumber Done = 0
+outcomeNumber Size = 1
+outcomeNumber Rounds = 18
+outcomeNumber NoNumber = 0
+outcomeNumber NoState = 0

@@ -3,7 +3,7 @@
 ghost use mathlib.Core.Path.{_≡_};
 ghost use Prim.Native.Nat.{_≤_};
 ghost use Rattle.gage_spec.specs.Permutation.{permute, unpermute};
-ghost use Rattle.tool_trial.specs.Trial.{LARGE, isBack, grown, numberIn, stateIn, isState, told, refusal, tried};
+ghost use Rattle.tool_trial.specs.Trial.{LARGE, isBack, grown, numberIn, stateIn, isState, told, refusal, tried, outcomeNumber};
 use gage_spec::Answer;
 use gage_spec::LARGEST;
 use gage_spec::Permuted;
@@ -36,6 +36,19 @@ pub struct Trial {
     pub outcome: Outcome,
     pub size: usize,
     pub state: [u8; LARGEST],
+}
+
+// The number of what becomes of a trial: document 01's for the size, order W9's for the rounds; words that are no trial have none.
+pub fn outcome_number(outcome: Outcome) -> u32
+    ensures { λ r. ⌜ r ≡ outcomeNumber outcome ⌝ }
+{
+    match outcome {
+        Outcome::Done => 0,
+        Outcome::Size => 1,
+        Outcome::Rounds => 18,
+        Outcome::NoNumber => 0,
+        Outcome::NoState => 0,
+    }
 }
 
 // Whether a word asks for the way back.

@@ -8,17 +8,17 @@ use Rattle.compose.proofs.order.Tie as tie
 judge-order-requires : tie.Need-judge-order-requires
 judge-order-requires c κs = search needs
 
-enum-known-from : tie.Need-enum-known-from
-enum-known-from c = search needs
+enum-known-found : tie.Need-enum-known-found
+enum-known-found c = search needs
 
 nonce-requires : tie.Need-nonce-requires
 nonce-requires c κs = search needs
 
 sub-seal-line : tie.Need-sub-seal-line
-sub-seal-line c = line-within (c .before .before .before .before .before .before .before .before .args .row .now) _ (sym (c .before .before .before .before .judge-order .ensures) ∙ c .before .before .from .given .1)
+sub-seal-line c = line-within (c .before .before .before .before .before .before .before .before .args .row .now) _ (sym (c .before .before .before .before .judge-order .ensures) ∙ c .before .before .found .given .1)
 
 part-seal-line-start : tie.Need-part-seal-line-start
-part-seal-line-start c = line-within (c .before .before .before .before .before .before .before .before .args .row .now) _ (sym (c .before .before .before .before .judge-order .ensures) ∙ c .before .before .from .given .1)
+part-seal-line-start c = line-within (c .before .before .before .before .before .before .before .before .args .row .now) _ (sym (c .before .before .before .before .judge-order .ensures) ∙ c .before .before .found .given .1)
 
 part-seal-line-end : tie.Need-part-seal-line-end
 part-seal-line-end c = search needs
@@ -31,6 +31,9 @@ seal-line-requires c κs = search needs
 
 enum-told : tie.Need-enum-told
 enum-told c = search needs
+
+order-number-requires : tie.Need-order-number-requires
+order-number-requires c κs = search needs
 
 refused-requires : tie.Need-refused-requires
 refused-requires c κs = search needs
@@ -46,7 +49,7 @@ order-spec =
     tie.close
     (tie.spec
     judge-order-requires
-    enum-known-from
+    enum-known-found
     nonce-requires
     sub-seal-line
     part-seal-line-start
@@ -54,6 +57,7 @@ order-spec =
     slice-aggregate-seal-line
     seal-line-requires
     enum-told
+    order-number-requires
     refused-requires
     returns
     returns-2)

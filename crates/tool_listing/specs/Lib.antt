@@ -1,0 +1,7 @@
+pub mod Listing
+pub mod Steps
+pub mod Going
+pub mod Joining
+pub mod Runs
+pub mod Sample
+pub mod Unlimited

@@ -1,0 +1,4 @@
+pub mod Rows
+pub mod Answers
+pub mod Done
+pub mod Decimal
