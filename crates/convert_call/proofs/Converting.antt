@@ -23,7 +23,7 @@ use Rattle.frame_write.specs.Answers.{WriteCall, sizesRight, framedCall, writeC
 use Rattle.frame_write.specs.Outcomes.{Accepts, write-done, sizes-under}
 use Rattle.read_spec.specs.Sizes.{Sizes}
 use Rattle.read_spec.specs.Editions.{only}
-use Rattle.read_spec.specs.Judged.{Label, line}
+use Rattle.read_spec.specs.Judged.{line}
 use Rattle.convert_spec.specs.declared.Converted.{Converted}
 use Rattle.convert_spec.specs.declared.Converted.the-variants as converted-is
 use Rattle.convert_spec.specs.declared.Found.{Found}
@@ -54,19 +54,19 @@ module _ (t : Told) (own : Own) (s frame : List ℕ) (r : sizesRight t own ≡ t
     fd : f ≡ foundOf (sorted t (other (own .edition)) s)
     fd = fi ∙ ap (λ (e : Edition). foundIn t e s o) nm ∙ found-sorted t (other (own .edition)) s o sizes bytes long-enough .0
 
-    pub not-given : (f .given ≡ 1 → ⊥) → convertCall t own s frame ≡ refused (f .answer) frame
+    pub not-given : (f .outcome ≡ 1 → ⊥) → convertCall t own s frame ≡ refused (f .answer) frame
     not-given h =
         convert-sorted t own s frame r room
-        ∙ no-line t own (sorted t (other (own .edition)) s) frame (λ e. h (ap (λ (x : Found). x .given) fd ∙ e))
+        ∙ no-line t own (sorted t (other (own .edition)) s) frame (λ e. h (ap (λ (x : Found). x .outcome) fd ∙ e))
         ∙ ap (λ (x : Found). refused (x .answer) frame) (sym fd)
 
     -- a line was found
-    module _ (h : f .given ≡ 1) (line-out : List ℕ) (li : line-out ≡ lineIn t named s o) where
+    module _ (h : f .outcome ≡ 1) (line-out : List ℕ) (li : line-out ≡ lineIn t named s o) where
       lo : line-out ≡ lineOut (sorted t (other (own .edition)) s) o
       lo = li ∙ ap (λ (e : Edition). lineIn t e s o) nm ∙ found-sorted t (other (own .edition)) s o sizes bytes long-enough .1
 
-      its : (k : Label) × (L : List ℕ) × (n : ℕ) × (sorted t (other (own .edition)) s ≡ judged (line k L n))
-      its = some-line (sorted t (other (own .edition)) s) (sym (ap (λ (x : Found). x .given) fd) ∙ h)
+      its : (k : Own) × (L : List ℕ) × (n : ℕ) × (sorted t (other (own .edition)) s ≡ judged (line k L n))
+      its = some-line (sorted t (other (own .edition)) s) (sym (ap (λ (x : Found). x .outcome) fd) ∙ h)
 
       L : List ℕ
       L = its .1

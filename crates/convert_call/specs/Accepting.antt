@@ -9,12 +9,12 @@ use Rattle.frame_spec.specs.Told.{Told}
 use Rattle.frame_write.specs.Answers.{sizesRight}
 use Rattle.frame_write.specs.Outcomes.{Accepts, right-sealable, length-right}
 use Rattle.read_spec.specs.Sizes.{Sizes}
-use Rattle.read_spec.specs.Judged.{Label, line}
+use Rattle.read_spec.specs.Judged.{line}
 use Rattle.read_spec.specs.Judging.{judge}
 use Rattle.demand_reading.specs.Written.{given-made}
 
 pub found-accepts : (t : Told) → Sizes t → (ed : ℕ) (s : List ℕ) → Below 256 s → (own : Own) → sizesRight t own ≡ true
-    → (k : Label) (L : List ℕ) (n : ℕ) → judge t ed s ≡ line k L n → Accepts t own L
+    → (k : Own) (L : List ℕ) (n : ℕ) → judge t ed s ≡ line k L n → Accepts t own L
 found-accepts t z ed s bytes own r k L n e =
-    let w = given-made t z ed s bytes k L n e .1 .accepts in
+    let w = given-made t z ed s bytes k L n e .accepts in
     record { sealable = right-sealable t own L r (length-right (w .sealable)); ruled = w .ruled }

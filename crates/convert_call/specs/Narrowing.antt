@@ -18,7 +18,7 @@ use Rattle.frame_spec.specs.Frames.{frameOf}
 use Rattle.frame_spec.specs.AnyLayout.{under, frame-under}
 use Rattle.frame_spec.specs.Lengths.{frameRoom}
 use Rattle.frame_write.specs.Answers.{sizesRight}
-use Rattle.read_spec.specs.Judged.{Label, Judged, shape, stuffing, font, work, seal, unlisted, trade, layout, line}
+use Rattle.read_spec.specs.Judged.{Judged, shape, stuffing, font, work, seal, unlisted, trade, layout, line}
 use Rattle.read_spec.specs.Judging.{judgeFields}
 use Rattle.read_spec.specs.Narrowing.{Narrower, alike, narrowed, fields-narrows}
 use Rattle.convert_spec.specs.declared.Converted.the-variants as converted-is
@@ -27,7 +27,7 @@ use Rattle.convert_spec.specs.Answers.{other, sameEdition, Sorted, misnamed, ju
 -- what a stretch is found to be with a layout named, beside what it is found to be with none
 data Beside : Sorted → Sorted → Type 0 where
   equal : (x : Sorted) → Beside x x
-  less : (k : Label) (l : List ℕ) (n : ℕ) → Beside (judged (layout n)) (judged (line k l n))
+  less : (k : Own) (l : List ℕ) (n : ℕ) → Beside (judged (layout n)) (judged (line k l n))
 
 module _ (t : Told) (own : Own) (s f : List ℕ) where
   bare : Told

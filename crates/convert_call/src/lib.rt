@@ -6,16 +6,17 @@ ghost use Rattle.frame_body.specs.declared.Edition.the-variants.{One, Two};
 ghost use Rattle.frame_body.specs.Fields.{ownOf};
 ghost use Rattle.frame_spec.specs.Told.{told};
 ghost use Rattle.convert_spec.specs.Answers.{convertCall, numberOf, lengthIn};
-use answer_numbers::write_length;
-use convert_editions::frame_room;
-use convert_editions::other;
 use convert_find::line_in;
+use convert_find::other;
 use convert_spec::Converted;
 use frame_body::Edition;
 use frame_body::LONGEST_LINE;
+use frame_spec::frame_room;
 use frame_write::sizes_right;
 use frame_write::write_edition;
+use frame_write::write_length;
 use line_layout::Layout;
+use read_numbers::LINE;
 
 // Seals the line of a stretch of the other edition anew in this one, and writes its frame to the start of frame; the rest of it stays. A refusal
 // writes nothing.
@@ -29,8 +30,10 @@ pub fn convert(
     job: &[u8],
     frame: &mut [u8],
 ) -> Converted
-    ensures { λ r. ⌜ r ≡ convertCall (told (now (key .entry)) (now (font .entry)) layout) (ownOf edition (now (nonce .entry)) (now (job .entry))) (now (stretch .entry)) (now (frame .entry)) .answer ⌝ }
-    ensures { λ _. ⌜ now (frame .exit) ≡ convertCall (told (now (key .entry)) (now (font .entry)) layout) (ownOf edition (now (nonce .entry)) (now (job .entry))) (now (stretch .entry)) (now (frame .entry)) .frame ⌝ }
+    ensures { λ r. ⌜ r ≡ convertCall (told (now (key .entry)) (now (font .entry)) layout) (ownOf edition (now (nonce .entry)) (now (job .entry)))
+        (now (stretch .entry)) (now (frame .entry)) .answer ⌝ }
+    ensures { λ _. ⌜ now (frame .exit) ≡ convertCall (told (now (key .entry)) (now (font .entry)) layout)
+        (ownOf edition (now (nonce .entry)) (now (job .entry))) (now (stretch .entry)) (now (frame .entry)) .frame ⌝ }
 {
     if !sizes_right(edition, key, nonce, font, job) {
         return Converted::Sizes;
@@ -41,7 +44,7 @@ pub fn convert(
     let mut line = [0u8; LONGEST_LINE];
     let found = line_in(stretch, other(edition), key, font, layout, &mut line);
     let n = found.length;
-    if found.given != 1 {
+    if found.outcome != LINE {
         let answer = found.answer;
         return answer;
     }
@@ -58,8 +61,10 @@ pub fn to_one(
     nonce: &[u8],
     frame: &mut [u8],
 ) -> Converted
-    ensures { λ r. ⌜ r ≡ convertCall (told (now (key .entry)) (now (font .entry)) layout) (ownOf One (now (nonce .entry)) []) (now (stretch .entry)) (now (frame .entry)) .answer ⌝ }
-    ensures { λ _. ⌜ now (frame .exit) ≡ convertCall (told (now (key .entry)) (now (font .entry)) layout) (ownOf One (now (nonce .entry)) []) (now (stretch .entry)) (now (frame .entry)) .frame ⌝ }
+    ensures { λ r. ⌜ r ≡ convertCall (told (now (key .entry)) (now (font .entry)) layout) (ownOf One (now (nonce .entry)) []) (now (stretch .entry))
+        (now (frame .entry)) .answer ⌝ }
+    ensures { λ _. ⌜ now (frame .exit) ≡ convertCall (told (now (key .entry)) (now (font .entry)) layout) (ownOf One (now (nonce .entry)) [])
+        (now (stretch .entry)) (now (frame .entry)) .frame ⌝ }
 {
     let none = [0u8; 0];
     convert(
@@ -84,8 +89,10 @@ pub fn to_two(
     job: &[u8],
     frame: &mut [u8],
 ) -> Converted
-    ensures { λ r. ⌜ r ≡ convertCall (told (now (key .entry)) (now (font .entry)) layout) (ownOf Two (now (nonce .entry)) (now (job .entry))) (now (stretch .entry)) (now (frame .entry)) .answer ⌝ }
-    ensures { λ _. ⌜ now (frame .exit) ≡ convertCall (told (now (key .entry)) (now (font .entry)) layout) (ownOf Two (now (nonce .entry)) (now (job .entry))) (now (stretch .entry)) (now (frame .entry)) .frame ⌝ }
+    ensures { λ r. ⌜ r ≡ convertCall (told (now (key .entry)) (now (font .entry)) layout) (ownOf Two (now (nonce .entry)) (now (job .entry)))
+        (now (stretch .entry)) (now (frame .entry)) .answer ⌝ }
+    ensures { λ _. ⌜ now (frame .exit) ≡ convertCall (told (now (key .entry)) (now (font .entry)) layout) (ownOf Two (now (nonce .entry)) (now (job .entry)))
+        (now (stretch .entry)) (now (frame .entry)) .frame ⌝ }
 {
     convert(Edition::Two, stretch, key, font, layout, nonce, job, frame)
 }

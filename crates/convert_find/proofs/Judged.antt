@@ -10,7 +10,9 @@ use Rattle.read_spec.specs.Judging.{held}
 use Rattle.read_spec.specs.Ceiling.{allWork}
 use Rattle.read_call.specs.declared.Asked.{Asked}
 use Rattle.read_call.specs.declared.Verdict.{Verdict}
-use Rattle.read_call.specs.Answers.{judgeAnswer, judgeOut, givenOf, lengthOf}
+use Rattle.read_call.specs.Answers.{judgeAnswer, judgeOut}
+use Rattle.read_numbers.specs.declared.Report.{Report}
+use Rattle.read_numbers.specs.Reports.{reportOf}
 use Rattle.convert_spec.specs.declared.Converted.{Converted}
 use Rattle.convert_spec.specs.declared.Found.{Found}
 use Rattle.convert_spec.specs.Answers.{otherThan, convertedOf}
@@ -26,9 +28,9 @@ module _ (t : Told) (named : Edition) (s o : List ℕ) (h : otherThan named (hel
 
   pub at-judged : (v : Verdict) (w : List ℕ) → v ≡ judgeAnswer t (record { editions = n; allowed = allWork; layout = t .layout }) s o
       → w ≡ judgeOut t (record { editions = n; allowed = allWork; layout = t .layout }) s o
-      → (x : Converted) (g l : ℕ) → x ≡ convertedOf (v .answer) → g ≡ givenOf (v .answer) → l ≡ lengthOf (v .answer)
-      → (_≡_ {A = Found} (record { answer = x; given = g; length = l }) (foundIn t named s o)) × (w ≡ lineIn t named s o)
+      → (x : Converted) (m : Report) → x ≡ convertedOf (v .answer) → m ≡ reportOf (v .answer)
+      → (_≡_ {A = Found} (record { answer = x; outcome = m .outcome; length = m .length }) (foundIn t named s o)) × (w ≡ lineIn t named s o)
   unfolding foundIn lineIn asked
-  at-judged v w p q x g l i j k =
+  at-judged v w p q x m i j =
       let verdict : v ≡ judgeAnswer t (alone named (t .layout)) s o = p ∙ ap (λ (a : Asked). judgeAnswer t a s o) asks in
-      (rw (h, i, j, k, verdict), q ∙ ap (λ (a : Asked). judgeOut t a s o) asks ∙ rw h)
+      (rw (h, i, j, verdict), q ∙ ap (λ (a : Asked). judgeOut t a s o) asks ∙ rw h)

@@ -11,7 +11,7 @@ use Rattle.read_spec.specs.Judging.{held}
 use Rattle.read_spec.specs.Ceiling.{allWork}
 use Rattle.read_call.specs.declared.Answer.{Answer}
 use Rattle.read_call.specs.declared.Asked.{Asked}
-use Rattle.read_call.specs.Answers.{judgeAnswer, judgeOut, givenOf, lengthOf}
+use Rattle.read_call.specs.Answers.{judgeAnswer, judgeOut, outcomeOf, lengthOf}
 use Rattle.convert_spec.specs.declared.Converted.the-variants as converted-is
 use Rattle.convert_spec.specs.declared.Found.{Found}
 use Rattle.convert_spec.specs.Answers.{otherThan, convertedOf}
@@ -22,11 +22,11 @@ alone named y = record { editions = only named; allowed = allWork; layout = y }
 
 -- no line: the frame is not of the edition named
 abbrev pub notNamed : Found
-notNamed = record { answer = converted-is.Edition; given = 0; length = 0 }
+notNamed = record { answer = converted-is.Edition; outcome = 2; length = 0 }
 
 -- what a reader's answer comes to
 abbrev pub foundFor : Answer → Found
-foundFor a = record { answer = convertedOf a; given = givenOf a; length = lengthOf a }
+foundFor a = record { answer = convertedOf a; outcome = outcomeOf a; length = lengthOf a }
 
 unfoldable pub foundIn : Told → Edition → List ℕ → List ℕ → Found
 foundIn t named s o = cond (otherThan named (held s)) notNamed (foundFor (judgeAnswer t (alone named (t .layout)) s o .answer))

@@ -21,7 +21,7 @@ use Rattle.read_spec.specs.Judged.{Judged, shape, stuffing, font, work, seal, u
 use Rattle.read_spec.specs.Judging.{judgeFields}
 use Rattle.read_call.specs.declared.Answer.{Answer}
 use Rattle.read_call.specs.declared.Answer.the-variants as answer-is
-use Rattle.read_call.specs.Answers.{answerOf, lineOver, lengthOf, givenOf}
+use Rattle.read_call.specs.Answers.{answerOf, lineOver, lengthOf, outcomeOf}
 use Rattle.convert_spec.specs.declared.Converted.{Converted}
 use Rattle.convert_spec.specs.declared.Converted.the-variants as converted-is
 use Rattle.convert_spec.specs.declared.Found.{Found}
@@ -83,8 +83,8 @@ convertedOf (answer-is.Line k n) = converted-is.Done k
 
 -- its line, and the buffer that it is written to
 abbrev pub foundOf : Sorted → Found
-foundOf misnamed = record { answer = converted-is.Edition; given = 0; length = 0 }
-foundOf (judged j) = record { answer = convertedOf (answerOf j); given = givenOf (answerOf j); length = lengthOf (answerOf j) }
+foundOf misnamed = record { answer = converted-is.Edition; outcome = 2; length = 0 }
+foundOf (judged j) = record { answer = convertedOf (answerOf j); outcome = outcomeOf (answerOf j); length = lengthOf (answerOf j) }
 
 abbrev pub lineOut : Sorted → List ℕ → List ℕ
 lineOut misnamed o = o

@@ -21,7 +21,7 @@ use Rattle.frame_spec.specs.Lengths.{frameRoom}
 use Rattle.frame_write.specs.Answers.{sizesRight}
 use Rattle.read_spec.specs.Sizes.{Sizes}
 use Rattle.read_spec.specs.Editions.{allows, only, among}
-use Rattle.read_spec.specs.Judged.{Label, shape, stuffing, font, work, seal, unlisted, trade, layout, line}
+use Rattle.read_spec.specs.Judged.{shape, stuffing, font, work, seal, unlisted, trade, layout, line}
 use Rattle.read_spec.specs.Judging.{judgeFields, byStuffing, judge, heldBy, held}
 use Rattle.convert_spec.specs.declared.Converted.the-variants as converted-is
 use Rattle.convert_spec.specs.Answers.{other, sameEdition, otherThan, Sorted, misnamed, judged, sortFields, sortStuffing, sorted, foundOf, refused, bySort, convertCall}
@@ -70,7 +70,7 @@ module _ (t : Told) (named : Edition) where
   sorted-misnamed s h = other-stuffing (lengthAnswer s) (fieldsOf (unstuffed s)) h
 
   -- a line comes only from a reader's line
-  pub sorted-line : (s : List ℕ) (k : Label) (L : List ℕ) (n : ℕ) → sorted t named s ≡ judged (line k L n) → judge t (only named) s ≡ line k L n
+  pub sorted-line : (s : List ℕ) (k : Own) (L : List ℕ) (n : ℕ) → sorted t named s ≡ judged (line k L n) → judge t (only named) s ≡ line k L n
   sorted-line s k L n e = go (otherThan named (held s)) refl
     where
       go : (b : Bool) → otherThan named (held s) ≡ b → judge t (only named) s ≡ line k L n
@@ -89,7 +89,7 @@ sizes-told t own = go (eqb (length (t .key)) keyLength) refl (eqb (length (own .
     go false p y v e = never e
 
 -- where no line is found the call is refused for it
-pub no-line : (t : Told) (own : Own) (x : Sorted) (frame : List ℕ) → (foundOf x .given ≡ 1 → ⊥) → bySort t own x frame ≡ refused (foundOf x .answer) frame
+pub no-line : (t : Told) (own : Own) (x : Sorted) (frame : List ℕ) → (foundOf x .outcome ≡ 1 → ⊥) → bySort t own x frame ≡ refused (foundOf x .answer) frame
 no-line t own misnamed frame h = refl
 no-line t own (judged shape) frame h = refl
 no-line t own (judged stuffing) frame h = refl
@@ -102,7 +102,7 @@ no-line t own (judged (layout n)) frame h = refl
 no-line t own (judged (line k L n)) frame h = absurd (h refl)
 
 -- and where one is, it is a line
-pub some-line : (x : Sorted) → foundOf x .given ≡ 1 → (k : Label) × (L : List ℕ) × (n : ℕ) × (x ≡ judged (line k L n))
+pub some-line : (x : Sorted) → foundOf x .outcome ≡ 1 → (k : Own) × (L : List ℕ) × (n : ℕ) × (x ≡ judged (line k L n))
 some-line misnamed h = absurd (omega (arith, h))
 some-line (judged shape) h = absurd (omega (arith, h))
 some-line (judged stuffing) h = absurd (omega (arith, h))

@@ -1,5 +1,5 @@
 // The converter (orders W6 and W7) by definition: what a call answers and leaves, and what a stretch is found to be. There is no code; the line of a
-// stretch is found in the crate convert_find, the calls are in converter.
+// stretch is found in the crate convert_find, the calls are in convert_call.
 
 // What converting a stretch comes to.
 pub enum Converted {
@@ -27,9 +27,9 @@ pub enum Converted {
     Layout,
 }
 
-// What the line of a stretch comes to: an answer, whether a line was given (1) or not, and its length.
+// What the line of a stretch comes to: an answer, the outcome, which is that of a reading (1 where a line was given), and its length.
 pub struct Found {
     pub answer: Converted,
-    pub given: u32,
+    pub outcome: u32,
     pub length: usize,
 }

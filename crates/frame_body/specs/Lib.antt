@@ -5,3 +5,4 @@ pub mod OneToOne
 pub mod Places
 pub mod Bytes
 pub mod Job
+pub mod Known

@@ -12,31 +12,19 @@ ghost use Rattle.frame_spec.specs.Told.{told};
 ghost use Rattle.line_layout.specs.declared.Layout.the-variants.{Neither};
 ghost use Rattle.frame_spec.specs.Frames.{sealedBody, framed};
 ghost use Rattle.frame_spec.specs.Lengths.{Sealable};
-ghost use Rattle.frame_write.specs.Answers.{sizesRight, lengthRight, writeCall};
+ghost use Rattle.frame_write.specs.Answers.{sizesRight, lengthRight, writeCall, numberOf, lengthOf, countOf};
 use frame_body::Edition;
 use frame_body::job_field_length;
 use frame_body::job_size;
+use frame_spec::BESIDE_LINE;
+use frame_spec::FRAME_ROOM;
+use frame_spec::INSTANCE;
+use frame_spec::KEY_LENGTH;
 use frame_stuff_spec::MARK;
 use frame_stuff_spec::Stuffed;
 use line_layout::Judged;
 use line_layout::Layout;
 use line_layout::judge_line;
-
-// The length of a key in bytes (document 01, number 2).
-pub const KEY_LENGTH: usize = 16;
-
-// The instance of InGAGE by which frames are sealed (document 01, 'What is supplied').
-pub const INSTANCE: usize = 1;
-
-// The room that a frame asks for, whatever its own length (document 01, number 4); in edition two twice what field 05 has is added (order W6).
-pub const FRAME_ROOM: usize = 276;
-
-pub const FRAME_ROOM_TWO: usize = FRAME_ROOM
-    + 2 * (frame_body::HEAD_LENGTH + frame_body::JOB_LENGTH);
-
-// What the writer counts beside one call for each byte of the line (document 01, 'Numbers returned'); in edition two as many as field 05 has
-// bytes are added (order W6).
-pub const BESIDE_LINE: usize = 39;
 
 // What writing a frame comes to.
 pub enum Written {
@@ -210,4 +198,55 @@ pub fn write_two(
     ensures { λ _. ⌜ now (frame .exit) ≡ writeCall (told (now (key .entry)) (now (font .entry)) layout) (ownOf Two (now (nonce .entry)) (now (job .entry))) (now (line .entry)) (now (frame .entry)) .frame ⌝ }
 {
     write_edition(Edition::Two, key, nonce, font, layout, job, line, frame)
+}
+
+// What a refusal counts.
+const NO_CALLS: usize = 0;
+
+// The number of what `write` answers.
+pub fn write_number(answer: Written) -> u32
+    ensures { λ r. ⌜ r ≡ numberOf answer ⌝ }
+{
+    match answer {
+        Written::Done {
+            length: _,
+            calls: _,
+        } => 0,
+        Written::Sizes => 2,
+        Written::TooLong => 3,
+        Written::Unlisted => 9,
+        Written::Trade => 13,
+        Written::Layout => 17,
+        Written::NoRoom => 4,
+    }
+}
+
+// The frame's length, 0 on a refusal.
+pub fn write_length(answer: Written) -> usize
+    ensures { λ r. ⌜ r ≡ lengthOf answer ⌝ }
+{
+    match answer {
+        Written::Done { length, calls: _ } => length,
+        Written::Sizes => 0,
+        Written::TooLong => 0,
+        Written::Unlisted => 0,
+        Written::Trade => 0,
+        Written::Layout => 0,
+        Written::NoRoom => 0,
+    }
+}
+
+// The count of what `write` answers.
+pub fn write_count(answer: Written) -> usize
+    ensures { λ r. ⌜ r ≡ countOf answer ⌝ }
+{
+    match answer {
+        Written::Done { length: _, calls } => calls,
+        Written::Sizes => NO_CALLS,
+        Written::TooLong => NO_CALLS,
+        Written::Unlisted => NO_CALLS,
+        Written::Trade => NO_CALLS,
+        Written::Layout => NO_CALLS,
+        Written::NoRoom => NO_CALLS,
+    }
 }

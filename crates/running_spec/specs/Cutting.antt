@@ -13,7 +13,7 @@ use Rattle.digest_spec.specs.Instances.{DIGEST, unknown, sizeOf, rateOf}
 use Rattle.digest_spec.specs.Hashing.{Squeezed, absorbed, sponged, digestOf, digestCalls}
 use Rattle.digest_call.specs.Answers.{LONGEST-MESSAGE}
 use Rattle.digest_spec.specs.Shapes.{known-whole}
-use Rattle.running_spec.specs.Running.{written, leftOf, runningOf, unfinished, unfed, grown, concluded, startAnswer, startRecord, feedAnswer, feedRecord, finishAnswer, finishOut, finishRecord}
+use Rattle.running_spec.specs.Running.{written, leftOf, runningOf, unfinished, unfeedable, grown, concluded, startAnswer, startRecord, feedAnswer, feedRecord, finishAnswer, finishOut, finishRecord}
 use Rattle.running_spec.specs.Growth.{Sized, length-left, grown-twice, running-grown, running-concluded}
 use Rattle.running_spec.specs.Order.{Tested, known-of, feed-tested, feed-passes, finish-passes}
 use Rattle.running_spec.specs.declared.Record.{Record}
@@ -55,7 +55,7 @@ allDone (b ∷ bs) = fed-is.Done ∷ allDone bs
 module _ (r : Record) (a b : List ℕ) {r₁ r₂ r₃ : Record} {x y z : Fed} (sized : Sized r) (whole : Feeds r (a ++ b) z r₃) (first : Feeds r a x r₁)
     (second : Feeds r₁ b y r₂) where
   pub feed-join : z ≡ fed-is.Done → (x ≡ fed-is.Done) × (y ≡ fed-is.Done) × (r₂ ≡ r₃)
-  unfolding grown written unfed
+  unfolding grown written unfeedable
   feed-join done =
       let t = feed-tested r (a ++ b) (sym done ∙ whole .0) in
       let fits : r .total + (length a + length b) ≤ LONGEST-MESSAGE = rw (length-append a b) at (t .fits) in
@@ -82,7 +82,7 @@ module _ (r : Record) (a b : List ℕ) {r₁ r₂ r₃ : Record} {x y z : Fed} (
 -- from the record of a message on
 module _ (i : ℕ) (known : unknown i ≡ false) where
   running-passes : (m b : List ℕ) → length (m ++ b) ≤ LONGEST-MESSAGE → Tested (runningOf i m) b
-  unfolding runningOf written unfed
+  unfolding runningOf written unfeedable
   running-passes m b h =
       let fits : length m + length b ≤ LONGEST-MESSAGE = rw (length-append m b) at h in
       record { goes-on = refl; usable = rw known (le-ltb LONGEST-MESSAGE (length m) (omega arith)); fits = fits }

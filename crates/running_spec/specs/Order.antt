@@ -13,7 +13,7 @@ use Rattle.base_lists.specs.Never.{never}
 use Rattle.base_lists.specs.Buffers.{over}
 use Rattle.digest_spec.specs.Instances.{DIGEST, unknown}
 use Rattle.digest_call.specs.Answers.{LONGEST-MESSAGE}
-use Rattle.running_spec.specs.Running.{unfinished, unfed, isFinished, grown, concluded, onFeed, feedAnswer, feedRecord, finishAnswer, finishOut, finishRecord, onFinish, ended}
+use Rattle.running_spec.specs.Running.{unfinished, unfeedable, isFinished, grown, concluded, onFeed, feedAnswer, feedRecord, finishAnswer, finishOut, finishRecord, onFinish, ended}
 use Rattle.running_spec.specs.declared.Record.{Record}
 use Rattle.running_spec.specs.declared.Fed.{Fed}
 use Rattle.running_spec.specs.declared.Fed.the-variants as fed-is
@@ -21,8 +21,8 @@ use Rattle.running_spec.specs.declared.Finished.{Finished}
 use Rattle.running_spec.specs.declared.Finished.the-variants as finished-is
 
 -- a record that can be fed has a known instance and counts no more than can be fed
-pub known-of : (r : Record) → unfed r ≡ false → (unknown (r .instance) ≡ false) × (r .total ≤ LONGEST-MESSAGE)
-unfolding unfed
+pub known-of : (r : Record) → unfeedable r ≡ false → (unknown (r .instance) ≡ false) × (r .total ≤ LONGEST-MESSAGE)
+unfolding unfeedable
 known-of r e = decided (unknown (r .instance)) refl e
   where
     decided : (b : Bool) → unknown (r .instance) ≡ b → cond b true (ltb LONGEST-MESSAGE (r .total)) ≡ false
@@ -50,13 +50,13 @@ refused-leaves r b n = left (feedAnswer r b) n
 -- what a feed that is done was tested for
 pub record Tested (r : Record) (b : List ℕ) : Type 0 where
   pub goes-on : ltb 0 (r .finished) ≡ false
-  pub usable : unfed r ≡ false
+  pub usable : unfeedable r ≡ false
   pub fits : r .total + length b ≤ LONGEST-MESSAGE
 
 pub feed-tested : (r : Record) (b : List ℕ) → fed-is.Done ≡ feedAnswer r b → Tested r b
 unfolding feedAnswer
 feed-tested r b e =
-    let t = tested (ltb 0 (r .finished)) (unfed r) (ltb LONGEST-MESSAGE (r .total + length b)) e in
+    let t = tested (ltb 0 (r .finished)) (unfeedable r) (ltb LONGEST-MESSAGE (r .total + length b)) e in
     record { goes-on = t .0; usable = t .1; fits = ltb-false LONGEST-MESSAGE (r .total + length b) (t .2) }
   where
     tested : (f u t : Bool) → fed-is.Done ≡ cond f fed-is.AfterFinish (cond u fed-is.Unknown (cond t fed-is.TooLong fed-is.Done))
@@ -75,7 +75,7 @@ feed-passes r b t =
     (rw (t .goes-on, t .usable, e), rw (t .goes-on, t .usable, e))
 
 -- so is a finish, and gives the digest out
-pub finish-passes : (r : Record) (o : List ℕ) → ltb 0 (r .finished) ≡ false → unfed r ≡ false → DIGEST ≤ length o
+pub finish-passes : (r : Record) (o : List ℕ) → ltb 0 (r .finished) ≡ false → unfeedable r ≡ false → DIGEST ≤ length o
     → (finishAnswer r o ≡ finished-is.Done (concluded r .run .calls)) × (finishOut r o ≡ over (concluded r .hash) o)
 unfolding finishOut finishAnswer
 finish-passes r o f u h = let e = le-ltb (length o) DIGEST h in (rw (f, u, e), rw (f, u, e))

@@ -52,8 +52,8 @@ abbrev pub isFinished : Record → Bool
 isFinished r = ltb 0 (r .finished)
 
 -- no known instance, or a count that no feeding gives
-unfoldable pub unfed : Record → Bool
-unfed r = cond (unknown (r .instance)) true (ltb LONGEST-MESSAGE (r .total))
+unfoldable pub unfeedable : Record → Bool
+unfeedable r = cond (unknown (r .instance)) true (ltb LONGEST-MESSAGE (r .total))
 
 -- start: on any record. Done, it is the record that feeding nothing gives
 unfoldable pub startAnswer : ℕ → Started
@@ -68,7 +68,7 @@ startRecord r i = cond (unknown i) r (runningOf i [])
 unfoldable pub feedAnswer : Record → List ℕ → Fed
 feedAnswer r b =
     cond (isFinished r) fed-is.AfterFinish
-    (cond (unfed r) fed-is.Unknown
+    (cond (unfeedable r) fed-is.Unknown
     (cond (ltb LONGEST-MESSAGE (r .total + length b)) fed-is.TooLong
     fed-is.Done))
 
@@ -97,7 +97,7 @@ concluded r = closed (rateOf (r .instance)) (outputsOf (r .instance)) (unfinishe
 unfoldable pub finishAnswer : Record → List ℕ → Finished
 finishAnswer r o =
     cond (isFinished r) finished-is.AfterFinish
-    (cond (unfed r) finished-is.Unknown
+    (cond (unfeedable r) finished-is.Unknown
     (cond (ltb (length o) DIGEST) finished-is.NoRoom
     (finished-is.Done (concluded r .run .calls))))
 

@@ -1,5 +1,9 @@
 // The running digest (order W4) by definition: its record, what start, feed and finish answer and leave, and that any cutting of a message
-// gives its digest. There is no code; the steps that meet the definitions are in the crate running_steps, the calls on a lent record in lending.
+// gives its digest. The only code is the test whether a record can be fed at all; the steps that meet the definitions are in the crate running_steps,
+// the calls on a lent record in running_call.
+ghost use mathlib.Core.Path.{_≡_};
+ghost use Rattle.running_spec.specs.Running.{unfeedable};
+use digest_call::LONGEST_MESSAGE;
 use gage_spec::LARGEST;
 use gage_sponge::LARGEST_RATE;
 
@@ -33,4 +37,14 @@ pub enum Finished {
     AfterFinish,
     Unknown,
     NoRoom,
+}
+
+// Whether a record has no known instance, or counts more than can be fed.
+pub fn is_unfeedable(running: Record) -> bool
+    ensures { λ r. ⌜ r ≡ unfeedable running ⌝ }
+{
+    if digest_sponge::is_unknown(running.instance as usize) {
+        return true;
+    }
+    running.total > LONGEST_MESSAGE
 }

@@ -19,7 +19,7 @@ use Rattle.digest_call.specs.Counting as digest-calls
 use Rattle.digest_sponge.specs.Parts.{spongeOf, takenIn, closedBy, within}
 use Rattle.digest_sponge.specs.Joining.{taken-state, closed-calls, closed-state}
 use Rattle.digest_sponge.specs.declared.Shape.{Shape}
-use Rattle.running_spec.specs.Running.{written, soFar, unfinished, unfed, takenUp, grown, feedAnswer, feedRecord, concluded, finishAnswer, finishOut, onFinish, ended}
+use Rattle.running_spec.specs.Running.{written, soFar, unfinished, unfeedable, takenUp, grown, feedAnswer, feedRecord, concluded, finishAnswer, finishOut, onFinish, ended}
 use Rattle.running_grow.specs.declared.Grown.{Grown}
 use Rattle.running_grow.specs.Growing.{grownBy}
 use Rattle.running_grow.specs.Held.{rate-is, outputs-is}
@@ -90,7 +90,7 @@ module _ (r : Record) (known : unknown (r .instance) ≡ false) {shape : Shape} 
   pub count-fits : r .total ≤ LONGEST-MESSAGE → r .total / shape .rate + shape .outputs ≤ LONGEST-MESSAGE + DIGEST
   count-fits h = rw (rate, outputs) (digest-calls.count-fits (r .instance) (r .total) known h .1)
 
-  pub finish-done : (o hash w : List ℕ) → length hash ≡ DIGEST → unfed r ≡ false → r .finished ≤ 0 → DIGEST ≤ length o
+  pub finish-done : (o hash w : List ℕ) → length hash ≡ DIGEST → unfeedable r ≡ false → r .finished ≤ 0 → DIGEST ≤ length o
       → hash ≡ closedBy (r .instance) (r .state) (take (r .total % shape .rate) (r .block)) → w ≡ copied hash o
       → (finished-is.Done (r .total / shape .rate + 1 + shape .outputs) ≡ finishAnswer r o) × (w ≡ finishOut r o)
   finish-done o hash w long u f h hash-is w-is =

@@ -60,7 +60,7 @@ pub fn feed_answer(running: Record, bytes: &[u8]) -> Fed
     if running.finished > NOT_FINISHED {
         return Fed::AfterFinish;
     }
-    if running_claims::is_unfed(running) {
+    if running_spec::is_unfeedable(running) {
         return Fed::Unknown;
     }
     if bytes.len() > LONGEST_MESSAGE - running.total {
@@ -112,7 +112,7 @@ pub fn give(running: Record, out: &mut [u8]) -> Finished
     if running.finished > NOT_FINISHED {
         return Finished::AfterFinish;
     }
-    if running_claims::is_unfed(running) {
+    if running_spec::is_unfeedable(running) {
         return Finished::Unknown;
     }
     if out.len() < DIGEST {

@@ -23,23 +23,20 @@ judge-requires c κs = search needs
 converted-of-requires : tie.Need-converted-of-requires
 converted-of-requires c κs = search needs
 
-read-given-requires : tie.Need-read-given-requires
-read-given-requires c κs = search needs
-
-read-length-requires : tie.Need-read-length-requires
-read-length-requires c κs = search needs
+numbers-requires : tie.Need-numbers-requires
+numbers-requires c κs = search needs
 
 same-length : tie.Need-same-length
 same-length c = search needs
 
 returns-2 : tie.Need-returns-2
 returns-2 c =
-    let a = c .before .before .before .before .before .before .before .before .before .before .before .before .before .before .args in
-    let j = c .before .before .before .before .before .judge in
+    let a = c .before .before .before .before .before .before .before .before .before .before .before .before .before .args in
+    let j = c .before .before .before .before .judge in
     at-judged (told (a .key .now) (a .font .now) (a .layout)) (a .named) (a .stretch .now) (a .line .now)
-    (sym (c .before .before .before .before .before .before .before .before .before .misnamed .ensures) ∙ c .before .before .before .before .before .before .before .before .if1 .left)
-    _ (c .before .before .before .before .before .before .before .only .ensures)
-    _ _ (j .ensures .0) (j .ensures .1) _ _ _ (c .before .before .converted-of .ensures) (c .before .read-given .ensures) (c .read-length .ensures)
+    (sym (c .before .before .before .before .before .before .before .before .misnamed .ensures) ∙ c .before .before .before .before .before .before .before .if1 .left)
+    _ (c .before .before .before .before .before .before .only .ensures)
+    _ _ (j .ensures .0) (j .ensures .1) _ _ (c .before .converted-of .ensures) (c .numbers .ensures)
 
 pub line-in-spec : {M : Type 1} → statement M
 line-in-spec =
@@ -50,7 +47,6 @@ line-in-spec =
     only-requires
     judge-requires
     converted-of-requires
-    read-given-requires
-    read-length-requires
+    numbers-requires
     same-length
     returns-2)

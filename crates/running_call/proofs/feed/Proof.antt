@@ -49,13 +49,13 @@ use Rattle.running_spec.proofs.Fed as S
 use Rattle.running_spec.proofs.Fed.Laws as S′
 use Rattle.running_steps.proofs.feed_answer as one
 use Rattle.running_steps.proofs.feed_answer.Symbol as one-def
-use Rattle.running_steps.proofs.feed_answer.Symbol.{name as #feeding·feed-answer}
+use Rattle.running_steps.proofs.feed_answer.Symbol.{name as #running-steps·feed-answer}
 use Rattle.running_steps.proofs.feed_answer.Met as one-thm
 use Rattle.running_steps.proofs.after_feed as two
 use Rattle.running_steps.proofs.after_feed.Symbol as two-def
-use Rattle.running_steps.proofs.after_feed.Symbol.{name as #feeding·after-feed}
+use Rattle.running_steps.proofs.after_feed.Symbol.{name as #running-steps·after-feed}
 use Rattle.running_steps.proofs.after_feed.Met as two-thm
-use Rattle.running_call.proofs.feed.Key.{name as #lending·feed}
+use Rattle.running_call.proofs.feed.Key.{name as #running-call·feed}
 use Rattle.running_call.proofs.feed as feed
 use Rattle.running_call.proofs.feed.Statement as stated
 use Rattle.running_call.proofs.feed.Code as code
@@ -129,7 +129,7 @@ module _ {M : Type 1} (𝓤 : URA M) (H : Heap 𝓤) (A : Atoms 𝓤) (W : Given
   typed : (r : Record) (v : Val) → Is R r (v ∷ []) → Holds (hasTy T′.mir v) × WT v
   typed r v is = LL.lawful T.the-type T′.the-laws 𝓤 H A W .typed r _ is .0
 
-  module _ (C : Calls 𝓤 H) (Λ : Loops 𝓤 H) (fm : FmC 𝓤 H (W .laws) C) (known-one : Triple 𝓤 (C #feeding·feed-answer) (One 𝓤 H A at-mem run)) (known-two : Triple 𝓤 (C #feeding·after-feed) (Two 𝓤 H A at-mem run)) where
+  module _ (C : Calls 𝓤 H) (Λ : Loops 𝓤 H) (fm : FmC 𝓤 H (W .laws) C) (known-one : Triple 𝓤 (C #running-steps·feed-answer) (One 𝓤 H A at-mem run)) (known-two : Triple 𝓤 (C #running-steps·after-feed) (Two 𝓤 H A at-mem run)) where
     walk : Room u8 (length (part .now)) → ent 𝓤 (onEntry 𝓤 H A feed.signature (κ, (κ₁, tt)) (q, (q₁, tt)) x at) (WpFn 𝓤 H C Λ code.function (vptr b o ∷ pv ∷ []) Post)
     walk room =
         qed W ((‵ (flft κ q) ⊛ ‵ (flft κ₁ q₁) ⊛ ‵ ftrue) ∷ ‵ (owns (MutRef (named 0) κ R ∷ ShrSlice (named 1) κ₁ u8 ∷ []) x at) ∷ []) ∵ enter ! C Λ code.function (vptr b o ∷ pv ∷ []) _ $
@@ -164,13 +164,13 @@ module _ {M : Type 1} (𝓤 : URA M) (H : Heap 𝓤) (A : Atoms 𝓤) (W : Given
         keep ! (0 ∷ 1 ∷ 2 ∷ 3 ∷ 4 ∷ []) $ by ! (exits r u z e f)))))))))))))))))
 
 module _ {M : Type 1} (𝓤 : URA M) (H : Heap 𝓤) (A : Atoms 𝓤) (W : Given 𝓤 H A) (mem : Memory → SProp 𝓤) (run : Routine → Fun 𝓤) where
-  feed-walks : (C : Calls 𝓤 H) (Λ : Loops 𝓤 H) → FmC 𝓤 H (W .laws) C → Triple 𝓤 (C #feeding·feed-answer) (One 𝓤 H A mem run) → Triple 𝓤 (C #feeding·after-feed) (Two 𝓤 H A mem run)
+  feed-walks : (C : Calls 𝓤 H) (Λ : Loops 𝓤 H) → FmC 𝓤 H (W .laws) C → Triple 𝓤 (C #running-steps·feed-answer) (One 𝓤 H A mem run) → Triple 𝓤 (C #running-steps·after-feed) (Two 𝓤 H A mem run)
       → Walks 𝓤 H A feed.ended stayed (WpFn 𝓤 H C Λ code.function) (feed.clauses 𝓤 H A mem run)
   feed-walks C Λ fm known-one known-two = walked 𝓤 H A feed.ended stayed (feed.clauses 𝓤 H A mem run) (WpFn 𝓤 H C Λ code.function) (λ κs. (ptr-vals, (slice-vals, tt))) (λ κs. (mut-tells (named 0) (κs .0) T.the-row, (shr-slice-tells (named 1) (κs .1 .0) u8, tt)))
       (λ κs qs bounds a _ are. via 𝓤 _ (fst∗ 𝓤 _ (emp 𝓤)) (walk 𝓤 H A W mem run (κs .0) (κs .1 .0) (qs .0) (qs .1 .0) (a .0 .ptr .0) (a .0 .ptr .1) (a .0 .name) (a .0 .now) (a .1 .0) C Λ fm known-one known-two (are .1 .0 .0 .1)))
 
 feed-meets : {M : Type 1} (𝓤 : URA M) (H : Heap 𝓤) (A : Atoms 𝓤) (W : Given 𝓤 H A) (mem : Memory → SProp 𝓤) (run : Routine → Fun 𝓤) (𝓣 : Tables 𝓤 H)
-    → Triple 𝓤 (𝓣 .C #feeding·feed-answer) (One 𝓤 H A mem run) → Triple 𝓤 (𝓣 .C #feeding·after-feed) (Two 𝓤 H A mem run)
+    → Triple 𝓤 (𝓣 .C #running-steps·feed-answer) (One 𝓤 H A mem run) → Triple 𝓤 (𝓣 .C #running-steps·after-feed) (Two 𝓤 H A mem run)
     → Meets 𝓤 H A feed.signature (WpFn 𝓤 H (𝓣 .C) (𝓣 .Λ) code.function) (feed.spec 𝓤 H A mem run)
 feed-meets 𝓤 H A W mem run 𝓣 known-one known-two = walk-meets 𝓤 H A feed.ended stayed W (goes-ref 𝓤 H A W 2 0 tt (plain (λ _. T.the-row)), (goes-dropped 𝓤 H A W 2 (shrSliceOf (1 ∷ []) tt (plain (λ _. u8))) yes (λ κs x f. refl), tt)) (feed.clauses 𝓤 H A mem run) (WpFn 𝓤 H (𝓣 .C) (𝓣 .Λ) code.function) (WpFn-mono 𝓤 H (W .laws) 𝓣 code.function)
     (feed-walks 𝓤 H A W mem run (𝓣 .C) (𝓣 .Λ) (fmOf 𝓤 H (W .laws) 𝓣) known-one known-two)
@@ -179,7 +179,7 @@ pub feed-spec : {M : Type 1} → stated.statement M
 unfolding code.routine tablesOf
 feed-spec 𝓤 H 𝓜 𝓖 𝓡 =
     entered 𝓤 H (tripleOf 𝓤 H (𝓖 .A) feed.signature (feed.spec 𝓤 H (𝓖 .A) (𝓜 .mem) (𝓡 .run)))
-    (tables 𝓤 H 𝓜 𝓡 code.env .C) (tables 𝓤 H 𝓜 𝓡 code.env .Λ) #lending·feed code.function (code.unfolded 𝓤 H 𝓜 𝓡)
+    (tables 𝓤 H 𝓜 𝓡 code.env .C) (tables 𝓤 H 𝓜 𝓡 code.env .Λ) #running-call·feed code.function (code.unfolded 𝓤 H 𝓜 𝓡)
     (feed-meets 𝓤 H (𝓖 .A) (givenOf 𝓤 H 𝓜 𝓖) (𝓜 .mem) (𝓡 .run) (tablesOf 𝓤 H 𝓜 (tables 𝓤 H 𝓜 𝓡 code.env))
-    (cited 𝓤 H (One 𝓤 H (𝓖 .A) (𝓜 .mem) (𝓡 .run)) 𝓜 𝓡 code.env #feeding·feed-answer one-def.routine code.calls-feeding·feed-answer (one-thm.met 𝓤 H 𝓜 𝓖 𝓡))
-    (cited 𝓤 H (Two 𝓤 H (𝓖 .A) (𝓜 .mem) (𝓡 .run)) 𝓜 𝓡 code.env #feeding·after-feed two-def.routine code.calls-feeding·after-feed (two-thm.met 𝓤 H 𝓜 𝓖 𝓡)))
+    (cited 𝓤 H (One 𝓤 H (𝓖 .A) (𝓜 .mem) (𝓡 .run)) 𝓜 𝓡 code.env #running-steps·feed-answer one-def.routine code.calls-running-steps·feed-answer (one-thm.met 𝓤 H 𝓜 𝓖 𝓡))
+    (cited 𝓤 H (Two 𝓤 H (𝓖 .A) (𝓜 .mem) (𝓡 .run)) 𝓜 𝓡 code.env #running-steps·after-feed two-def.routine code.calls-running-steps·after-feed (two-thm.met 𝓤 H 𝓜 𝓖 𝓡)))

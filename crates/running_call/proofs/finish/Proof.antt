@@ -51,13 +51,13 @@ use Rattle.running_spec.proofs.Finished as S
 use Rattle.running_spec.proofs.Finished.Laws as S′
 use Rattle.running_steps.proofs.give as one
 use Rattle.running_steps.proofs.give.Symbol as one-def
-use Rattle.running_steps.proofs.give.Symbol.{name as #feeding·give}
+use Rattle.running_steps.proofs.give.Symbol.{name as #running-steps·give}
 use Rattle.running_steps.proofs.give.Met as one-thm
 use Rattle.running_steps.proofs.after_finish as two
 use Rattle.running_steps.proofs.after_finish.Symbol as two-def
-use Rattle.running_steps.proofs.after_finish.Symbol.{name as #feeding·after-finish}
+use Rattle.running_steps.proofs.after_finish.Symbol.{name as #running-steps·after-finish}
 use Rattle.running_steps.proofs.after_finish.Met as two-thm
-use Rattle.running_call.proofs.finish.Key.{name as #lending·finish}
+use Rattle.running_call.proofs.finish.Key.{name as #running-call·finish}
 use Rattle.running_call.proofs.finish as finish
 use Rattle.running_call.proofs.finish.Statement as stated
 use Rattle.running_call.proofs.finish.Code as code
@@ -135,7 +135,7 @@ module _ {M : Type 1} (𝓤 : URA M) (H : Heap 𝓤) (A : Atoms 𝓤) (W : Given
   typed : (r : Record) (v : Val) → Is R r (v ∷ []) → Holds (hasTy T′.mir v) × WT v
   typed r v is = LL.lawful T.the-type T′.the-laws 𝓤 H A W .typed r _ is .0
 
-  module _ (C : Calls 𝓤 H) (Λ : Loops 𝓤 H) (fm : FmC 𝓤 H (W .laws) C) (known-one : Triple 𝓤 (C #feeding·give) (One 𝓤 H A at-mem run)) (known-two : Triple 𝓤 (C #feeding·after-finish) (Two 𝓤 H A at-mem run)) where
+  module _ (C : Calls 𝓤 H) (Λ : Loops 𝓤 H) (fm : FmC 𝓤 H (W .laws) C) (known-one : Triple 𝓤 (C #running-steps·give) (One 𝓤 H A at-mem run)) (known-two : Triple 𝓤 (C #running-steps·after-finish) (Two 𝓤 H A at-mem run)) where
     walk : Room u8 (length ys) → ent 𝓤 (onEntry 𝓤 H A finish.signature (κ, (κ₁, tt)) (q, (q₁, tt)) x at) (WpFn 𝓤 H C Λ code.function (vptr b o ∷ ov ∷ []) Post)
     walk room =
         qed W ((‵ (flft κ q) ⊛ ‵ (flft κ₁ q₁) ⊛ ‵ ftrue) ∷ ‵ (owns (MutRef (named 0) κ R ∷ MutSlice (named 1) κ₁ u8 ∷ []) x at) ∷ []) ∵ enter ! C Λ code.function (vptr b o ∷ ov ∷ []) _ $
@@ -177,13 +177,13 @@ module _ {M : Type 1} (𝓤 : URA M) (H : Heap 𝓤) (A : Atoms 𝓤) (W : Given
         keep ! (0 ∷ 1 ∷ 2 ∷ 4 ∷ 5 ∷ 3 ∷ []) $ by ! (exits r u z (zs .1 .0) e f l)))))))))))))))))))))
 
 module _ {M : Type 1} (𝓤 : URA M) (H : Heap 𝓤) (A : Atoms 𝓤) (W : Given 𝓤 H A) (mem : Memory → SProp 𝓤) (run : Routine → Fun 𝓤) where
-  finish-walks : (C : Calls 𝓤 H) (Λ : Loops 𝓤 H) → FmC 𝓤 H (W .laws) C → Triple 𝓤 (C #feeding·give) (One 𝓤 H A mem run) → Triple 𝓤 (C #feeding·after-finish) (Two 𝓤 H A mem run)
+  finish-walks : (C : Calls 𝓤 H) (Λ : Loops 𝓤 H) → FmC 𝓤 H (W .laws) C → Triple 𝓤 (C #running-steps·give) (One 𝓤 H A mem run) → Triple 𝓤 (C #running-steps·after-finish) (Two 𝓤 H A mem run)
       → Walks 𝓤 H A finish.ended stayed (WpFn 𝓤 H C Λ code.function) (finish.clauses 𝓤 H A mem run)
   finish-walks C Λ fm known-one known-two = walked 𝓤 H A finish.ended stayed (finish.clauses 𝓤 H A mem run) (WpFn 𝓤 H C Λ code.function) (λ κs. (ptr-vals, (slice-vals, tt))) (λ κs. (mut-tells (named 0) (κs .0) T.the-row, (mut-slice-tells (named 1) (κs .1 .0) u8, tt)))
       (λ κs qs bounds a _ are. via 𝓤 _ (fst∗ 𝓤 _ (emp 𝓤)) (walk 𝓤 H A W mem run (κs .0) (κs .1 .0) (qs .0) (qs .1 .0) (a .0 .ptr .0) (a .0 .ptr .1) (a .0 .name) (a .0 .now) (a .1 .0 .ptr .0) (a .1 .0 .ptr .1) (a .1 .0 .name) (a .1 .0 .now) C Λ fm known-one known-two (are .1 .0 .0 .1)))
 
 finish-meets : {M : Type 1} (𝓤 : URA M) (H : Heap 𝓤) (A : Atoms 𝓤) (W : Given 𝓤 H A) (mem : Memory → SProp 𝓤) (run : Routine → Fun 𝓤) (𝓣 : Tables 𝓤 H)
-    → Triple 𝓤 (𝓣 .C #feeding·give) (One 𝓤 H A mem run) → Triple 𝓤 (𝓣 .C #feeding·after-finish) (Two 𝓤 H A mem run)
+    → Triple 𝓤 (𝓣 .C #running-steps·give) (One 𝓤 H A mem run) → Triple 𝓤 (𝓣 .C #running-steps·after-finish) (Two 𝓤 H A mem run)
     → Meets 𝓤 H A finish.signature (WpFn 𝓤 H (𝓣 .C) (𝓣 .Λ) code.function) (finish.spec 𝓤 H A mem run)
 finish-meets 𝓤 H A W mem run 𝓣 known-one known-two = walk-meets 𝓤 H A finish.ended stayed W (goes-ref 𝓤 H A W 2 0 tt (plain (λ _. T.the-row)), (goes-gave-slice 𝓤 H A W 2 1 tt (plain (λ _. u8)), tt)) (finish.clauses 𝓤 H A mem run) (WpFn 𝓤 H (𝓣 .C) (𝓣 .Λ) code.function) (WpFn-mono 𝓤 H (W .laws) 𝓣 code.function)
     (finish-walks 𝓤 H A W mem run (𝓣 .C) (𝓣 .Λ) (fmOf 𝓤 H (W .laws) 𝓣) known-one known-two)
@@ -192,7 +192,7 @@ pub finish-spec : {M : Type 1} → stated.statement M
 unfolding code.routine tablesOf
 finish-spec 𝓤 H 𝓜 𝓖 𝓡 =
     entered 𝓤 H (tripleOf 𝓤 H (𝓖 .A) finish.signature (finish.spec 𝓤 H (𝓖 .A) (𝓜 .mem) (𝓡 .run)))
-    (tables 𝓤 H 𝓜 𝓡 code.env .C) (tables 𝓤 H 𝓜 𝓡 code.env .Λ) #lending·finish code.function (code.unfolded 𝓤 H 𝓜 𝓡)
+    (tables 𝓤 H 𝓜 𝓡 code.env .C) (tables 𝓤 H 𝓜 𝓡 code.env .Λ) #running-call·finish code.function (code.unfolded 𝓤 H 𝓜 𝓡)
     (finish-meets 𝓤 H (𝓖 .A) (givenOf 𝓤 H 𝓜 𝓖) (𝓜 .mem) (𝓡 .run) (tablesOf 𝓤 H 𝓜 (tables 𝓤 H 𝓜 𝓡 code.env))
-    (cited 𝓤 H (One 𝓤 H (𝓖 .A) (𝓜 .mem) (𝓡 .run)) 𝓜 𝓡 code.env #feeding·give one-def.routine code.calls-feeding·give (one-thm.met 𝓤 H 𝓜 𝓖 𝓡))
-    (cited 𝓤 H (Two 𝓤 H (𝓖 .A) (𝓜 .mem) (𝓡 .run)) 𝓜 𝓡 code.env #feeding·after-finish two-def.routine code.calls-feeding·after-finish (two-thm.met 𝓤 H 𝓜 𝓖 𝓡)))
+    (cited 𝓤 H (One 𝓤 H (𝓖 .A) (𝓜 .mem) (𝓡 .run)) 𝓜 𝓡 code.env #running-steps·give one-def.routine code.calls-running-steps·give (one-thm.met 𝓤 H 𝓜 𝓖 𝓡))
+    (cited 𝓤 H (Two 𝓤 H (𝓖 .A) (𝓜 .mem) (𝓡 .run)) 𝓜 𝓡 code.env #running-steps·after-finish two-def.routine code.calls-running-steps·after-finish (two-thm.met 𝓤 H 𝓜 𝓖 𝓡)))

@@ -47,13 +47,13 @@ use Rattle.running_spec.proofs.Started as S
 use Rattle.running_spec.proofs.Started.Laws as S′
 use Rattle.running_steps.proofs.start_answer as one
 use Rattle.running_steps.proofs.start_answer.Symbol as one-def
-use Rattle.running_steps.proofs.start_answer.Symbol.{name as #feeding·start-answer}
+use Rattle.running_steps.proofs.start_answer.Symbol.{name as #running-steps·start-answer}
 use Rattle.running_steps.proofs.start_answer.Met as one-thm
 use Rattle.running_steps.proofs.after_start as two
 use Rattle.running_steps.proofs.after_start.Symbol as two-def
-use Rattle.running_steps.proofs.after_start.Symbol.{name as #feeding·after-start}
+use Rattle.running_steps.proofs.after_start.Symbol.{name as #running-steps·after-start}
 use Rattle.running_steps.proofs.after_start.Met as two-thm
-use Rattle.running_call.proofs.start.Key.{name as #lending·start}
+use Rattle.running_call.proofs.start.Key.{name as #running-call·start}
 use Rattle.running_call.proofs.start as start
 use Rattle.running_call.proofs.start.Statement as stated
 use Rattle.running_call.proofs.start.Code as code
@@ -122,7 +122,7 @@ module _ {M : Type 1} (𝓤 : URA M) (H : Heap 𝓤) (A : Atoms 𝓤) (W : Given
   typed : (r : Record) (v : Val) → Is R r (v ∷ []) → Holds (hasTy T′.mir v) × WT v
   typed r v is = LL.lawful T.the-type T′.the-laws 𝓤 H A W .typed r _ is .0
 
-  module _ (C : Calls 𝓤 H) (Λ : Loops 𝓤 H) (fm : FmC 𝓤 H (W .laws) C) (known-one : Triple 𝓤 (C #feeding·start-answer) (One 𝓤 H A at-mem run)) (known-two : Triple 𝓤 (C #feeding·after-start) (Two 𝓤 H A at-mem run)) where
+  module _ (C : Calls 𝓤 H) (Λ : Loops 𝓤 H) (fm : FmC 𝓤 H (W .laws) C) (known-one : Triple 𝓤 (C #running-steps·start-answer) (One 𝓤 H A at-mem run)) (known-two : Triple 𝓤 (C #running-steps·after-start) (Two 𝓤 H A at-mem run)) where
     walk : ent 𝓤 (onEntry 𝓤 H A start.signature (κ, tt) (q, tt) x at) (WpFn 𝓤 H C Λ code.function (vptr b o ∷ vint w64 n ∷ []) Post)
     walk =
         qed W ((‵ (flft κ q) ⊛ ‵ ftrue) ∷ ‵ (owns (MutRef (named 0) κ R ∷ usize ∷ []) x at) ∷ []) ∵ enter ! C Λ code.function (vptr b o ∷ vint w64 n ∷ []) _ $
@@ -156,13 +156,13 @@ module _ {M : Type 1} (𝓤 : URA M) (H : Heap 𝓤) (A : Atoms 𝓤) (W : Given
         keep ! (0 ∷ 1 ∷ 2 ∷ 3 ∷ []) $ by ! (exits r u z e f)))))))))))))))))
 
 module _ {M : Type 1} (𝓤 : URA M) (H : Heap 𝓤) (A : Atoms 𝓤) (W : Given 𝓤 H A) (mem : Memory → SProp 𝓤) (run : Routine → Fun 𝓤) where
-  start-walks : (C : Calls 𝓤 H) (Λ : Loops 𝓤 H) → FmC 𝓤 H (W .laws) C → Triple 𝓤 (C #feeding·start-answer) (One 𝓤 H A mem run) → Triple 𝓤 (C #feeding·after-start) (Two 𝓤 H A mem run)
+  start-walks : (C : Calls 𝓤 H) (Λ : Loops 𝓤 H) → FmC 𝓤 H (W .laws) C → Triple 𝓤 (C #running-steps·start-answer) (One 𝓤 H A mem run) → Triple 𝓤 (C #running-steps·after-start) (Two 𝓤 H A mem run)
       → Walks 𝓤 H A start.ended stayed (WpFn 𝓤 H C Λ code.function) (start.clauses 𝓤 H A mem run)
   start-walks C Λ fm known-one known-two = walked 𝓤 H A start.ended stayed (start.clauses 𝓤 H A mem run) (WpFn 𝓤 H C Λ code.function) (λ κs. (ptr-vals, (uint-vals w64, tt))) (λ κs. (mut-tells (named 0) (κs .0) T.the-row, (uint-tells w64, tt)))
       (λ κs qs bounds a _ are. via 𝓤 _ (fst∗ 𝓤 _ (emp 𝓤)) (walk 𝓤 H A W mem run (κs .0) (qs .0) (a .0 .ptr .0) (a .0 .ptr .1) (a .0 .name) (a .0 .now) (a .1 .0) (are .1 .0 .1) C Λ fm known-one known-two))
 
 start-meets : {M : Type 1} (𝓤 : URA M) (H : Heap 𝓤) (A : Atoms 𝓤) (W : Given 𝓤 H A) (mem : Memory → SProp 𝓤) (run : Routine → Fun 𝓤) (𝓣 : Tables 𝓤 H)
-    → Triple 𝓤 (𝓣 .C #feeding·start-answer) (One 𝓤 H A mem run) → Triple 𝓤 (𝓣 .C #feeding·after-start) (Two 𝓤 H A mem run)
+    → Triple 𝓤 (𝓣 .C #running-steps·start-answer) (One 𝓤 H A mem run) → Triple 𝓤 (𝓣 .C #running-steps·after-start) (Two 𝓤 H A mem run)
     → Meets 𝓤 H A start.signature (WpFn 𝓤 H (𝓣 .C) (𝓣 .Λ) code.function) (start.spec 𝓤 H A mem run)
 start-meets 𝓤 H A W mem run 𝓣 known-one known-two = walk-meets 𝓤 H A start.ended stayed W (goes-ref 𝓤 H A W 1 0 tt (plain (λ _. T.the-row)), (goes-none 𝓤 H A W 1 (λ _. usize) yes (λ κs x f. refl), tt)) (start.clauses 𝓤 H A mem run) (WpFn 𝓤 H (𝓣 .C) (𝓣 .Λ) code.function) (WpFn-mono 𝓤 H (W .laws) 𝓣 code.function)
     (start-walks 𝓤 H A W mem run (𝓣 .C) (𝓣 .Λ) (fmOf 𝓤 H (W .laws) 𝓣) known-one known-two)
@@ -171,7 +171,7 @@ pub start-spec : {M : Type 1} → stated.statement M
 unfolding code.routine tablesOf
 start-spec 𝓤 H 𝓜 𝓖 𝓡 =
     entered 𝓤 H (tripleOf 𝓤 H (𝓖 .A) start.signature (start.spec 𝓤 H (𝓖 .A) (𝓜 .mem) (𝓡 .run)))
-    (tables 𝓤 H 𝓜 𝓡 code.env .C) (tables 𝓤 H 𝓜 𝓡 code.env .Λ) #lending·start code.function (code.unfolded 𝓤 H 𝓜 𝓡)
+    (tables 𝓤 H 𝓜 𝓡 code.env .C) (tables 𝓤 H 𝓜 𝓡 code.env .Λ) #running-call·start code.function (code.unfolded 𝓤 H 𝓜 𝓡)
     (start-meets 𝓤 H (𝓖 .A) (givenOf 𝓤 H 𝓜 𝓖) (𝓜 .mem) (𝓡 .run) (tablesOf 𝓤 H 𝓜 (tables 𝓤 H 𝓜 𝓡 code.env))
-    (cited 𝓤 H (One 𝓤 H (𝓖 .A) (𝓜 .mem) (𝓡 .run)) 𝓜 𝓡 code.env #feeding·start-answer one-def.routine code.calls-feeding·start-answer (one-thm.met 𝓤 H 𝓜 𝓖 𝓡))
-    (cited 𝓤 H (Two 𝓤 H (𝓖 .A) (𝓜 .mem) (𝓡 .run)) 𝓜 𝓡 code.env #feeding·after-start two-def.routine code.calls-feeding·after-start (two-thm.met 𝓤 H 𝓜 𝓖 𝓡)))
+    (cited 𝓤 H (One 𝓤 H (𝓖 .A) (𝓜 .mem) (𝓡 .run)) 𝓜 𝓡 code.env #running-steps·start-answer one-def.routine code.calls-running-steps·start-answer (one-thm.met 𝓤 H 𝓜 𝓖 𝓡))
+    (cited 𝓤 H (Two 𝓤 H (𝓖 .A) (𝓜 .mem) (𝓡 .run)) 𝓜 𝓡 code.env #running-steps·after-start two-def.routine code.calls-running-steps·after-start (two-thm.met 𝓤 H 𝓜 𝓖 𝓡)))

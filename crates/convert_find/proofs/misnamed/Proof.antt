@@ -2,9 +2,9 @@
 use mathlib.Core.Path.{sym, _∙_}
 use borrow.Author.Needs.{needs}
 use Rattle.read_spec.specs.Judging.{held}
-use Rattle.convert_editions.proofs.Telling.{shape-other, fields-other}
-use Rattle.convert_editions.proofs.misnamed.Statement.{statement}
-use Rattle.convert_editions.proofs.misnamed.Tie as tie
+use Rattle.convert_find.proofs.Telling.{shape-other, fields-other}
+use Rattle.convert_find.proofs.misnamed.Statement.{statement}
+use Rattle.convert_find.proofs.misnamed.Tie as tie
 
 fields-in-requires : tie.Need-fields-in-requires
 fields-in-requires c κs = search needs
