@@ -25,7 +25,7 @@ use Rattle.frame_body.specs.Fields.{Own}
 use Rattle.read_spec.specs.Editions.{allows}
 use Rattle.read_spec.specs.Judged.{Label, labelOf}
 use Rattle.read_spec.specs.Sizes.{Sizes}
-use Rattle.read_spec.specs.Resync.{Mark}
+use Rattle.read_readings.specs.Resync.{Mark}
 use Rattle.read_call.specs.Answers.{longestStream}
 use Rattle.demand_reading.specs.Promises.{Reads, Writes, Seen, seenFrom, Run, next}
 use Rattle.demand_reading.specs.GivenWritten.{gives, Made, wrote, frame-read, written-made, written-is-given}
@@ -67,7 +67,7 @@ pub every-line-given : (key font : List ℕ) (asked : Asked) (b : Label) (L : Li
     → (s : List ℕ) (p q : ℕ) → length s ≤ longestStream → Stretch s p q
     → Made key font (asked .layout) (asked .editions) b L k (bytesAt s (span p q)) → {seen : List Seen} → Run key font asked s 0 0 seen → Ended seen → SeenGiven p q b L k seen
 every-line-given key font asked b L k enough s p q h x made run end =
-    let y = written-made key font (asked .layout) (asked .editions) b L k (bytesAt s (span p q)) made .0 .1 .accepts .sealable in
+    let y = written-made key font (asked .layout) (asked .editions) b L k (bytesAt s (span p q)) made .0 .accepts .sealable in
     from-start key font asked s p q b L k (p - 1) (record { key-is = y .key-is; font-is = y .font-is }) h
     (record { inside = omega (arith, x .some, x .ends); stands = x .opens })
     (λ l r l′ g c. written-is-given key font asked b L k enough s p q h x made l r l′ g c) run end

@@ -12,7 +12,7 @@ use Rattle.frame_spec.specs.Told.{told}
 use Rattle.read_call.specs.declared.Asked.{Asked}
 use Rattle.read_call.specs.declared.Reading.{Reading}
 use Rattle.read_spec.specs.Sizes.{Sizes}
-use Rattle.read_spec.specs.Resync.{Mark}
+use Rattle.read_readings.specs.Resync.{Mark}
 use Rattle.read_call.specs.Answers.{longestStream}
 use Rattle.demand_reading.specs.Promises.{Seen, seenFrom, Run, none, next}
 use Rattle.demand_reading.specs.Resync.{Abreast, at-marks, runs}

@@ -46,7 +46,7 @@ use Rattle.read_spec.specs.Judged.{numberIn}
 use Rattle.read_spec.specs.Judging.{judge}
 use Rattle.read_spec.specs.Ceiling.{within}
 use Rattle.read_spec.specs.Allowance.{enough-allowed, not-work}
-use Rattle.read_spec.specs.Readings.{ends}
+use Rattle.read_readings.specs.Readings.{ends}
 use Rattle.read_call.specs.Answers.{longestStream, sizedTold, Found, call, stretch, judgedWithin, found, plain, readingAt, readingOf, buffer, answerOf, readAnswer, readOut}
 use Rattle.demand_reading.specs.Promises.{Reads, Writes}
 use Rattle.demand_reading.specs.Resync.{sized}
@@ -128,13 +128,13 @@ module _ (key : List ℕ) (own : Own) (font : List ℕ) (lay : Layout) (L f : Li
       ap (λ (x : List ℕ). nextSpan x (length a)) (anywhere a c) ∙ next-frame a (stuffed b) c some (stuffed-free b) in
       let bytes : nextStretch s (length a) ≡ stuffed b =
       ap (λ (x : List ℕ). nextStretch x (length a)) (anywhere a c) ∙ next-frame-bytes a (stuffed b) c some (stuffed-free b) in
-      let j : judge t (asked .editions) (nextStretch s (length a)) ≡ line (labelOf own) L k =
-      ap (judge t (asked .editions)) bytes ∙ written-given t (asked .editions) own L (is .accepts) may ∙ ap (line (labelOf own) L) (sym (is .calls)) in
+      let j : judge t (asked .editions) (nextStretch s (length a)) ≡ line own L k =
+      ap (judge t (asked .editions)) bytes ∙ written-given t (asked .editions) own L (is .accepts) may ∙ ap (line own L) (sym (is .calls)) in
       let at : length a ≤ length s = omega (arith, length-append a (take n f′ ++ c)) in
       let there = span (length a + 1) (length a + 1 + length (stuffed b)) in
-      let found-is : found t asked s (length a) (length l) ≡ stretch there (line (labelOf own) L k) =
+      let found-is : found t asked s (length a) (length l) ≡ stretch there (line own L k) =
       found-next t asked (record { key-is = y .key-is; font-is = y .font-is }) s (length a) (length l) h g at there sp (λ u. omega (arith, u))
-      ∙ ap (stretch there) (ap (within (asked .allowed)) j ∙ enough-allowed (asked .allowed) (line (labelOf own) L k) enough) in
+      ∙ ap (stretch there) (ap (within (asked .allowed)) j ∙ enough-allowed (asked .allowed) (line own L k) enough) in
       let last : length a + 1 + length (stuffed b) ≡ length a + n - 1 = omega (arith, frame-length) in (
         q .0 ∙ ap (λ (u : Told). readAnswer u asked s (length a) l) alike ∙ ap readingOf found-is ∙ ap (λ (m : ℕ). gives (length a + 1) m (labelOf own) (length L) k) last,
         q .1 ∙ ap (λ (u : Told). readOut u asked s (length a) l) alike ∙ ap (λ (x : Found). buffer x l) found-is,
@@ -159,10 +159,10 @@ pub record Made (key font : List ℕ) (lay : Layout) (ed : ℕ) (b : Label) (L :
   pub makes : MadeWith key font lay L k s′ own
 
 -- the definitions' word for it and the promises' are the same
-made-written : (key font : List ℕ) (lay : Layout) (ed : ℕ) (b : Label) (L s′ : List ℕ) (w : Written (told key font lay) ed s′ b L)
-    → Made key font lay ed b L (length L + besideLine (w .0 .edition)) s′
+pub made-written : (key font : List ℕ) (lay : Layout) (ed : ℕ) (own : Own) (L s′ : List ℕ) → Written (told key font lay) ed s′ own L
+    → Made key font lay ed (labelOf own) L (length L + besideLine (own .edition)) s′
 unfolding framedCall
-made-written key font lay ed b L s′ (own, v) =
+made-written key font lay ed own L s′ v =
     let t = told key font lay in
     let y = v .accepts .sealable in
     record {
@@ -170,7 +170,7 @@ made-written key font lay ed b L s′ (own, v) =
       nonce-is = y .nonce-is;
       job-is = y .job-is;
       allowed = v .allowed;
-      labelled = v .labelled;
+      labelled = refl;
       nonce-bytes = v .nonce-bytes;
       job-bytes = v .job-bytes;
       makes = λ f w f′ g p.
@@ -183,24 +183,26 @@ made-written key font lay ed b L s′ (own, v) =
     }
 
 pub written-made : (key font : List ℕ) (lay : Layout) (ed : ℕ) (b : Label) (L : List ℕ) (k : ℕ) (s′ : List ℕ) (m : Made key font lay ed b L k s′)
-    → (w : Written (told key font lay) ed s′ b L) × (k ≡ length L + besideLine (w .0 .edition))
+    → Written (told key font lay) ed s′ (m .own) L × (k ≡ length L + besideLine (m .own .edition))
 written-made key font lay ed b L k s′ m =
     let t = told key font lay in
     let f : List ℕ = replicate (frameRoom Two) 0 in
     let c = writeCall t (m .own) L f in
     let (n, e, u) = m .makes f (c .answer) (c .frame) (omega (arith, job-field-most (m .own .edition))) (refl, refl) in
     let o = wrote key (m .own) font lay L f (c .answer) (c .frame) (refl, refl) n k e in (
-      (m .own, record { accepts = o .accepts; allowed = m .allowed; labelled = m .labelled; nonce-bytes = m .nonce-bytes; job-bytes = m .job-bytes; makes = sym (o .frame) ∙ u }),
+      record { accepts = o .accepts; allowed = m .allowed; nonce-bytes = m .nonce-bytes; job-bytes = m .job-bytes; makes = sym (o .frame) ∙ u },
       o .calls,
     )
 
--- what a call that gives a line found
+-- what a call that gives a line found: with its frame's own edition, nonce and job
 pub record Gave (t : Told) (asked : Asked) (s : List ℕ) (from room p q : ℕ) (b : Label) (n k : ℕ) : Type 0 where
   pub sizes : Sizes t
+  pub own : Own
+  pub labelled : labelOf own ≡ b
   pub the-line : List ℕ
   pub long : length the-line ≡ n
-  pub found-is : found t asked s from room ≡ stretch (span p q) (line b the-line k)
-  pub judged : judge t (asked .editions) (bytesAt s (span p q)) ≡ line b the-line k
+  pub found-is : found t asked s from room ≡ stretch (span p q) (line own the-line k)
+  pub judged : judge t (asked .editions) (bytesAt s (span p q)) ≡ line own the-line k
 
 sized-told : (t : Told) → sizedTold t ≡ true → Sizes t
 unfolding sizedTold
@@ -211,11 +213,11 @@ sized-told t = go (eqb (length (t .key)) keyLength) refl
     go false p e = absurd (let z : _≡_ {A = ℕ} 0 1 = cc e in omega arith)
 
 -- a line is given only for a stretch judged so
-answer-line : (j : Judged) (n k : ℕ) → answerOf j ≡ answer-is.Line n k → (L : List ℕ) × (j ≡ line (labelIn j) L k) × (length L ≡ n)
-answer-line (line b L m) n k e =
+answer-line : (j : Judged) (n k : ℕ) → answerOf j ≡ answer-is.Line n k → (own : Own) × (L : List ℕ) × (j ≡ line own L k) × (length L ≡ n)
+answer-line (line own L m) n k e =
     let c : m ≡ k = cc e in
     let d : length L ≡ n = cc e in
-    (L, ap (line b L) c, d)
+    (own, L, ap (line own L) c, d)
 answer-line shape n k e = absurd (let z : _≡_ {A = ℕ} 0 1 = cc e in omega arith)
 answer-line stuffing n k e = absurd (let z : _≡_ {A = ℕ} 0 1 = cc e in omega arith)
 answer-line judged-is.font n k e = absurd (let z : _≡_ {A = ℕ} 0 1 = cc e in omega arith)
@@ -247,15 +249,16 @@ gave t asked s from room p q b n k =
         let whole = within (asked .allowed) (judge t (asked .editions) (nextStretch s from)) in
         let z = answer-line whole n k (ap (λ (g : Reading). g .answer) r) in
         let given-with : labelIn whole ≡ b = ap (λ (g : Reading). label (g .edition) (g .job)) r in
-        let found-line : whole ≡ line b (z .0) k = z .1 ∙ ap (λ (x : Label). line x (z .0) k) given-with in
-        let its : judge t (asked .editions) (nextStretch s from) ≡ line b (z .0) k =
-        not-work (asked .allowed) (judge t (asked .editions) (nextStretch s from)) (line b (z .0) k) found-line (λ e. omega (arith, ap numberIn e)) in
-        let j : judge t (asked .editions) (bytesAt s (span p q)) ≡ line b (z .0) k = ap (λ (g : Span). judge t (asked .editions) (bytesAt s g)) (sym o) ∙ its in
+        let its : judge t (asked .editions) (nextStretch s from) ≡ line (z .0) (z .1) k =
+        not-work (asked .allowed) (judge t (asked .editions) (nextStretch s from)) (line (z .0) (z .1) k) (z .2) (λ e. omega (arith, ap numberIn e)) in
+        let j : judge t (asked .editions) (bytesAt s (span p q)) ≡ line (z .0) (z .1) k = ap (λ (g : Span). judge t (asked .editions) (bytesAt s g)) (sym o) ∙ its in
         record {
           sizes = sized-told t u;
-          the-line = z .0;
-          long = z .2;
-          found-is = rw (u, v, w, x, y) (ap₂ stretch o found-line);
+          own = z .0;
+          labelled = sym (ap labelIn (z .2)) ∙ given-with;
+          the-line = z .1;
+          long = z .3;
+          found-is = rw (u, v, w, x, y) (ap₂ stretch o (z .2));
           judged = j;
         }
     go true u false v false w false x true y r = absurd (let z : _≡_ {A = ℕ} 0 1 = cc (said r) in omega arith)
@@ -273,15 +276,17 @@ module _ (key font : List ℕ) (asked : Asked) (s : List ℕ) (bytes : Below 256
       let ed = asked .editions in
       let g = gave t asked s from (length l) p q b n k (sym (c .0) ∙ e) in
       let L = g .the-line in
-      let v = given-made t (g .sizes) ed (bytesAt s (span p q)) (part-below p q) b L k (g .judged) in
-      let same : line b L k ≡ line b L (length L + besideLine (v .0 .edition)) = sym (g .judged) ∙ made-given t ed (bytesAt s (span p q)) b L v in
-      let calls : k ≡ length L + besideLine (v .0 .edition) = cc same in
+      let own = g .own in
+      let v = given-made t (g .sizes) ed (bytesAt s (span p q)) (part-below p q) own L k (g .judged) in
+      let same : line own L k ≡ line own L (length L + besideLine (own .edition)) = sym (g .judged) ∙ made-given t ed (bytesAt s (span p q)) own L v in
+      let calls : k ≡ length L + besideLine (own .edition) = cc same in
       let there : take n l′ ≡ L =
       ap (take n) (c .1 ∙ ap (λ (x : Found). buffer x l) (g .found-is)) ∙ take-over L l n (g .long) in
-      same-made there calls (made-written key font (asked .layout) ed b L (bytesAt s (span p q)) v)
+      same-made (sym (g .labelled)) there calls (made-written key font (asked .layout) ed own L (bytesAt s (span p q)) v)
     where
-      same-made : {ed : ℕ} {b : Label} {L L′ : List ℕ} {k k′ : ℕ} {s′ : List ℕ} → L′ ≡ L → k′ ≡ k → Made key font (asked .layout) ed b L k s′ → Made key font (asked .layout) ed b L′ k′ s′
-      same-made x y m = rw (x, y) m
+      same-made : {ed : ℕ} {b b′ : Label} {L L′ : List ℕ} {k k′ : ℕ} {s′ : List ℕ} → b′ ≡ b → L′ ≡ L → k′ ≡ k
+          → Made key font (asked .layout) ed b L k s′ → Made key font (asked .layout) ed b′ L′ k′ s′
+      same-made w x y m = rw (w, x, y) m
 
       part-below : (p q : ℕ) → Below 256 (bytesAt s (span p q))
       part-below p q = below-take 256 (q - p) (drop p s) (below-drop 256 p s bytes)
@@ -296,12 +301,13 @@ written-is-given key font asked b L k enough s p q h x m l r l′ g c =
     let t = told key font (asked .layout) in
     let ed = asked .editions in
     let v = written-made key font (asked .layout) ed b L k (bytesAt s (span p q)) m in
-    let y = v .0 .1 .accepts .sealable in
+    let own = m .own in
+    let y = v .0 .accepts .sealable in
     let sp = stretch-next s p q x in
     let at : p - 1 ≤ length s = omega (arith, x .some, x .ends) in
-    let j : judge t ed (nextStretch s (p - 1)) ≡ line b L k =
-    ap (λ (o : Span). judge t ed (bytesAt s o)) sp ∙ made-given t ed (bytesAt s (span p q)) b L (v .0) ∙ ap (line b L) (sym (v .1)) in
-    let found-is : found t asked s (p - 1) (length l) ≡ stretch (span p q) (line b L k) =
+    let j : judge t ed (nextStretch s (p - 1)) ≡ line own L k =
+    ap (λ (o : Span). judge t ed (bytesAt s o)) sp ∙ made-given t ed (bytesAt s (span p q)) own L (v .0) ∙ ap (line own L) (sym (v .1)) in
+    let found-is : found t asked s (p - 1) (length l) ≡ stretch (span p q) (line own L k) =
     found-next t asked (record { key-is = y .key-is; font-is = y .font-is }) s (p - 1) (length l) h g at (span p q) sp (λ u. omega (arith, u, x .some))
-    ∙ ap (stretch (span p q)) (ap (within (asked .allowed)) j ∙ enough-allowed (asked .allowed) (line b L k) enough) in
-    (c .0 ∙ ap readingOf found-is, c .1 ∙ ap (λ (o : Found). buffer o l) found-is)
+    ∙ ap (stretch (span p q)) (ap (within (asked .allowed)) j ∙ enough-allowed (asked .allowed) (line own L k) enough) in
+    (c .0 ∙ ap readingOf found-is ∙ ap (λ (x : Label). gives p q x (length L) k) (m .labelled), c .1 ∙ ap (λ (o : Found). buffer o l) found-is)

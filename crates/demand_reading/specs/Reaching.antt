@@ -16,9 +16,9 @@ use Rattle.read_call.specs.declared.Asked.{Asked}
 use Rattle.read_call.specs.declared.Reading.{Reading}
 use Rattle.read_call.specs.declared.Answer.the-variants as answer-is
 use Rattle.read_spec.specs.Sizes.{Sizes}
-use Rattle.read_spec.specs.Readings.{ends}
-use Rattle.read_spec.specs.Resync.{Mark}
-use Rattle.read_spec.specs.Reaching.{UpTo, closes, behind, up-to}
+use Rattle.read_readings.specs.Readings.{ends}
+use Rattle.read_readings.specs.Resync.{Mark}
+use Rattle.read_readings.specs.Reaching.{UpTo, closes, behind, up-to}
 use Rattle.read_call.specs.Answers.{longestStream, Found, call, stretch, judgedWithin, found, readingOf, buffer}
 use Rattle.demand_reading.specs.Promises.{Reads, isEnd, Seen, seenFrom, Run, next}
 use Rattle.demand_reading.specs.Resync.{seen-at, sized}

@@ -17,9 +17,9 @@ use Rattle.read_stretch.specs.Shift.{Alike, moved, next-moved, next-shift}
 use Rattle.frame_spec.specs.Told.{Told, told}
 use Rattle.read_call.specs.declared.Asked.{Asked}
 use Rattle.read_call.specs.declared.Answer.the-variants as answer-is
-use Rattle.read_spec.specs.Judged.{Judged, shape, stuffing, font, work, seal, unlisted, trade, layout, line, numberIn, lineIn, labelIn, callsIn}
-use Rattle.read_spec.specs.Readings.{ends, eqb-moved}
-use Rattle.read_spec.specs.Resync.{Mark}
+use Rattle.read_spec.specs.Judged.{labelOf, Judged, shape, stuffing, font, work, seal, unlisted, trade, layout, line, numberIn, lineIn, labelIn, callsIn}
+use Rattle.read_readings.specs.Readings.{ends, eqb-moved}
+use Rattle.read_readings.specs.Resync.{Mark}
 use Rattle.read_call.specs.Answers.{longestStream, sizedTold, Found, call, stretch, found, readingAt, readingOf, buffer, judgedWithin, verdictOf, lineOver}
 use Rattle.demand_reading.specs.Promises.{Seen, seenFrom, Run, none, next}
 
@@ -42,7 +42,10 @@ seen-at i p (seal n) l = refl
 seen-at i p (unlisted n) l = refl
 seen-at i p (trade n) l = refl
 seen-at i p (layout n) l = refl
-seen-at i p (line k w n) l = ap (λ (x : List ℕ). record { number = 0; ended = false; first = p .first - i; closing = p .closing - i; calls = n; edition = k .edition; job = k .job; line = x }) (take-over w l (length w) refl)
+seen-at i p (line own w n) l =
+    let b = labelOf own in
+    ap (λ (x : List ℕ). record { number = 0; ended = false; first = p .first - i; closing = p .closing - i; calls = n; edition = b .edition; job = b .job; line = x })
+    (take-over w l (length w) refl)
 
 -- places in order
 on : (a f c : ℕ) → a ≤ f → f ≤ c → a ≤ c

@@ -1,6 +1,6 @@
 -- Demand 3, second half, over the definitions: a reader's judge gives a line for a stretch's bytes exactly when the writer's frame of that line,
 -- of an edition that the reader allows, under that key and font and some nonce and in edition two some job, has those bytes between its marks;
--- and the edition and the job that it is given with are the frame's. Assumes nothing.
+-- and the edition, the nonce and the job that it is found with are the frame's. Assumes nothing.
 use mathlib.Core.Path.{_≡_, refl, sym, ap, subst, _∙_}
 use mathlib.Core.Bool.{true}
 use mathlib.Core.Logic.{_↔_}
@@ -31,7 +31,7 @@ use Rattle.frame_spec.specs.Lengths.{besideLine, sealed-sized, stretch-within, 
 use Rattle.frame_write.specs.Outcomes.{Accepts}
 use Rattle.read_spec.specs.Sizes.{Sizes}
 use Rattle.read_spec.specs.Editions.{allows, among-allowed, among-fields}
-use Rattle.read_spec.specs.Judged.{Label, labelOf, line}
+use Rattle.read_spec.specs.Judged.{line}
 use Rattle.read_spec.specs.Judging.{judge}
 use Rattle.read_spec.specs.Cases.{Holds, Case, given, opening, judge-case, judge-line}
 
@@ -40,17 +40,12 @@ abbrev pub marked : List ℕ → List ℕ
 marked s = mark ∷ s ++ (mark ∷ [])
 
 -- the writer accepts the line L with this nonce and job of bytes, in an edition that is allowed, and its frame has s between its marks
-pub record WrittenWith (t : Told) (ed : ℕ) (s : List ℕ) (k : Label) (L : List ℕ) (own : Own) : Type 0 where
+pub record Written (t : Told) (ed : ℕ) (s : List ℕ) (own : Own) (L : List ℕ) : Type 0 where
   pub accepts : Accepts t own L
   pub allowed : allows ed (own .edition) ≡ true
-  pub labelled : labelOf own ≡ k
   pub nonce-bytes : Below 256 (own .nonce)
   pub job-bytes : Below 256 (own .job)
   pub makes : frameOf t own L ≡ marked s
-
--- with some nonce and some job
-abbrev pub Written : Told → ℕ → List ℕ → Label → List ℕ → Type 0
-Written t ed s k L = (own : Own) × WrittenWith t ed s k L own
 
 -- one body, one frame
 frame-is : (t : Told) (own : Own) (L : List ℕ) → frameOf t own L ≡ marked (stuffed (sealedBody t own L))
@@ -77,14 +72,14 @@ module _ (t : Told) (ed : ℕ) (own : Own) (L : List ℕ) (a : Accepts t own L) 
   opened =
       open-seal first first-fits (t .key) (own .nonce) (associated (own .edition) (t .font) (own .job)) (a .sealable .key-is) (a .sealable .nonce-is) L
 
-  pub written-given : judge t ed (stuffed (sealedBody t own L)) ≡ line (labelOf own) L (length L + besideLine (own .edition))
+  pub written-given : judge t ed (stuffed (sealedBody t own L)) ≡ line own L (length L + besideLine (own .edition))
   written-given =
       let C = sealedLine t own L .text in
       judge-line t ed (stuffed (sealedBody t own L)) own C
       (holds .0, holds .1 ∙ ap (λ (w : Work). fields own (t .font) C (w .seal)) (sym opened))
       (ap (λ (w : Work). layoutRule (t .layout) (w .text)) opened ∙ a .ruled)
-      ∙ ap (λ (w : Work). line (labelOf own) (w .text) (w .calls)) opened
-      ∙ ap (line (labelOf own) L) (write-calls (a .sealable))
+      ∙ ap (λ (w : Work). line own (w .text) (w .calls)) opened
+      ∙ ap (line own L) (write-calls (a .sealable))
 
 module _ (t : Told) (z : Sizes t) (ed : ℕ) (s : List ℕ) (bytes : Below 256 s) where
   part-below : (n at : ℕ) (x : List ℕ) → take n (drop at (unstuffed s)) ≡ x → Below 256 x
@@ -111,8 +106,8 @@ module _ (t : Told) (z : Sizes t) (ed : ℕ) (s : List ℕ) (bytes : Below 256 s
       ap (λ (w : Work). body own (t .font) (w .text) (w .seal))
       (seal-open first first-fits (t .key) (own .nonce) (associated (own .edition) (t .font) (own .job)) (z .key-is) n cipher)
 
-  from-case : (k : Label) (L : List ℕ) (n : ℕ) → Case t ed s (line k L n) → Written t ed s k L
-  from-case k L n (given own cipher h a) =
+  from-case : (own : Own) (L : List ℕ) (n : ℕ) → Case t ed s (line own L n) → Written t ed s own L
+  from-case _ L n (given own cipher h a) =
       let T = opening t own (t .font) cipher .seal in
       let f = among-fields ed (fieldsOf (unstuffed s)) (h .1) in
       let is = body-fields (unstuffed s) (unstuffed-below s bytes) (f .0) in
@@ -120,43 +115,38 @@ module _ (t : Told) (z : Sizes t) (ed : ℕ) (s : List ℕ) (bytes : Below 256 s
       let long = length-decrypted first first-fits (t .key) (own .nonce) (associated (own .edition) (t .font) (own .job)) (z .key-is) (y .nonce-is) cipher in
       let from : shortest ≤ length cipher = y .cipher-from in
       let to : length cipher ≤ longest = y .cipher-to in
-      let found = opening t own (t .font) cipher .text in (
-        own,
-        record {
-          accepts = record {
-            sealable = record {
-              key-is = z .key-is;
-              nonce-is = y .nonce-is;
-              job-is = y .job-is;
-              font-is = z .font-is;
-              line-from = omega arith;
-              line-to = omega arith;
-            };
-            ruled = a;
+      let found = opening t own (t .font) cipher .text in
+      record {
+        accepts = record {
+          sealable = record {
+            key-is = z .key-is;
+            nonce-is = y .nonce-is;
+            job-is = y .job-is;
+            font-is = z .font-is;
+            line-from = omega arith;
+            line-to = omega arith;
           };
-          allowed = f .1;
-          labelled = refl;
-          nonce-bytes = nonce-below own cipher T y (is .0);
-          job-bytes = job-below (own .edition) (own .nonce) (own .job) cipher T y (is .0);
-          makes = frame-is t own found
-              ∙ ap marked (ap stuffed (sealed-again own cipher (y .nonce-is) ∙ sym (is .0)) ∙ stuff-unstuff (h .0 .well));
-        },
-      )
+          ruled = a;
+        };
+        allowed = f .1;
+        nonce-bytes = nonce-below own cipher T y (is .0);
+        job-bytes = job-below (own .edition) (own .nonce) (own .job) cipher T y (is .0);
+        makes = frame-is t own found
+            ∙ ap marked (ap stuffed (sealed-again own cipher (y .nonce-is) ∙ sym (is .0)) ∙ stuff-unstuff (h .0 .well));
+      }
 
-  pub given-made : (k : Label) (L : List ℕ) (n : ℕ) → judge t ed s ≡ line k L n → Written t ed s k L
-  given-made k L n e = from-case k L n (subst (Case t ed s) e (judge-case t ed s))
+  pub given-made : (own : Own) (L : List ℕ) (n : ℕ) → judge t ed s ≡ line own L n → Written t ed s own L
+  given-made own L n e = from-case own L n (subst (Case t ed s) e (judge-case t ed s))
 
 -- and every such stretch gives that line, with n + 39 calls, in edition two n + 46
-pub made-given : (t : Told) (ed : ℕ) (s : List ℕ) (k : Label) (L : List ℕ) (w : Written t ed s k L)
-    → judge t ed s ≡ line k L (length L + besideLine (w .0 .edition))
-made-given t ed s k L (own, w) =
-    ap (judge t ed) (sym (between t s own L (w .makes))) ∙ written-given t ed own L (w .accepts) (w .allowed)
-    ∙ ap (λ (x : Label). line x L (length L + besideLine (own .edition))) (w .labelled)
+pub made-given : (t : Told) (ed : ℕ) (s : List ℕ) (own : Own) (L : List ℕ) → Written t ed s own L
+    → judge t ed s ≡ line own L (length L + besideLine (own .edition))
+made-given t ed s own L w = ap (judge t ed) (sym (between t s own L (w .makes))) ∙ written-given t ed own L (w .accepts) (w .allowed)
 
--- exactly: some count with the line, and some nonce and some job with the frame
-pub given-written : (t : Told) → Sizes t → (ed : ℕ) (s : List ℕ) → Below 256 s → (k : Label) (L : List ℕ)
-    → ((n : ℕ) × (judge t ed s ≡ line k L n)) ↔ Written t ed s k L
-given-written t z ed s bytes k L = (
-  λ (n, e). given-made t z ed s bytes k L n e,
-  λ w. (length L + besideLine (w .0 .edition), made-given t ed s k L w),
+-- exactly: some count with the line, and the frame of that edition, nonce and job
+pub given-written : (t : Told) → Sizes t → (ed : ℕ) (s : List ℕ) → Below 256 s → (own : Own) (L : List ℕ)
+    → ((n : ℕ) × (judge t ed s ≡ line own L n)) ↔ Written t ed s own L
+given-written t z ed s bytes own L = (
+  λ (n, e). given-made t z ed s bytes own L n e,
+  λ w. (length L + besideLine (own .edition), made-given t ed s own L w),
 )

@@ -1,0 +1,10 @@
+pub mod Bytes
+pub mod Makes
+pub mod NoShared
+pub mod Seeing
+pub mod Stretches
+pub mod Frames
+pub mod Fillers
+pub mod Joined
+pub mod Lines
+pub mod Instance
