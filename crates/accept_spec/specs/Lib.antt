@@ -1,0 +1,5 @@
+pub mod Nonces
+pub mod Accepting
+pub mod Exactly
+pub mod Readings
+pub mod Cases

@@ -1,0 +1,3 @@
+pub mod Nonces
+pub mod Sizes
+pub mod Lines
