@@ -14,9 +14,9 @@ use Rattle.read_bar.specs.declared.Bar.{Bar}
 use Rattle.read_bar.specs.declared.Bar.the-variants as bar-is
 
 unfoldable pub barIn : ℕ → ℕ → Edition → ℕ → List ℕ → List ℕ → Bar
-barIn editions allowed e n digest asked =
+barIn editions allowed e n digest told =
     cond (not (allows editions e)) bar-is.Edition
-    (cond (not (same digest asked)) bar-is.Font
+    (cond (not (same digest told)) bar-is.Font
     (cond (ltb allowed (n + besideLine e)) bar-is.Work bar-is.Nothing))
 
 -- what a body is found to be: j where nothing bars it

@@ -5,8 +5,7 @@ ghost use Rattle.read_spec.specs.Editions.{allows as allowed};
 ghost use Rattle.read_bar.specs.Asked.{barIn};
 use base_lists::compare;
 use frame_body::Edition;
-use frame_body::job_field_length;
-use frame_write::BESIDE_LINE;
+use frame_spec::beside_line;
 
 // What bars a body from being opened.
 pub enum Bar {
@@ -47,7 +46,7 @@ pub fn judge_asked(
     if !compare(digest, font) {
         return Bar::Font;
     }
-    let beside = BESIDE_LINE + job_field_length(edition);
+    let beside = beside_line(edition);
     if calls < beside {
         return Bar::Work;
     }

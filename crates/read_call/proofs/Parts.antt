@@ -1,5 +1,5 @@
 -- The parts of a body that `judge_body` takes are its fields' values, and what the body is found to be by them. Assumes nothing.
-use mathlib.Core.Path.{_≡_, refl, sym, ap, subst, _∙_}
+use mathlib.Core.Path.{_≡_, refl, sym, ap, ap₂, subst, _∙_}
 use mathlib.Core.Bool.{Bool, true, false, not, cond}
 use mathlib.Core.List.{List, [], _∷_}
 use Prim.Native.Nat.{ℕ, _+_, _-_, _≤_, _<_}
@@ -27,8 +27,8 @@ use Rattle.frame_body.specs.OneToOne.{body-fields}
 use Rattle.frame_spec.specs.Told.{Told, keyLength}
 use Rattle.frame_spec.specs.Lengths.{besideLine}
 use Rattle.read_spec.specs.Editions.{allows, among, among-allowed}
-use Rattle.read_spec.specs.Judged.{Judged, label, shape, font, work, callsIn}
-use Rattle.read_spec.specs.Judging.{judgeSealed, judgeFields}
+use Rattle.read_spec.specs.Judged.{Judged, Label, label, labelOf, shape, font, work, callsIn}
+use Rattle.read_spec.specs.Judging.{judgeFields}
 use Rattle.read_spec.specs.Ceiling as ceiling
 use Rattle.read_spec.specs.Allowance.{no-ceiling, enough-allowed, not-enough, sealed-work}
 use Rattle.read_bar.specs.declared.Bar.{Bar}
@@ -39,7 +39,7 @@ use Rattle.read_open.specs.Opened.{openLine}
 use Rattle.read_call.specs.declared.Verdict.{Verdict}
 use Rattle.read_call.specs.Answers.{verdictOn}
 use Rattle.read_call.proofs.Opening.{found-judged}
-use Rattle.read_call.proofs.Shown.{Shows, passed}
+use Rattle.read_call.proofs.Shown.{Shows}
 use Rattle.read_call.specs.Parts.{nonceIn, digestIn, associatedIn, cipherIn, sealFrom, sealIn, jobIn, ownIn, Parts, openParts, judgeParts}
 
 -- a job in edition one is empty
@@ -120,7 +120,7 @@ module _ (t : Told) (ed a : ℕ) (b : List ℕ) (e : Edition) (n : ℕ) (p : Par
     its-work d =
         let more = jobFieldLength e in
         ap callsIn (its-font d)
-        ∙ sealed-work (t .layout) (label (editionNumber e) (jobNumber (jobIn e b))) (t .key) (nonceIn b) (associatedIn more b) (cipherIn more n b) (sealIn more n b)
+        ∙ sealed-work (t .layout) (ownIn e b) (t .key) (associatedIn more b) (cipherIn more n b) (sealIn more n b)
         ∙ omega (
           arith,
           open-calls-first (t .key) (nonceIn b) (associatedIn more b) (cipherIn more n b),
@@ -180,7 +180,12 @@ module _ (f : Layout) (b key : List ℕ) (e : Edition) (n : ℕ) (p : Parts b e 
       → (x : Found) → x ≡ openParts f e n key b o .answer → (w : List ℕ) → w ≡ openParts f e n key b o .line
       → (r : Verdict) → r ≡ verdictOn (label i j) n x → Shows (judgeParts f e n key b) o r w
   opened-fields z o h i j u v x xe w we r re =
-      let m = found-judged f (label i j) key (nonceIn b) (associatedIn more b) (cipherIn more n b) (sealIn more n b) o (within z) h in
-      passed (judgeParts f e n key b) (judgeSealed f (label i j) key (nonceIn b) (associatedIn more b) (cipherIn more n b) (sealIn more n b)) o r w
-      (rw (u, v))
-      (re ∙ ap (λ (k : ℕ). verdictOn (label i j) k x) (sym (cipher-long b e n p)) ∙ ap (verdictOn (label i j) (length (cipherIn more n b))) xe ∙ m .0, we ∙ m .1)
+      let m = found-judged f (ownIn e b) key (associatedIn more b) (cipherIn more n b) (sealIn more n b) o (within z) h in
+      let its : label i j ≡ labelOf (ownIn e b) = ap₂ label u v in (
+        re
+            ∙ ap (λ (k : Label). verdictOn k n x) its
+            ∙ ap (λ (k : ℕ). verdictOn (labelOf (ownIn e b)) k x) (sym (cipher-long b e n p))
+            ∙ ap (verdictOn (labelOf (ownIn e b)) (length (cipherIn more n b))) xe
+            ∙ m .0,
+        we ∙ m .1,
+      )

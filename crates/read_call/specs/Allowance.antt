@@ -14,7 +14,7 @@ use Rattle.frame_spec.specs.Told.{Told}
 use Rattle.read_spec.specs.Sizes.{Sizes}
 use Rattle.read_spec.specs.Judged.{Judged, shape, stuffing, font, work, seal, unlisted, trade, layout, line, callsIn}
 use Rattle.read_spec.specs.Judging.{judge}
-use Rattle.read_spec.specs.Readings.{ends}
+use Rattle.read_readings.specs.Readings.{ends}
 use Rattle.read_spec.specs.Ceiling.{within, allWork}
 use Rattle.read_spec.specs.Allowance as allowance
 use Rattle.read_call.specs.declared.Asked.{Asked}
@@ -31,7 +31,7 @@ calls-of (seal n) = refl
 calls-of (unlisted n) = refl
 calls-of (trade n) = refl
 calls-of (layout n) = refl
-calls-of (line k l n) = refl
+calls-of (line own l n) = refl
 
 module _ (t : Told) (s : List ℕ) (from room : ℕ) where
   -- what the next stretch is found to be without a ceiling, by a reader of these editions

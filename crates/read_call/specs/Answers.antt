@@ -21,7 +21,7 @@ use Rattle.read_open.specs.declared.Found as opened-line
 use Rattle.read_open.specs.declared.Found.the-variants as found-is
 use Rattle.read_open.specs.Opened.{foundNumber}
 use Rattle.read_spec.specs.Judged.{Label, Judged, shape, stuffing, font, work, seal, unlisted, trade, layout, line, labelIn}
-use Rattle.read_spec.specs.Readings.{ends}
+use Rattle.read_readings.specs.Readings.{ends}
 use Rattle.read_spec.specs.Judging.{judge}
 use Rattle.read_spec.specs.Ceiling.{within}
 
@@ -62,7 +62,7 @@ answerOf (seal n) = answer-is.Seal n
 answerOf (unlisted n) = answer-is.Unlisted n
 answerOf (trade n) = answer-is.Trade n
 answerOf (layout n) = answer-is.Layout n
-answerOf (line k l n) = answer-is.Line (length l) n
+answerOf (line own l n) = answer-is.Line (length l) n
 
 -- a line is written over the buffer's start; nothing else is written
 abbrev pub lineOver : Judged → List ℕ → List ℕ
@@ -74,7 +74,7 @@ lineOver (seal n) o = o
 lineOver (unlisted n) o = o
 lineOver (trade n) o = o
 lineOver (layout n) o = o
-lineOver (line k l n) o = over l o
+lineOver (line own l n) o = over l o
 
 -- an answer with no edition and no job
 abbrev pub plain : Answer → Verdict
@@ -175,22 +175,34 @@ callsOf (answer-is.Trade n) = n
 callsOf (answer-is.Layout n) = n
 callsOf (answer-is.Line k n) = n
 
--- 1 where a line is given, else 0: it tells a line from the end of the stream, which has the number 0 too
-abbrev pub givenOf : Answer → ℕ
-givenOf answer-is.Sizes = 0
-givenOf answer-is.TooLong = 0
-givenOf answer-is.NoRoom = 0
-givenOf answer-is.Beyond = 0
-givenOf answer-is.End = 0
-givenOf answer-is.Shape = 0
-givenOf answer-is.Stuffing = 0
-givenOf answer-is.Font = 0
-givenOf answer-is.Work = 0
-givenOf (answer-is.Seal n) = 0
-givenOf (answer-is.Unlisted n) = 0
-givenOf (answer-is.Trade n) = 0
-givenOf (answer-is.Layout n) = 0
-givenOf (answer-is.Line k n) = 1
+-- which of the four a reading is: the end of the stream, a line, a stretch refused, the call refused
+abbrev pub END : ℕ
+END = 0
+
+abbrev pub LINE : ℕ
+LINE = 1
+
+abbrev pub STRETCH-REFUSED : ℕ
+STRETCH-REFUSED = 2
+
+abbrev pub CALL-REFUSED : ℕ
+CALL-REFUSED = 3
+
+abbrev pub outcomeOf : Answer → ℕ
+outcomeOf answer-is.End = END
+outcomeOf (answer-is.Line k n) = LINE
+outcomeOf answer-is.Shape = STRETCH-REFUSED
+outcomeOf answer-is.Stuffing = STRETCH-REFUSED
+outcomeOf answer-is.Font = STRETCH-REFUSED
+outcomeOf answer-is.Work = STRETCH-REFUSED
+outcomeOf (answer-is.Seal n) = STRETCH-REFUSED
+outcomeOf (answer-is.Unlisted n) = STRETCH-REFUSED
+outcomeOf (answer-is.Trade n) = STRETCH-REFUSED
+outcomeOf (answer-is.Layout n) = STRETCH-REFUSED
+outcomeOf answer-is.Sizes = CALL-REFUSED
+outcomeOf answer-is.TooLong = CALL-REFUSED
+outcomeOf answer-is.NoRoom = CALL-REFUSED
+outcomeOf answer-is.Beyond = CALL-REFUSED
 
 -- what opening a sealed line finds has its number
 pub verdict-number : (k : Label) (n : ℕ) (f : opened-line.Found) → (foundNumber f ≡ foundNumber found-is.Sizes → ⊥) → numberOf (verdictOn k n f .answer) ≡ foundNumber f

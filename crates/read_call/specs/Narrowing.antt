@@ -10,11 +10,12 @@ use Rattle.read_stretch.specs.declared.Span.{Span}
 use Rattle.read_stretch.specs.Stretches.{nextSpan, nextStretch}
 use Rattle.line_spec.specs.Lines.{longest}
 use Rattle.line_layout.specs.declared.Layout.the-variants.{Neither}
+use Rattle.frame_body.specs.Fields.{Own}
 use Rattle.frame_spec.specs.Told.{Told}
 use Rattle.frame_spec.specs.AnyLayout.{under}
-use Rattle.read_spec.specs.Judged.{Label, Judged, layout, line}
+use Rattle.read_spec.specs.Judged.{Label, labelOf, Judged, layout, line}
 use Rattle.read_spec.specs.Judging.{judge}
-use Rattle.read_spec.specs.Readings.{ends}
+use Rattle.read_readings.specs.Readings.{ends}
 use Rattle.read_spec.specs.Ceiling.{within}
 use Rattle.read_spec.specs.Narrowing.{Narrower, alike, narrowed, judge-narrows, within-narrows}
 use Rattle.read_call.specs.declared.Asked.{Asked}
@@ -24,7 +25,7 @@ use Rattle.read_call.specs.Answers.{longestStream, sizedTold, Found, cal
 -- what a call finds with a layout named, beside what it finds with none
 data Beside : Found → Found → Type 0 where
   equal : (f : Found) → Beside f f
-  less : (p : Span) (k : Label) (l : List ℕ) (n : ℕ) → Beside (stretch p (layout n)) (stretch p (line k l n))
+  less : (p : Span) (own : Own) (l : List ℕ) (n : ℕ) → Beside (stretch p (layout n)) (stretch p (line own l n))
 
 module _ (t : Told) (a : Asked) (s : List ℕ) (from room : ℕ) where
   -- what a call finds, by its tests, where the next stretch is found to be j
@@ -44,7 +45,7 @@ module _ (t : Told) (a : Asked) (s : List ℕ) (from room : ℕ) where
   by-tests j k h false false false true f = equal (call from answer-is.Beyond)
   by-tests j k h false false false false true = equal (call (length s) answer-is.End)
   by-tests _ _ (alike j) false false false false false = equal (stretch (nextSpan s from) j)
-  by-tests _ _ (narrowed k l n) false false false false false = less (nextSpan s from) k l n
+  by-tests _ _ (narrowed own l n) false false false false false = less (nextSpan s from) own l n
 
   found-beside : Beside (found t a s from room) (found (under Neither t) a s from room)
   unfolding found judgedWithin sizedTold tests
@@ -64,5 +65,5 @@ layout-narrows t a s from o = go _ _ refl refl (found-beside t a s from (length 
   where
     go : (f g : Found) → found t a s from (length o) ≡ f → found (under Neither t) a s from (length o) ≡ g → Beside f g → Narrowed t a s from o
     go _ _ x y (equal f) = as-without (rw (x, y)) (rw (x, y))
-    go _ _ x y (less p k l n) =
-        not-laid p k (length l) n (ap readingOf y) (ap readingOf x) (ap (λ (f : Found). buffer f o) x)
+    go _ _ x y (less p own l n) =
+        not-laid p (labelOf own) (length l) n (ap readingOf y) (ap readingOf x) (ap (λ (f : Found). buffer f o) x)

@@ -7,12 +7,10 @@ use Rattle.line_layout.specs.declared.Layout.{Layout}
 use Rattle.frame_body.specs.declared.Edition.{Edition}
 use Rattle.frame_body.specs.declared.Edition.the-variants.{One, Two}
 use Rattle.frame_body.specs.Fields.{nonceLength, digestLength, sealLength, jobLength, headLength, Own, ownOf, fields, fieldsOf, associated}
-use Rattle.frame_body.specs.Answers.{editionNumber}
-use Rattle.frame_body.specs.Job.{jobNumber}
 use Rattle.frame_body.specs.Lengths.{Sized, jobFieldLength, associatedLength, besideCipher}
 use Rattle.frame_body.specs.Places.{nonceAt, associatedAt, digestAt, jobAt, cipherAt}
 use Rattle.read_open.specs.Opened.{LineCall, openLine}
-use Rattle.read_spec.specs.Judged.{Judged, label}
+use Rattle.read_spec.specs.Judged.{Judged}
 use Rattle.read_spec.specs.Judging.{judgeSealed}
 
 -- the parts of a body that are lent on; what stands behind the digest stands farther behind by `more` bytes in edition two
@@ -56,5 +54,4 @@ openParts l e n key b o =
 -- what opening them finds
 abbrev pub judgeParts : Layout → Edition → ℕ → List ℕ → List ℕ → Judged
 judgeParts l e n key b =
-    judgeSealed l (label (editionNumber e) (jobNumber (jobIn e b))) key (nonceIn b) (associatedIn (jobFieldLength e) b) (cipherIn (jobFieldLength e) n b)
-    (sealIn (jobFieldLength e) n b)
+    judgeSealed l (ownIn e b) key (associatedIn (jobFieldLength e) b) (cipherIn (jobFieldLength e) n b) (sealIn (jobFieldLength e) n b)

@@ -33,11 +33,11 @@ use frame_body::NONCE_LENGTH;
 use frame_body::SEAL_LENGTH;
 use frame_body::job_field_length;
 use frame_body::judge_body;
+use frame_spec::BESIDE_LINE;
+use frame_spec::KEY_LENGTH;
 use frame_stuff::unstuff;
 use frame_stuff_spec::LONGEST_STRETCH;
 use frame_stuff_spec::Unstuffed;
-use frame_write::BESIDE_LINE;
-use frame_write::KEY_LENGTH;
 use line_layout::Layout;
 use read_bar::Bar;
 use read_bar::judge_asked;
@@ -233,8 +233,11 @@ fn judge_edition(
     requires { ⌜ Parts (now body) edition n ⌝ }
     requires { ⌜ Sizes (told (now key) (now font) (asked .layout)) ⌝ }
     requires { ⌜ longest ≤ length (now line) ⌝ }
-    ensures { λ r. ⌜ r ≡ verdictOf (within (asked .allowed) (judgeFields (told (now (key .entry)) (now (font .entry)) (asked .layout)) (among (asked .editions) (fieldsOf (now (body .entry)))))) ⌝ }
-    ensures { λ _. ⌜ now (line .exit) ≡ lineOver (within (asked .allowed) (judgeFields (told (now (key .entry)) (now (font .entry)) (asked .layout)) (among (asked .editions) (fieldsOf (now (body .entry)))))) (now (line .entry)) ⌝ }
+    ensures { λ r. ⌜ r ≡ verdictOf (within (asked .allowed)
+        (judgeFields (told (now (key .entry)) (now (font .entry)) (asked .layout)) (among (asked .editions) (fieldsOf (now (body .entry)))))) ⌝ }
+    ensures { λ _. ⌜ now (line .exit) ≡ lineOver (within (asked .allowed)
+        (judgeFields (told (now (key .entry)) (now (font .entry)) (asked .layout)) (among (asked .editions) (fieldsOf (now (body .entry))))))
+        (now (line .entry)) ⌝ }
 {
     let digest = &body[DIGEST_AT..DIGEST_AT + DIGEST_LENGTH];
     match judge_asked(asked.editions, asked.allowed, edition, n, digest, font) {
@@ -252,8 +255,11 @@ fn judge_edition(
 fn judge_fields(body: &[u8], key: &[u8], font: &[u8], asked: Asked, line: &mut [u8]) -> Verdict
     requires { ⌜ Sizes (told (now key) (now font) (asked .layout)) ⌝ }
     requires { ⌜ longest ≤ length (now line) ⌝ }
-    ensures { λ r. ⌜ r ≡ verdictOf (within (asked .allowed) (judgeFields (told (now (key .entry)) (now (font .entry)) (asked .layout)) (among (asked .editions) (fieldsOf (now (body .entry)))))) ⌝ }
-    ensures { λ _. ⌜ now (line .exit) ≡ lineOver (within (asked .allowed) (judgeFields (told (now (key .entry)) (now (font .entry)) (asked .layout)) (among (asked .editions) (fieldsOf (now (body .entry)))))) (now (line .entry)) ⌝ }
+    ensures { λ r. ⌜ r ≡ verdictOf (within (asked .allowed)
+        (judgeFields (told (now (key .entry)) (now (font .entry)) (asked .layout)) (among (asked .editions) (fieldsOf (now (body .entry)))))) ⌝ }
+    ensures { λ _. ⌜ now (line .exit) ≡ lineOver (within (asked .allowed)
+        (judgeFields (told (now (key .entry)) (now (font .entry)) (asked .layout)) (among (asked .editions) (fieldsOf (now (body .entry))))))
+        (now (line .entry)) ⌝ }
 {
     match judge_body(body) {
         frame_body::Judged::Shape => return refused(Answer::Shape),
@@ -268,7 +274,8 @@ fn judge_stretch(stretch: &[u8], key: &[u8], font: &[u8], asked: Asked, line: &m
     requires { ⌜ Sizes (told (now key) (now font) (asked .layout)) ⌝ }
     requires { ⌜ longest ≤ length (now line) ⌝ }
     ensures { λ r. ⌜ r ≡ verdictOf (judgedWithin (told (now (key .entry)) (now (font .entry)) (asked .layout)) asked (now (stretch .entry))) ⌝ }
-    ensures { λ _. ⌜ now (line .exit) ≡ lineOver (judgedWithin (told (now (key .entry)) (now (font .entry)) (asked .layout)) asked (now (stretch .entry))) (now (line .entry)) ⌝ }
+    ensures { λ _. ⌜ now (line .exit) ≡ lineOver (judgedWithin (told (now (key .entry)) (now (font .entry)) (asked .layout)) asked (now (stretch .entry)))
+        (now (line .entry)) ⌝ }
 {
     let mut body = [0u8; LONGEST_STRETCH];
     let n = match unstuff(stretch, &mut body) {
@@ -285,7 +292,8 @@ fn judge_stretch(stretch: &[u8], key: &[u8], font: &[u8], asked: Asked, line: &m
 // else is written.
 pub fn judge(stretch: &[u8], key: &[u8], font: &[u8], asked: Asked, line: &mut [u8]) -> Verdict
     ensures { λ r. ⌜ r ≡ judgeAnswer (told (now (key .entry)) (now (font .entry)) (asked .layout)) asked (now (stretch .entry)) (now (line .entry)) ⌝ }
-    ensures { λ _. ⌜ now (line .exit) ≡ judgeOut (told (now (key .entry)) (now (font .entry)) (asked .layout)) asked (now (stretch .entry)) (now (line .entry)) ⌝ }
+    ensures { λ _. ⌜ now (line .exit) ≡ judgeOut (told (now (key .entry)) (now (font .entry)) (asked .layout)) asked (now (stretch .entry))
+        (now (line .entry)) ⌝ }
 {
     if key.len() != KEY_LENGTH {
         return refused(Answer::Sizes);
@@ -337,7 +345,8 @@ pub fn read(
     line: &mut [u8],
 ) -> Reading
     ensures { λ r. ⌜ r ≡ readAnswer (told (now (key .entry)) (now (font .entry)) (asked .layout)) asked (now (stream .entry)) from (now (line .entry)) ⌝ }
-    ensures { λ _. ⌜ now (line .exit) ≡ readOut (told (now (key .entry)) (now (font .entry)) (asked .layout)) asked (now (stream .entry)) from (now (line .entry)) ⌝ }
+    ensures { λ _. ⌜ now (line .exit) ≡ readOut (told (now (key .entry)) (now (font .entry)) (asked .layout)) asked (now (stream .entry)) from
+        (now (line .entry)) ⌝ }
 {
     if key.len() != KEY_LENGTH {
         return at(from, Answer::Sizes);

@@ -1,77 +1,84 @@
-// The number of what `read` answers, and the line that it gives (document 01, 'Numbers returned'; orders W2, W5 and W7), for callers that report them.
-// The promises cite read_call/specs/Answers.antt.
+// What `read` answers in document 01's numbers ('Numbers returned'; orders W2, W5 and W7), for callers that report them: one `match` gives them all.
+// The promises cite specs/Reports.antt and read_call/specs/Answers.antt.
 ghost use mathlib.Core.Path.{_≡_};
-ghost use Rattle.read_call.specs.Answers.{numberOf, lengthOf, givenOf};
+ghost use Rattle.read_call.specs.Answers.{numberOf, lengthOf, callsOf};
+ghost use Rattle.read_numbers.specs.Reports.{report, reportOf};
 use read_call::Answer;
 
-// The number of what `read` answers; the end of the stream has 0, as a line has.
+// Which of four a reading is: the end of the stream, a line, a stretch refused, the call refused.
+pub const END: u32 = 0;
+
+pub const LINE: u32 = 1;
+
+pub const REFUSED: u32 = 2;
+
+pub const CALL_REFUSED: u32 = 3;
+
+// What a refusal that makes no call of the permutation counts, and the end of the stream.
+const NO_CALLS: usize = 0;
+
+// The number, which of the four it is, the line's length, 0 where none is given, and the count.
+pub struct Report {
+    pub number: u32,
+    pub outcome: u32,
+    pub length: usize,
+    pub calls: usize,
+}
+
+// These four together.
+fn told(number: u32, outcome: u32, length: usize, calls: usize) -> Report
+    ensures { λ r. ⌜ r ≡ report number outcome length calls ⌝ }
+{
+    Report {
+        number,
+        outcome,
+        length,
+        calls,
+    }
+}
+
+// The numbers of what `read` answers; the end of the stream has the number 0, as a line has.
+pub fn numbers(answer: Answer) -> Report
+    ensures { λ r. ⌜ r ≡ reportOf answer ⌝ }
+{
+    match answer {
+        Answer::Sizes => told(2, CALL_REFUSED, 0, NO_CALLS),
+        Answer::TooLong => told(3, CALL_REFUSED, 0, NO_CALLS),
+        Answer::NoRoom => told(4, CALL_REFUSED, 0, NO_CALLS),
+        Answer::Beyond => told(10, CALL_REFUSED, 0, NO_CALLS),
+        Answer::End => told(0, END, 0, NO_CALLS),
+        Answer::Shape => told(7, REFUSED, 0, NO_CALLS),
+        Answer::Stuffing => told(6, REFUSED, 0, NO_CALLS),
+        Answer::Font => told(8, REFUSED, 0, NO_CALLS),
+        Answer::Work => told(15, REFUSED, 0, NO_CALLS),
+        Answer::Seal(calls) => told(5, REFUSED, 0, calls),
+        Answer::Unlisted(calls) => told(9, REFUSED, 0, calls),
+        Answer::Trade(calls) => told(13, REFUSED, 0, calls),
+        Answer::Layout(calls) => told(17, REFUSED, 0, calls),
+        Answer::Line { length, calls } => told(0, LINE, length, calls),
+    }
+}
+
+// The number alone.
 pub fn read_number(answer: Answer) -> u32
     ensures { λ r. ⌜ r ≡ numberOf answer ⌝ }
 {
-    match answer {
-        Answer::Sizes => 2,
-        Answer::TooLong => 3,
-        Answer::NoRoom => 4,
-        Answer::Beyond => 10,
-        Answer::End => 0,
-        Answer::Shape => 7,
-        Answer::Stuffing => 6,
-        Answer::Font => 8,
-        Answer::Work => 15,
-        Answer::Seal(_) => 5,
-        Answer::Unlisted(_) => 9,
-        Answer::Trade(_) => 13,
-        Answer::Layout(_) => 17,
-        Answer::Line {
-            length: _,
-            calls: _,
-        } => 0,
-    }
+    let its = numbers(answer);
+    its.number
 }
 
-// The line's length, 0 where no line is given.
+// The line's length alone, 0 where no line is given.
 pub fn read_length(answer: Answer) -> usize
     ensures { λ r. ⌜ r ≡ lengthOf answer ⌝ }
 {
-    match answer {
-        Answer::Sizes => 0,
-        Answer::TooLong => 0,
-        Answer::NoRoom => 0,
-        Answer::Beyond => 0,
-        Answer::End => 0,
-        Answer::Shape => 0,
-        Answer::Stuffing => 0,
-        Answer::Font => 0,
-        Answer::Work => 0,
-        Answer::Seal(_) => 0,
-        Answer::Unlisted(_) => 0,
-        Answer::Trade(_) => 0,
-        Answer::Layout(_) => 0,
-        Answer::Line { length, calls: _ } => length,
-    }
+    let its = numbers(answer);
+    its.length
 }
 
-// 1 where a line is given, else 0.
-pub fn read_given(answer: Answer) -> u32
-    ensures { λ r. ⌜ r ≡ givenOf answer ⌝ }
+// The count alone.
+pub fn read_count(answer: Answer) -> usize
+    ensures { λ r. ⌜ r ≡ callsOf answer ⌝ }
 {
-    match answer {
-        Answer::Line {
-            length: _,
-            calls: _,
-        } => 1,
-        Answer::Sizes => 0,
-        Answer::TooLong => 0,
-        Answer::NoRoom => 0,
-        Answer::Beyond => 0,
-        Answer::End => 0,
-        Answer::Shape => 0,
-        Answer::Stuffing => 0,
-        Answer::Font => 0,
-        Answer::Work => 0,
-        Answer::Seal(_) => 0,
-        Answer::Unlisted(_) => 0,
-        Answer::Trade(_) => 0,
-        Answer::Layout(_) => 0,
-    }
+    let its = numbers(answer);
+    its.calls
 }

@@ -7,7 +7,7 @@ ghost use Rattle.base_lists.specs.Buffers.{copied};
 ghost use Rattle.read_open.specs.Opened.{foundBy, lineBy, openBeside, openLine};
 use base_lists::copy;
 use frame_body::LONGEST_LINE;
-use frame_write::INSTANCE;
+use frame_spec::INSTANCE;
 use ingage_answers::Opened;
 use ingage_call::open;
 use line_layout::Layout;

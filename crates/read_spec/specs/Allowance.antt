@@ -29,7 +29,7 @@ use Rattle.read_spec.specs.Judging.{byRule, judgeSealed, judge}
 use Rattle.read_spec.specs.Cases.{Holds, Case, judge-holds, judge-case, too-long, bad-stuffing, no-fields, other-font, other-seal, not-listed, not-trade, not-laid, given}
 use Rattle.read_spec.specs.Counts.{Counted, opening-calls, read-calls}
 use Rattle.read_spec.specs.Editions.{among-fields}
-use Rattle.read_spec.specs.Judged.{Label, labelOf, Judged, shape, stuffing, font, work, seal, unlisted, trade, layout, line, numberIn, callsIn}
+use Rattle.read_spec.specs.Judged.{Judged, shape, stuffing, font, work, seal, unlisted, trade, layout, line, numberIn, callsIn}
 use Rattle.read_spec.specs.Ceiling.{within, allWork}
 
 -- where the work is no more than is allowed, the answer is the one without a ceiling
@@ -74,20 +74,21 @@ never-over a j = go (ltb a (callsIn j)) refl
     go false e = ltb-false a (callsIn j) e
 
 -- opening takes the same work whatever it finds: 5, 9, 13, 17 or a line
-pub sealed-work : (l : layouts.Layout) (k : Label) (key nonce A cipher T : List ℕ) → callsIn (judgeSealed l k key nonce A cipher T) ≡ decrypted first key nonce A cipher .calls
+pub sealed-work : (l : layouts.Layout) (own : Own) (key A cipher T : List ℕ)
+    → callsIn (judgeSealed l own key A cipher T) ≡ decrypted first key (own .nonce) A cipher .calls
 unfolding judgeSealed
-sealed-work l k key nonce A cipher T = by-seal (accepted (w .seal) T)
+sealed-work l own key A cipher T = by-seal (accepted (w .seal) T)
   where
     w : Work
-    w = decrypted first key nonce A cipher
+    w = decrypted first key (own .nonce) A cipher
 
-    by-rule : (r : line-judged.Judged) → callsIn (byRule r k w) ≡ w .calls
+    by-rule : (r : line-judged.Judged) → callsIn (byRule r own w) ≡ w .calls
     by-rule Accepted = refl
     by-rule Unlisted = refl
     by-rule Trade = refl
     by-rule Layout = refl
 
-    by-seal : (b : Bool) → callsIn (cond (not b) (seal (w .calls)) (byRule (layoutRule l (w .text)) k w)) ≡ w .calls
+    by-seal : (b : Bool) → callsIn (cond (not b) (seal (w .calls)) (byRule (layoutRule l (w .text)) own w)) ≡ w .calls
     by-seal true = by-rule (layoutRule l (w .text))
     by-seal false = refl
 
@@ -98,11 +99,11 @@ module _ (t : Told) (z : Sizes t) (ed : ℕ) (s : List ℕ) (a : ℕ) where
   -- a stretch whose fields are right and whose font is the one asked for, and more work than is allowed: 15, whatever its seal and its line
   pub over-allowed : (own : Own) (cipher T : List ℕ) → Holds ed s own (t .font) cipher T → a < length cipher + besideLine (own .edition) → within a (judge t ed s) ≡ work
   over-allowed own cipher T h l =
-      let sealed : judge t ed s ≡ judgeSealed (t .layout) (labelOf own) (t .key) (own .nonce) (associated (own .edition) (t .font) (own .job)) cipher T =
+      let sealed : judge t ed s ≡ judgeSealed (t .layout) own (t .key) (associated (own .edition) (t .font) (own .job)) cipher T =
       judge-holds t ed s h ∙ rw (same-refl (t .font)) in
       let calls : callsIn (judge t ed s) ≡ length cipher + besideLine (own .edition) =
       ap callsIn sealed
-      ∙ sealed-work (t .layout) (labelOf own) (t .key) (own .nonce) (associated (own .edition) (t .font) (own .job)) cipher T ∙ opening-calls t z own (held h) cipher in
+      ∙ sealed-work (t .layout) own (t .key) (associated (own .edition) (t .font) (own .job)) cipher T ∙ opening-calls t z own (held h) cipher in
       not-enough a (judge t ed s) (omega (arith, calls, l))
 
   -- and 15 for no other
@@ -120,7 +121,7 @@ module _ (t : Told) (z : Sizes t) (ed : ℕ) (s : List ℕ) (a : ℕ) where
       by-count (unlisted n) (own, cipher, T, h, q) l = (own, cipher, T, h, omega (arith, q, l))
       by-count (trade n) (own, cipher, T, h, q) l = (own, cipher, T, h, omega (arith, q, l))
       by-count (layout n) (own, cipher, T, h, q) l = (own, cipher, T, h, omega (arith, q, l))
-      by-count (line k x n) (own, cipher, T, h, q) l = (own, cipher, T, h, omega (arith, q, l))
+      by-count (line made x n) (own, cipher, T, h, q) l = (own, cipher, T, h, omega (arith, q, l))
 
       -- without a ceiling no stretch is found to be 15
       no-work : judge t ed s ≡ work → ⊥

@@ -21,7 +21,7 @@ use Rattle.ingage_spec.specs.Cipher.{Work, decrypted}
 use Rattle.frame_body.specs.Fields.{Own, Fields, fields, no-body, fieldsOf, associated}
 use Rattle.frame_spec.specs.Told.{Told}
 use Rattle.read_spec.specs.Editions.{among}
-use Rattle.read_spec.specs.Judged.{labelOf, Judged, shape, stuffing, font, seal, unlisted, trade, layout, line}
+use Rattle.read_spec.specs.Judged.{Judged, shape, stuffing, font, seal, unlisted, trade, layout, line}
 use Rattle.read_spec.specs.Judging.{byRule, judgeSealed, judgeFields, judge}
 
 same-differs : (a b : List ℕ) → same a b ≡ false → a ≡ b → ⊥
@@ -59,7 +59,7 @@ pub data Case (t : Told) (ed : ℕ) (s : List ℕ) : Judged → Type 0 where
       → layoutRule (t .layout) (opening t own (t .font) cipher .text) ≡ Layout → Case t ed s (layout (opening t own (t .font) cipher .calls))
   given : (own : Own) (cipher : List ℕ) → Holds ed s own (t .font) cipher (opening t own (t .font) cipher .seal)
       → layoutRule (t .layout) (opening t own (t .font) cipher .text) ≡ Accepted
-      → Case t ed s (line (labelOf own) (opening t own (t .font) cipher .text) (opening t own (t .font) cipher .calls))
+      → Case t ed s (line own (opening t own (t .font) cipher .text) (opening t own (t .font) cipher .calls))
 
 module _ (t : Told) (ed : ℕ) (s : List ℕ) where
   pub judge-too-long : longestStretch < length s → judge t ed s ≡ shape
@@ -81,7 +81,7 @@ module _ (t : Told) (ed : ℕ) (s : List ℕ) where
 
 pub judge-line : (t : Told) (ed : ℕ) (s : List ℕ) (own : Own) (cipher : List ℕ) → Holds ed s own (t .font) cipher (opening t own (t .font) cipher .seal)
     → layoutRule (t .layout) (opening t own (t .font) cipher .text) ≡ Accepted
-    → judge t ed s ≡ line (labelOf own) (opening t own (t .font) cipher .text) (opening t own (t .font) cipher .calls)
+    → judge t ed s ≡ line own (opening t own (t .font) cipher .text) (opening t own (t .font) cipher .calls)
 unfolding judgeSealed
 judge-line t ed s own cipher h a =
     judge-holds t ed s h ∙ rw (same-refl (t .font), same-refl (opening t own (t .font) cipher .seal), a)
@@ -89,7 +89,7 @@ judge-line t ed s own cipher h a =
 module _ (t : Told) (ed : ℕ) (s : List ℕ) where
   line-case : (own : Own) (cipher : List ℕ) → Holds ed s own (t .font) cipher (opening t own (t .font) cipher .seal)
       → (r : line-judged.Judged) → layoutRule (t .layout) (opening t own (t .font) cipher .text) ≡ r
-      → Case t ed s (byRule r (labelOf own) (opening t own (t .font) cipher))
+      → Case t ed s (byRule r own (opening t own (t .font) cipher))
   line-case own cipher h Accepted e = given own cipher h e
   line-case own cipher h Unlisted e = not-listed own cipher h e
   line-case own cipher h Trade e = not-trade own cipher h e
@@ -98,17 +98,17 @@ module _ (t : Told) (ed : ℕ) (s : List ℕ) where
   seal-case : (own : Own) (cipher T : List ℕ) → Holds ed s own (t .font) cipher T
       → (b : Bool) → same (opening t own (t .font) cipher .seal) T ≡ b
       → Case t ed s (cond (not b) (seal (opening t own (t .font) cipher .calls))
-      (byRule (layoutRule (t .layout) (opening t own (t .font) cipher .text)) (labelOf own) (opening t own (t .font) cipher)))
+      (byRule (layoutRule (t .layout) (opening t own (t .font) cipher .text)) own (opening t own (t .font) cipher)))
   seal-case own cipher T h true e =
       let w = opening t own (t .font) cipher in
       line-case own cipher (h .0, h .1 ∙ ap (fields own (t .font) cipher) (sym (same-eq (w .seal) T e))) (layoutRule (t .layout) (w .text)) refl
   seal-case own cipher T h false e = other-seal own cipher T h (same-differs (opening t own (t .font) cipher .seal) T e)
 
   font-case : (own : Own) (digest cipher T : List ℕ) → Holds ed s own digest cipher T → (b : Bool) → same digest (t .font) ≡ b
-      → Case t ed s (cond (not b) font (judgeSealed (t .layout) (labelOf own) (t .key) (own .nonce) (associated (own .edition) digest (own .job)) cipher T))
+      → Case t ed s (cond (not b) font (judgeSealed (t .layout) own (t .key) (associated (own .edition) digest (own .job)) cipher T))
   unfolding judgeSealed
   font-case own digest cipher T h true e =
-      subst (λ (d : List ℕ). Holds ed s own d cipher T → Case t ed s (judgeSealed (t .layout) (labelOf own) (t .key) (own .nonce) (associated (own .edition) d (own .job)) cipher T))
+      subst (λ (d : List ℕ). Holds ed s own d cipher T → Case t ed s (judgeSealed (t .layout) own (t .key) (associated (own .edition) d (own .job)) cipher T))
       (sym (same-eq digest (t .font) e))
       (λ g. seal-case own cipher T g (same (opening t own (t .font) cipher .seal) T) refl) h
   font-case own digest cipher T h false e = other-font own digest cipher T h (same-differs digest (t .font) e)

@@ -32,7 +32,7 @@ Counted t ed s (seal n) = OpenedWith t ed s (callsIn (seal n))
 Counted t ed s (unlisted n) = OpenedWith t ed s (callsIn (unlisted n))
 Counted t ed s (trade n) = OpenedWith t ed s (callsIn (trade n))
 Counted t ed s (layout n) = OpenedWith t ed s (callsIn (layout n))
-Counted t ed s (line k l n) = OpenedWith t ed s (callsIn (line k l n))
+Counted t ed s (line own l n) = OpenedWith t ed s (callsIn (line own l n))
 
 pub opening-calls : (t : Told) → Sizes t → (own : Own) → length (own .job) ≡ jobSize (own .edition) → (cipher : List ℕ)
     → opening t own (t .font) cipher .calls ≡ length cipher + besideLine (own .edition)

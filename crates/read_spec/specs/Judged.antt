@@ -21,7 +21,7 @@ noLabel = label 0 0
 abbrev pub labelOf : Own → Label
 labelOf own = label (editionNumber (own .edition)) (jobNumber (own .job))
 
--- 7, 6, 8, 15; 5, 9, 13 and 17 with the calls of the permutation made; a line with its label and them
+-- 7, 6, 8, 15; 5, 9, 13 and 17 with the calls of the permutation made; a line with what is its frame's own (edition, nonce, job) and them
 pub data Judged : Type 0 where
   shape : Judged
   stuffing : Judged
@@ -31,7 +31,7 @@ pub data Judged : Type 0 where
   unlisted : ℕ → Judged
   trade : ℕ → Judged
   layout : ℕ → Judged
-  line : Label → List ℕ → ℕ → Judged
+  line : Own → List ℕ → ℕ → Judged
 
 abbrev pub numberIn : Judged → ℕ
 numberIn shape = 7
@@ -42,7 +42,7 @@ numberIn (seal n) = 5
 numberIn (unlisted n) = 9
 numberIn (trade n) = 13
 numberIn (layout n) = 17
-numberIn (line k l n) = 0
+numberIn (line own l n) = 0
 
 -- the line given, empty where none is
 abbrev pub lineIn : Judged → List ℕ
@@ -54,9 +54,9 @@ lineIn (seal n) = []
 lineIn (unlisted n) = []
 lineIn (trade n) = []
 lineIn (layout n) = []
-lineIn (line k l n) = l
+lineIn (line own l n) = l
 
--- the label that it is given with
+-- the label that it is given with, which is all that a caller is told of its frame
 abbrev pub labelIn : Judged → Label
 labelIn shape = noLabel
 labelIn stuffing = noLabel
@@ -66,7 +66,7 @@ labelIn (seal n) = noLabel
 labelIn (unlisted n) = noLabel
 labelIn (trade n) = noLabel
 labelIn (layout n) = noLabel
-labelIn (line k l n) = k
+labelIn (line own l n) = labelOf own
 
 -- the count: 0 on every refusal but 5, 9, 13 and 17
 abbrev pub callsIn : Judged → ℕ
@@ -78,4 +78,4 @@ callsIn (seal n) = n
 callsIn (unlisted n) = n
 callsIn (trade n) = n
 callsIn (layout n) = n
-callsIn (line k l n) = n
+callsIn (line own l n) = n

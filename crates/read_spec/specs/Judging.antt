@@ -14,34 +14,34 @@ use Rattle.line_layout.specs.declared.Judged.the-variants.{Accepted, Unlisted, 
 use Rattle.line_layout.specs.Layouts.{layoutRule}
 use Rattle.ingage_spec.specs.Instances.{first}
 use Rattle.ingage_spec.specs.Cipher.{Work, decrypted, accepted}
-use Rattle.frame_body.specs.Fields.{Fields, fields, no-body, fieldsOf, associated}
+use Rattle.frame_body.specs.Fields.{Own, Fields, fields, no-body, fieldsOf, associated}
 use Rattle.frame_spec.specs.Told.{Told}
 use Rattle.read_spec.specs.Editions.{among}
-use Rattle.read_spec.specs.Judged.{Label, labelOf, Judged, shape, stuffing, font, seal, unlisted, trade, layout, line}
+use Rattle.read_spec.specs.Judged.{Judged, shape, stuffing, font, seal, unlisted, trade, layout, line}
 
 -- by the rule of a line and its layout: 9, 13, 17
-abbrev pub byRule : line-judged.Judged → Label → Work → Judged
-byRule Unlisted k w = unlisted (w .calls)
-byRule Trade k w = trade (w .calls)
-byRule Layout k w = layout (w .calls)
-byRule Accepted k w = line k (w .text) (w .calls)
+abbrev pub byRule : line-judged.Judged → Own → Work → Judged
+byRule Unlisted own w = unlisted (w .calls)
+byRule Trade own w = trade (w .calls)
+byRule Layout own w = layout (w .calls)
+byRule Accepted own w = line own (w .text) (w .calls)
 
 -- what opening finds under the seal T: 5, then 9, 13 and 17
-abbrev pub judgeWork : layouts.Layout → Label → Work → List ℕ → Judged
-judgeWork l k w T =
+abbrev pub judgeWork : layouts.Layout → Own → Work → List ℕ → Judged
+judgeWork l own w T =
     cond (not (accepted (w .seal) T)) (seal (w .calls))
-    (byRule (layoutRule l (w .text)) k w)
+    (byRule (layoutRule l (w .text)) own w)
 
--- sealed fields are opened under the first instance
-unfoldable pub judgeSealed : layouts.Layout → Label → List ℕ → List ℕ → List ℕ → List ℕ → List ℕ → Judged
-judgeSealed l k key nonce A cipher T = judgeWork l k (decrypted first key nonce A cipher) T
+-- sealed fields are opened under the first instance with the frame's nonce
+unfoldable pub judgeSealed : layouts.Layout → Own → List ℕ → List ℕ → List ℕ → List ℕ → Judged
+judgeSealed l own key A cipher T = judgeWork l own (decrypted first key (own .nonce) A cipher) T
 
 -- what a body's fields hold: 7, then 8
 abbrev pub judgeFields : Told → Fields → Judged
 judgeFields t no-body = shape
 judgeFields t (fields own digest cipher T) =
     cond (not (same digest (t .font))) font
-    (judgeSealed (t .layout) (labelOf own) (t .key) (own .nonce) (associated (own .edition) digest (own .job)) cipher T)
+    (judgeSealed (t .layout) own (t .key) (associated (own .edition) digest (own .job)) cipher T)
 
 -- what the unstuffed length is found to be: 7 for the stretch's length, then 6 (there is no buffer, so room never lacks)
 abbrev pub byStuffing : Unstuffed → Judged → Judged

@@ -7,10 +7,6 @@ pub mod Numbers
 pub mod Counts
 pub mod Ceiling
 pub mod Allowance
-pub mod Readings
-pub mod Resync
-pub mod Reaching
-pub mod Joining
 pub mod OtherFont
 pub mod EditionOne
 pub mod Narrowing

@@ -16,28 +16,28 @@ use Rattle.line_layout.specs.Layouts.{layoutRule}
 use Rattle.line_layout.specs.Rule as ruled
 use Rattle.ingage_spec.specs.Instances.{first}
 use Rattle.ingage_spec.specs.Cipher.{Work, decrypted, accepted}
-use Rattle.frame_body.specs.Fields.{Fields, fields, no-body, fieldsOf, associated}
+use Rattle.frame_body.specs.Fields.{Own, Fields, fields, no-body, fieldsOf, associated}
 use Rattle.frame_spec.specs.Told.{Told}
 use Rattle.frame_spec.specs.AnyLayout.{under}
 use Rattle.read_spec.specs.Editions.{among}
-use Rattle.read_spec.specs.Judged.{Label, labelOf, Judged, work, seal, font, layout, line}
+use Rattle.read_spec.specs.Judged.{Judged, work, seal, font, layout, line}
 use Rattle.read_spec.specs.Judging.{byRule, judgeSealed, judgeFields, byStuffing, judge}
 use Rattle.read_spec.specs.Ceiling.{within}
 
 -- what is found with a layout named, beside what is found with none
 pub data Narrower : Judged → Judged → Type 0 where
   alike : (j : Judged) → Narrower j j
-  narrowed : (k : Label) (l : List ℕ) (n : ℕ) → Narrower (layout n) (line k l n)
+  narrowed : (own : Own) (l : List ℕ) (n : ℕ) → Narrower (layout n) (line own l n)
 
-module _ (l : layouts.Layout) (k : Label) (w : Work) where
-  rule-narrows : Narrower (byRule (layoutRule l (w .text)) k w) (byRule (layoutRule Neither (w .text)) k w)
+module _ (l : layouts.Layout) (own : Own) (w : Work) where
+  rule-narrows : Narrower (byRule (layoutRule l (w .text)) own w) (byRule (layoutRule Neither (w .text)) own w)
   rule-narrows = go (ruled.rule-narrows l (w .text))
     where
-      go : ruled.Narrowed l (w .text) → Narrower (byRule (layoutRule l (w .text)) k w) (byRule (layoutRule Neither (w .text)) k w)
-      go (ruled.as-without e) = rw e (alike (byRule (layoutRule Neither (w .text)) k w))
-      go (ruled.not-laid e f) = rw (e, f) (narrowed k (w .text) (w .calls))
+      go : ruled.Narrowed l (w .text) → Narrower (byRule (layoutRule l (w .text)) own w) (byRule (layoutRule Neither (w .text)) own w)
+      go (ruled.as-without e) = rw e (alike (byRule (layoutRule Neither (w .text)) own w))
+      go (ruled.not-laid e f) = rw (e, f) (narrowed own (w .text) (w .calls))
 
-  seal-narrows : (b : Bool) → Narrower (cond b (seal (w .calls)) (byRule (layoutRule l (w .text)) k w)) (cond b (seal (w .calls)) (byRule (layoutRule Neither (w .text)) k w))
+  seal-narrows : (b : Bool) → Narrower (cond b (seal (w .calls)) (byRule (layoutRule l (w .text)) own w)) (cond b (seal (w .calls)) (byRule (layoutRule Neither (w .text)) own w))
   seal-narrows true = alike (seal (w .calls))
   seal-narrows false = rule-narrows
 
@@ -51,11 +51,11 @@ module _ (t : Told) where
       w = decrypted first (t .key) (own .nonce) (associated (own .edition) digest (own .job)) cipher
 
       sealed : layouts.Layout → Judged
-      sealed l = cond (not (accepted (w .seal) T)) (seal (w .calls)) (byRule (layoutRule l (w .text)) (labelOf own) w)
+      sealed l = cond (not (accepted (w .seal) T)) (seal (w .calls)) (byRule (layoutRule l (w .text)) own w)
 
       by-font : (b : Bool) → Narrower (cond b font (sealed (t .layout))) (cond b font (sealed Neither))
       by-font true = alike font
-      by-font false = seal-narrows (t .layout) (labelOf own) w (not (accepted (w .seal) T))
+      by-font false = seal-narrows (t .layout) own w (not (accepted (w .seal) T))
 
   pub judge-narrows : (ed : ℕ) (s : List ℕ) → Narrower (judge t ed s) (judge (under Neither t) ed s)
   unfolding judge
@@ -74,8 +74,8 @@ module _ (t : Told) where
 pub within-narrows : (a : ℕ) (j k : Judged) → Narrower j k → Narrower (within a j) (within a k)
 unfolding within
 within-narrows a _ _ (alike j) = alike (cond (ltb a _) work j)
-within-narrows a _ _ (narrowed k l n) = go (ltb a n)
+within-narrows a _ _ (narrowed own l n) = go (ltb a n)
   where
-    go : (b : Bool) → Narrower (cond b work (layout n)) (cond b work (line k l n))
+    go : (b : Bool) → Narrower (cond b work (layout n)) (cond b work (line own l n))
     go true = alike work
-    go false = narrowed k l n
+    go false = narrowed own l n

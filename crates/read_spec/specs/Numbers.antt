@@ -16,7 +16,7 @@ use Rattle.frame_body.specs.Fields.{Own, Fields, fields, no-body, fieldsOf}
 use Rattle.frame_body.specs.Answers.{judged, judgeNumber}
 use Rattle.frame_spec.specs.Told.{Told}
 use Rattle.read_spec.specs.Editions.{among}
-use Rattle.read_spec.specs.Judged.{Label, labelOf, Judged, numberIn}
+use Rattle.read_spec.specs.Judged.{Judged, numberIn}
 use Rattle.read_spec.specs.Judging.{byRule, judgeSealed, judgeFields, judge}
 use Rattle.read_spec.specs.Cases.{Stuffed, Holds, Case, opening, judge-case, judge-fields, judge-holds, too-long, bad-stuffing, no-fields, other-font, other-seal, not-listed, not-trade, not-laid, given}
 
@@ -54,10 +54,10 @@ module _ (t : Told) (ed : ℕ) (s : List ℕ) where
   unfolding judgeSealed
   line-number own cipher h =
       let w = opening t own (t .font) cipher in
-      ap numberIn (judge-holds t ed s h) ∙ rw (same-refl (t .font), same-refl (w .seal)) (by-rule (layoutRule (t .layout) (w .text)) (labelOf own) w)
+      ap numberIn (judge-holds t ed s h) ∙ rw (same-refl (t .font), same-refl (w .seal)) (by-rule (layoutRule (t .layout) (w .text)) own w)
     where
-      by-rule : (r : line-judged.Judged) (k : Label) (w : Work) → numberIn (byRule r k w) ≡ lines.numberOf r
-      by-rule Accepted k w = refl
-      by-rule Unlisted k w = refl
-      by-rule Trade k w = refl
-      by-rule Layout k w = refl
+      by-rule : (r : line-judged.Judged) (own : Own) (w : Work) → numberIn (byRule r own w) ≡ lines.numberOf r
+      by-rule Accepted own w = refl
+      by-rule Unlisted own w = refl
+      by-rule Trade own w = refl
+      by-rule Layout own w = refl

@@ -31,7 +31,8 @@ fn one_step(
     line: &mut [u8],
 ) -> Step
     ensures { λ r. ⌜ r ≡ stepOf (told (now (key .entry)) (now (font .entry)) (asked .layout)) asked (now (stream .entry)) at (now (line .entry)) ⌝ }
-    ensures { λ _. ⌜ now (line .exit) ≡ readOut (told (now (key .entry)) (now (font .entry)) (asked .layout)) asked (now (stream .entry)) at (now (line .entry)) ⌝ }
+    ensures { λ _. ⌜ now (line .exit) ≡ readOut (told (now (key .entry)) (now (font .entry)) (asked .layout)) asked (now (stream .entry)) at
+        (now (line .entry)) ⌝ }
 {
     let reading = read(stream, at, key, font, asked, line);
     Step {
@@ -62,7 +63,9 @@ pub fn next<'s, 'a, 'b, 'c, 'd>(
     asked: Asked,
     line: &'d mut [u8],
 ) -> Reading
-    ensures { λ r. ⌜ (r ≡ readAnswer (told (now (key .entry)) (now (font .entry)) (asked .layout)) asked (now (now (w .entry) .stream)) (now (w .entry) .at) (now (line .entry))) × (now (line .exit) ≡ readOut (told (now (key .entry)) (now (font .entry)) (asked .layout)) asked (now (now (w .entry) .stream)) (now (w .entry) .at) (now (line .entry))) × (now (w .exit) .stream ≡ now (w .entry) .stream) × (now (w .exit) .at ≡ r .closing) ⌝ }
+    ensures { λ r. ⌜ (r ≡ readAnswer (told (now (key .entry)) (now (font .entry)) (asked .layout)) asked (now (now (w .entry) .stream)) (now (w .entry) .at)
+        (now (line .entry))) × (now (line .exit) ≡ readOut (told (now (key .entry)) (now (font .entry)) (asked .layout)) asked (now (now (w .entry) .stream))
+        (now (w .entry) .at) (now (line .entry))) × (now (w .exit) .stream ≡ now (w .entry) .stream) × (now (w .exit) .at ≡ r .closing) ⌝ }
 {
     let s = one_step(w.stream, w.at, key, font, asked, line);
     w.at = s.at;
@@ -78,7 +81,8 @@ pub fn walked(
     asked: Asked,
     line: &mut [u8],
 ) -> Step
-    ensures { λ r. ⌜ (r ≡ stepOf (told (now (key .entry)) (now (font .entry)) (asked .layout)) asked (now (stream .entry)) from (now (line .entry))) × (now (line .exit) ≡ readOut (told (now (key .entry)) (now (font .entry)) (asked .layout)) asked (now (stream .entry)) from (now (line .entry))) ⌝ }
+    ensures { λ r. ⌜ (r ≡ stepOf (told (now (key .entry)) (now (font .entry)) (asked .layout)) asked (now (stream .entry)) from (now (line .entry))) ×
+        (now (line .exit) ≡ readOut (told (now (key .entry)) (now (font .entry)) (asked .layout)) asked (now (stream .entry)) from (now (line .entry))) ⌝ }
 {
     let mut w = Walker { stream, at: from };
     let reading = next(&mut w, key, font, asked, line);

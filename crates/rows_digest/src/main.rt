@@ -49,8 +49,8 @@ fn row(instance: usize, message: &[u8], out: &mut [u8]) {
     cell(instance);
     cell(message.len());
     cell(out.len());
-    cell(answer_numbers::digest_number(answer) as usize);
-    cell(answer_numbers::digest_count(answer));
+    cell(digest_call::digest_number(answer) as usize);
+    cell(digest_call::digest_count(answer));
     hex(out);
     say(b"\n");
 }

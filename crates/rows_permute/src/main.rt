@@ -1,5 +1,5 @@
 // Prints the rows that the second program makes of its own permutation (tests/second, src/rows/permute.rs): whether the formula gives the table's
-// products, every permitted size at a few counts of rounds over three states, forwards and backwards, and what is refused.
+// products, every permitted size at a few counts of rounds over three states, forwards and backwards, the first round byte by byte beside it, and what is refused.
 use gage_spec::LARGEST;
 use gage_spec::ROUNDS;
 use libc::STDOUT_FILENO;
@@ -50,6 +50,22 @@ fn begin(call: &[u8], n: usize, k: usize, kind: &[u8]) {
     say(b" ");
 }
 
+// The first round byte by byte, which is the substitution with the first leader, 0, and whether it is what the planes gave.
+fn first_round(n: usize, kind: &[u8], s: [u8; LARGEST], planes: [u8; LARGEST]) {
+    say(b"substitute ");
+    number(n);
+    say(b" ");
+    say(kind);
+    say(b" ");
+    let bytes = gage_substitute::substitute(s, n, 0);
+    hex(bytes, n);
+    if base_lists::compare(&bytes, &planes) {
+        say(b" same\n");
+    } else {
+        say(b" changed\n");
+    }
+}
+
 // One state, permuted and unpermuted.
 fn rows(n: usize, k: usize, kind: &[u8], s: [u8; LARGEST]) {
     begin(b"permute ", n, k, kind);
@@ -59,6 +75,9 @@ fn rows(n: usize, k: usize, kind: &[u8], s: [u8; LARGEST]) {
     let back = gage_permute::unpermute(s, n, k).state;
     hex(back, n);
     say(b"\n");
+    if k == 1 {
+        first_round(n, kind, s, there);
+    }
 }
 
 fn permuted(n: usize) {

@@ -99,25 +99,25 @@ fn shown(bytes: &[u8]) {
 
 fn of_seal(answer: Sealed) -> Outcome {
     Outcome {
-        number: answer_numbers::seal_number(answer),
+        number: ingage_answers::seal_number(answer),
         length: 0,
-        count: answer_numbers::seal_count(answer),
+        count: ingage_answers::seal_count(answer),
     }
 }
 
 fn of_open(answer: Opened) -> Outcome {
     Outcome {
-        number: answer_numbers::open_number(answer),
+        number: ingage_answers::open_number(answer),
         length: 0,
-        count: answer_numbers::open_count(answer),
+        count: ingage_answers::open_count(answer),
     }
 }
 
 fn of_write(answer: Written) -> Outcome {
     Outcome {
-        number: answer_numbers::write_number(answer),
-        length: answer_numbers::write_length(answer),
-        count: answer_numbers::write_count(answer),
+        number: frame_write::write_number(answer),
+        length: frame_write::write_length(answer),
+        count: frame_write::write_count(answer),
     }
 }
 

@@ -5,9 +5,11 @@
 use libc::STDIN_FILENO;
 use libc::STDOUT_FILENO;
 use line_layout::layout_of;
-use read_call::Answer;
 use read_call::Asked;
 use read_call::LONGEST_STREAM;
+use read_numbers::END;
+use read_numbers::Report;
+use read_numbers::numbers;
 use read_walk::Step;
 ghost use mathlib.Core.Path.{_≡_};
 ghost use Prim.Native.Nat.{_<_};
@@ -75,11 +77,12 @@ fn shown(line: &[u8], length: usize) {
 }
 
 // The number of an answer; the end of the stream has a word of its own.
-fn number(answer: Answer) {
-    match answer {
-        Answer::End => say(b"end "),
-        _ => cell(read_numbers::read_number(answer) as usize),
+fn number(its: Report) {
+    if its.outcome == END {
+        say(b"end ");
+        return;
     }
+    cell(its.number as usize);
 }
 
 // The next stretch itself: where its first byte stands, and its length.
@@ -101,18 +104,19 @@ fn row(
     let step = read_walk::walked(stream, from, key, font, asked, line);
     let reading = step.reading;
     let answer = reading.answer;
+    let its = numbers(answer);
     say(name);
     say(b" ");
     cell(from);
     part(stream, from);
     cell(reading.first);
     cell(reading.closing);
-    number(answer);
-    cell(read_numbers::read_length(answer));
-    cell(read_counts::read_count(answer));
+    number(its);
+    cell(its.length);
+    cell(its.calls);
     cell(reading.edition);
     cell(reading.job);
-    shown(line, read_numbers::read_length(answer));
+    shown(line, its.length);
     step
 }
 

@@ -3,7 +3,6 @@ use mathlib.Core.Path.{sym, _∙_}
 use native.Mathlib.Omega.{arith}
 use borrow.Author.Tests.{not-true, not-false}
 use borrow.Author.Needs.{needs}
-use Rattle.frame_body.specs.Lengths.{job-field-most}
 use Rattle.read_bar.proofs.Asking.{other-edition, other-font, too-much, enough}
 use Rattle.read_bar.proofs.judge_asked.Statement.{statement}
 use Rattle.read_bar.proofs.judge_asked.Tie as tie
@@ -26,29 +25,26 @@ returns-2 c =
     let a = s .args in
     other-font (a .editions) (a .calls) (a .edition) (a .n) (a .digest .now) (a .font .now) (sym (c .before .before .before .allows .ensures) ∙ not-false _ (c .before .before .if1 .left)) (sym (c .before .compare .ensures) ∙ not-true _ (c .if2 .taken))
 
-job-field-length-requires : tie.Need-job-field-length-requires
-job-field-length-requires c κs = search needs
-
-add-beside : tie.Need-add-beside
-add-beside c = omega (arith, c .job-field-length .ensures, job-field-most (c .before .before .before .before .before .before .before .args .edition))
+beside-line-requires : tie.Need-beside-line-requires
+beside-line-requires c κs = search needs
 
 returns-3 : tie.Need-returns-3
 returns-3 c =
     let s = c .before .before .before .before .before .before .before .before in
     let a = s .args in
-    too-much (a .editions) (a .calls) (a .edition) (a .n) (a .digest .now) (a .font .now) (sym (c .before .before .before .before .before .allows .ensures) ∙ not-false _ (c .before .before .before .before .if1 .left)) (sym (c .before .before .before .compare .ensures) ∙ not-false _ (c .before .before .if2 .left)) (omega (arith, c .if3 .taken, c .before .job-field-length .ensures))
+    too-much (a .editions) (a .calls) (a .edition) (a .n) (a .digest .now) (a .font .now) (sym (c .before .before .before .before .before .allows .ensures) ∙ not-false _ (c .before .before .before .before .if1 .left)) (sym (c .before .before .before .compare .ensures) ∙ not-false _ (c .before .before .if2 .left)) (omega (arith, c .if3 .taken, c .before .beside-line .ensures))
 
 returns-4 : tie.Need-returns-4
 returns-4 c =
     let s = c .before .before .before .before .before .before .before .before .before in
     let a = s .args in
-    too-much (a .editions) (a .calls) (a .edition) (a .n) (a .digest .now) (a .font .now) (sym (c .before .before .before .before .before .before .allows .ensures) ∙ not-false _ (c .before .before .before .before .before .if1 .left)) (sym (c .before .before .before .before .compare .ensures) ∙ not-false _ (c .before .before .before .if2 .left)) (omega (arith, c .if4 .taken, c .before .if3 .left, c .before .before .job-field-length .ensures))
+    too-much (a .editions) (a .calls) (a .edition) (a .n) (a .digest .now) (a .font .now) (sym (c .before .before .before .before .before .before .allows .ensures) ∙ not-false _ (c .before .before .before .before .before .if1 .left)) (sym (c .before .before .before .before .compare .ensures) ∙ not-false _ (c .before .before .before .if2 .left)) (omega (arith, c .if4 .taken, c .before .if3 .left, c .before .before .beside-line .ensures))
 
 returns-5 : tie.Need-returns-5
 returns-5 c =
     let s = c .before .before .before .before .before .before .before .before .before in
     let a = s .args in
-    enough (a .editions) (a .calls) (a .edition) (a .n) (a .digest .now) (a .font .now) (sym (c .before .before .before .before .before .before .allows .ensures) ∙ not-false _ (c .before .before .before .before .before .if1 .left)) (sym (c .before .before .before .before .compare .ensures) ∙ not-false _ (c .before .before .before .if2 .left)) (omega (arith, c .if4 .left, c .before .if3 .left, c .before .before .job-field-length .ensures))
+    enough (a .editions) (a .calls) (a .edition) (a .n) (a .digest .now) (a .font .now) (sym (c .before .before .before .before .before .before .allows .ensures) ∙ not-false _ (c .before .before .before .before .before .if1 .left)) (sym (c .before .before .before .before .compare .ensures) ∙ not-false _ (c .before .before .before .if2 .left)) (omega (arith, c .if4 .left, c .before .if3 .left, c .before .before .beside-line .ensures))
 
 pub judge-asked-spec : {M : Type 1} → statement M
 judge-asked-spec =
@@ -58,8 +54,7 @@ judge-asked-spec =
     returns
     compare-requires
     returns-2
-    job-field-length-requires
-    add-beside
+    beside-line-requires
     returns-3
     returns-4
     returns-5)

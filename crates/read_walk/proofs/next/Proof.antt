@@ -65,9 +65,9 @@ use Rattle.read_walk.proofs.Walker as T
 use Rattle.read_walk.proofs.Walker.Laws as T′
 use Rattle.read_walk.proofs.one_step as callee
 use Rattle.read_walk.proofs.one_step.Symbol as callee-def
-use Rattle.read_walk.proofs.one_step.Symbol.{name as #walker·one-step}
+use Rattle.read_walk.proofs.one_step.Symbol.{name as #read-walk·one-step}
 use Rattle.read_walk.proofs.one_step.Met as callee-thm
-use Rattle.read_walk.proofs.next.Key.{name as #walker·next}
+use Rattle.read_walk.proofs.next.Key.{name as #read-walk·next}
 use Rattle.read_walk.proofs.next as next
 use Rattle.read_walk.proofs.next.Statement as stated
 use Rattle.read_walk.proofs.next.Code as code
@@ -222,7 +222,7 @@ module _ {M : Type 1} (𝓤 : URA M) (H : Heap 𝓤) (A : Atoms 𝓤) (W : Given
   typed : (r : Step) (u : Val) → Is P.the-row r (u ∷ []) → Holds (hasTy P′.mir u) × WT u
   typed r u is = LL.lawful P.the-type P′.the-laws 𝓤 H A W .typed r _ is .0
 
-  module _ (C : Calls 𝓤 H) (Λ : Loops 𝓤 H) (fm : FmC 𝓤 H (W .laws) C) (known : Triple 𝓤 (C #walker·one-step) (Steps 𝓤 H A at-mem run)) where
+  module _ (C : Calls 𝓤 H) (Λ : Loops 𝓤 H) (fm : FmC 𝓤 H (W .laws) C) (known : Triple 𝓤 (C #read-walk·one-step) (Steps 𝓤 H A at-mem run)) where
     walk : Room u8 (length (key .now)) → Room u8 (length (font .now)) → Is Q.the-row asked (qv ∷ []) → Room u8 (length ys)
         → ent 𝓤 (onEntry 𝓤 H A next.signature κs (q₀, (q₁, (q₂, (q₃, (q₄, tt))))) a vals) (WpFn 𝓤 H C Λ code.function (vptr b o ∷ kv ∷ fv ∷ qv ∷ lv ∷ []) Post)
     walk kroom froom asking room =
@@ -264,7 +264,7 @@ module _ {M : Type 1} (𝓤 : URA M) (H : Heap 𝓤) (A : Atoms 𝓤) (W : Given
         keep ! (0 ∷ 1 ∷ 2 ∷ 4 ∷ 5 ∷ 3 ∷ []) $ by ! (exits r (zs .1 .1 .1 .1 .1 .0) e f l)))))))))))))))))))))
 
 module _ {M : Type 1} (𝓤 : URA M) (H : Heap 𝓤) (A : Atoms 𝓤) (W : Given 𝓤 H A) (mem : Memory → SProp 𝓤) (run : Routine → Fun 𝓤) where
-  next-walks : (C : Calls 𝓤 H) (Λ : Loops 𝓤 H) → FmC 𝓤 H (W .laws) C → Triple 𝓤 (C #walker·one-step) (Steps 𝓤 H A mem run)
+  next-walks : (C : Calls 𝓤 H) (Λ : Loops 𝓤 H) → FmC 𝓤 H (W .laws) C → Triple 𝓤 (C #read-walk·one-step) (Steps 𝓤 H A mem run)
       → Walks 𝓤 H A next.ended stayed (WpFn 𝓤 H C Λ code.function) (next.clauses 𝓤 H A mem run)
   next-walks C Λ fm known = walked 𝓤 H A next.ended stayed (next.clauses 𝓤 H A mem run) (WpFn 𝓤 H C Λ code.function)
       (λ κs. (ptr-vals, (slice-vals, (slice-vals, (LL.vals Q.the-type Q′.the-laws, (slice-vals, tt))))))
@@ -273,7 +273,7 @@ module _ {M : Type 1} (𝓤 : URA M) (H : Heap 𝓤) (A : Atoms 𝓤) (W : Given
       (are .1 .0 .0 .1) (are .1 .1 .0 .0 .1) (are .1 .1 .1 .0) (are .1 .1 .1 .1 .0 .0 .1)))
 
 next-meets : {M : Type 1} (𝓤 : URA M) (H : Heap 𝓤) (A : Atoms 𝓤) (W : Given 𝓤 H A) (mem : Memory → SProp 𝓤) (run : Routine → Fun 𝓤) (𝓣 : Tables 𝓤 H)
-    → Triple 𝓤 (𝓣 .C #walker·one-step) (Steps 𝓤 H A mem run)
+    → Triple 𝓤 (𝓣 .C #read-walk·one-step) (Steps 𝓤 H A mem run)
     → Meets 𝓤 H A next.signature (WpFn 𝓤 H (𝓣 .C) (𝓣 .Λ) code.function) (next.spec 𝓤 H A mem run)
 next-meets 𝓤 H A W mem run 𝓣 known =
     walk-meets 𝓤 H A next.ended stayed W (goes-ref 𝓤 H A W 5 0 tt behind, (goes-dropped 𝓤 H A W 5 (shrSliceOf (2 ∷ []) tt (plain (λ _. u8))) yes (λ κs x f. refl), (goes-dropped 𝓤 H A W 5 (shrSliceOf (3 ∷ []) tt (plain (λ _. u8))) yes (λ κs x f. refl), (goes-dropped 𝓤 H A W 5 (plain (λ _. Q.the-row)) yes (λ κs x f. refl), (goes-gave-slice 𝓤 H A W 5 4 tt (plain (λ _. u8)), tt)))))
@@ -284,6 +284,6 @@ pub next-spec : {M : Type 1} → stated.statement M
 unfolding code.routine tablesOf
 next-spec 𝓤 H 𝓜 𝓖 𝓡 =
     entered 𝓤 H (tripleOf 𝓤 H (𝓖 .A) next.signature (next.spec 𝓤 H (𝓖 .A) (𝓜 .mem) (𝓡 .run)))
-    (tables 𝓤 H 𝓜 𝓡 code.env .C) (tables 𝓤 H 𝓜 𝓡 code.env .Λ) #walker·next code.function (code.unfolded 𝓤 H 𝓜 𝓡)
+    (tables 𝓤 H 𝓜 𝓡 code.env .C) (tables 𝓤 H 𝓜 𝓡 code.env .Λ) #read-walk·next code.function (code.unfolded 𝓤 H 𝓜 𝓡)
     (next-meets 𝓤 H (𝓖 .A) (givenOf 𝓤 H 𝓜 𝓖) (𝓜 .mem) (𝓡 .run) (tablesOf 𝓤 H 𝓜 (tables 𝓤 H 𝓜 𝓡 code.env))
-    (cited 𝓤 H (Steps 𝓤 H (𝓖 .A) (𝓜 .mem) (𝓡 .run)) 𝓜 𝓡 code.env #walker·one-step callee-def.routine code.calls-walker·one-step (callee-thm.met 𝓤 H 𝓜 𝓖 𝓡)))
+    (cited 𝓤 H (Steps 𝓤 H (𝓖 .A) (𝓜 .mem) (𝓡 .run)) 𝓜 𝓡 code.env #read-walk·one-step callee-def.routine code.calls-read-walk·one-step (callee-thm.met 𝓤 H 𝓜 𝓖 𝓡)))

@@ -35,7 +35,7 @@ use denote.Exit.{yes}
 use Rattle.read_walk.specs.declared.Walker.{Walker}
 use Rattle.read_walk.proofs.Walker as T
 use Rattle.read_walk.proofs.Walker.Laws as T′
-use Rattle.read_walk.proofs.place.Key.{name as #walker·place}
+use Rattle.read_walk.proofs.place.Key.{name as #read-walk·place}
 use Rattle.read_walk.proofs.place as place
 use Rattle.read_walk.proofs.place.Statement as stated
 use Rattle.read_walk.proofs.place.Code as code
@@ -82,5 +82,5 @@ pub place-spec : {M : Type 1} → stated.statement M
 unfolding code.routine tablesOf
 place-spec 𝓤 H 𝓜 𝓖 𝓡 =
     entered 𝓤 H (tripleOf 𝓤 H (𝓖 .A) place.signature (place.spec 𝓤 H (𝓖 .A) (𝓜 .mem) (𝓡 .run)))
-    (tables 𝓤 H 𝓜 𝓡 code.env .C) (tables 𝓤 H 𝓜 𝓡 code.env .Λ) #walker·place code.function (code.unfolded 𝓤 H 𝓜 𝓡)
+    (tables 𝓤 H 𝓜 𝓡 code.env .C) (tables 𝓤 H 𝓜 𝓡 code.env .Λ) #read-walk·place code.function (code.unfolded 𝓤 H 𝓜 𝓡)
     (place-meets 𝓤 H (𝓖 .A) (givenOf 𝓤 H 𝓜 𝓖) (𝓜 .mem) (𝓡 .run) (tablesOf 𝓤 H 𝓜 (tables 𝓤 H 𝓜 𝓡 code.env)))

@@ -65,9 +65,9 @@ use Rattle.read_walk.proofs.Walker as T
 use Rattle.read_walk.proofs.Walker.Laws as T′
 use Rattle.read_walk.proofs.next as next
 use Rattle.read_walk.proofs.next.Symbol as next-def
-use Rattle.read_walk.proofs.next.Symbol.{name as #walker·next}
+use Rattle.read_walk.proofs.next.Symbol.{name as #read-walk·next}
 use Rattle.read_walk.proofs.next.Met as next-thm
-use Rattle.read_walk.proofs.walked.Key.{name as #walker·walked}
+use Rattle.read_walk.proofs.walked.Key.{name as #read-walk·walked}
 use Rattle.read_walk.proofs.walked as walked
 use Rattle.read_walk.proofs.walked.Statement as stated
 use Rattle.read_walk.proofs.walked.Code as code
@@ -209,7 +209,7 @@ module _ {M : Type 1} (𝓤 : URA M) (H : Heap 𝓤) (A : Atoms 𝓤) (W : Given
       says ! (λ i. record { reading = e .0 i; at = (e .3 ∙ ap (λ (x : Reading). x .closing) (e .0)) i }, e .1) $ frame ! $
       nothing ! $ move ! (1 ∷ 0 ∷ []) $ fjoin ! $ nothing ! $ fjoin ! $ nothing ! $ fjoin ! $ nothing ! $ fjoin ! $ owned ! usize (Is usize) (uint-makes 𝓤 H A W w64) n _ (refl, n-fits) $ fjoin ! $ nothing ! $ fjoin ! $ done !
 
-  module _ (C : Calls 𝓤 H) (Λ : Loops 𝓤 H) (fm : FmC 𝓤 H (W .laws) C) (known : Triple 𝓤 (C #walker·next) (Next 𝓤 H A at-mem run)) where
+  module _ (C : Calls 𝓤 H) (Λ : Loops 𝓤 H) (fm : FmC 𝓤 H (W .laws) C) (known : Triple 𝓤 (C #read-walk·next) (Next 𝓤 H A at-mem run)) where
     walk : Room u8 (length (stream .now)) → Room u8 (length (key .now)) → Room u8 (length (font .now)) → Is Q.the-row asked (qv ∷ []) → Room u8 (length ys)
         → ent 𝓤 (onEntry 𝓤 H A walked.signature κs (q₀, (q₁, (q₂, (q₃, tt)))) a vals) (WpFn 𝓤 H C Λ code.function (sv ∷ vint w64 n ∷ kv ∷ fv ∷ qv ∷ lv ∷ []) Post)
     walk sroom kroom froom asking room =
@@ -263,7 +263,7 @@ module _ {M : Type 1} (𝓤 : URA M) (H : Heap 𝓤) (A : Atoms 𝓤) (W : Given
         keep ! (0 ∷ 2 ∷ 1 ∷ []) $ by ! (exits r (zs .0) (zs .1 .1 .1 .1 .0) e l))))))))))))))))))))))))
 
 module _ {M : Type 1} (𝓤 : URA M) (H : Heap 𝓤) (A : Atoms 𝓤) (W : Given 𝓤 H A) (mem : Memory → SProp 𝓤) (run : Routine → Fun 𝓤) where
-  walked-walks : (C : Calls 𝓤 H) (Λ : Loops 𝓤 H) → FmC 𝓤 H (W .laws) C → Triple 𝓤 (C #walker·next) (Next 𝓤 H A mem run)
+  walked-walks : (C : Calls 𝓤 H) (Λ : Loops 𝓤 H) → FmC 𝓤 H (W .laws) C → Triple 𝓤 (C #read-walk·next) (Next 𝓤 H A mem run)
       → Walks 𝓤 H A walked.ended stayed (WpFn 𝓤 H C Λ code.function) (walked.clauses 𝓤 H A mem run)
   walked-walks C Λ fm known = walked-by 𝓤 H A walked.ended stayed (walked.clauses 𝓤 H A mem run) (WpFn 𝓤 H C Λ code.function)
       (λ κs. (slice-vals, (uint-vals w64, (slice-vals, (slice-vals, (LL.vals Q.the-type Q′.the-laws, (slice-vals, tt)))))))
@@ -272,7 +272,7 @@ module _ {M : Type 1} (𝓤 : URA M) (H : Heap 𝓤) (A : Atoms 𝓤) (W : Given
       (are .0 .0 .1) (are .1 .1 .0 .0 .1) (are .1 .1 .1 .0 .0 .1) (are .1 .1 .1 .1 .0) (are .1 .1 .1 .1 .1 .0 .0 .1)))
 
 walked-meets : {M : Type 1} (𝓤 : URA M) (H : Heap 𝓤) (A : Atoms 𝓤) (W : Given 𝓤 H A) (mem : Memory → SProp 𝓤) (run : Routine → Fun 𝓤) (𝓣 : Tables 𝓤 H)
-    → Triple 𝓤 (𝓣 .C #walker·next) (Next 𝓤 H A mem run)
+    → Triple 𝓤 (𝓣 .C #read-walk·next) (Next 𝓤 H A mem run)
     → Meets 𝓤 H A walked.signature (WpFn 𝓤 H (𝓣 .C) (𝓣 .Λ) code.function) (walked.spec 𝓤 H A mem run)
 walked-meets 𝓤 H A W mem run 𝓣 known =
     walk-meets 𝓤 H A walked.ended stayed W (goes-dropped 𝓤 H A W 4 (shrSliceOf (0 ∷ []) tt (plain (λ _. u8))) yes (λ κs x f. refl), (goes-none 𝓤 H A W 4 (λ _. usize) yes (λ κs x f. refl), (goes-dropped 𝓤 H A W 4 (shrSliceOf (1 ∷ []) tt (plain (λ _. u8))) yes (λ κs x f. refl), (goes-dropped 𝓤 H A W 4 (shrSliceOf (2 ∷ []) tt (plain (λ _. u8))) yes (λ κs x f. refl), (goes-dropped 𝓤 H A W 4 (plain (λ _. Q.the-row)) yes (λ κs x f. refl), (goes-gave-slice 𝓤 H A W 4 3 tt (plain (λ _. u8)), tt))))))
@@ -283,6 +283,6 @@ pub walked-spec : {M : Type 1} → stated.statement M
 unfolding code.routine tablesOf
 walked-spec 𝓤 H 𝓜 𝓖 𝓡 =
     entered 𝓤 H (tripleOf 𝓤 H (𝓖 .A) walked.signature (walked.spec 𝓤 H (𝓖 .A) (𝓜 .mem) (𝓡 .run)))
-    (tables 𝓤 H 𝓜 𝓡 code.env .C) (tables 𝓤 H 𝓜 𝓡 code.env .Λ) #walker·walked code.function (code.unfolded 𝓤 H 𝓜 𝓡)
+    (tables 𝓤 H 𝓜 𝓡 code.env .C) (tables 𝓤 H 𝓜 𝓡 code.env .Λ) #read-walk·walked code.function (code.unfolded 𝓤 H 𝓜 𝓡)
     (walked-meets 𝓤 H (𝓖 .A) (givenOf 𝓤 H 𝓜 𝓖) (𝓜 .mem) (𝓡 .run) (tablesOf 𝓤 H 𝓜 (tables 𝓤 H 𝓜 𝓡 code.env))
-    (cited 𝓤 H (Next 𝓤 H (𝓖 .A) (𝓜 .mem) (𝓡 .run)) 𝓜 𝓡 code.env #walker·next next-def.routine code.calls-walker·next (next-thm.met 𝓤 H 𝓜 𝓖 𝓡)))
+    (cited 𝓤 H (Next 𝓤 H (𝓖 .A) (𝓜 .mem) (𝓡 .run)) 𝓜 𝓡 code.env #read-walk·next next-def.routine code.calls-read-walk·next (next-thm.met 𝓤 H 𝓜 𝓖 𝓡)))

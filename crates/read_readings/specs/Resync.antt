@@ -8,8 +8,8 @@ use lib.ListN.{length, getD, drop}
 use Rattle.frame_stuff_spec.specs.Stuffing.{mark}
 use Rattle.read_stretch.specs.Stretches.{span}
 use Rattle.read_stretch.specs.Shift.{Alike}
 use Rattle.read_spec.specs.Judged.{Judged}
-use Rattle.read_spec.specs.Readings.{Reading, reading, movedReading, readings, readings-moved}
+use Rattle.read_readings.specs.Readings.{Reading, reading, movedReading, readings, readings-moved}
 
 -- a reading with its places counted from place i
 abbrev pub fromPlace : ℕ → Reading → Reading

@@ -9,10 +9,10 @@ use Rattle.read_stretch.specs.declared.Span.{Span}
 use Rattle.read_stretch.specs.Stretches.{span, nextSpan}
 use Rattle.read_stretch.specs.Meaning.{Stretch}
 use Rattle.read_stretch.specs.Places.{Found, Next, nothing, something, next-cases, next-none, stretch-closing}
-use Rattle.read_spec.specs.Resync.{Mark}
+use Rattle.read_readings.specs.Resync.{Mark}
 
 -- what is found from a place is one stretch
-found-one : (s : List ℕ) (from : ℕ) (p q : Span) → Found s from p → Found s from q → p ≡ q
+pub found-one : (s : List ℕ) (from : ℕ) (p q : Span) → Found s from p → Found s from q → p ≡ q
 found-one s from p q f g =
     let e : p .first ≡ q .first =
     omega (arith, f .least (q .first) (q .closing) (g .later) (g .stretch), g .least (p .first) (p .closing) (f .later) (f .stretch)) in

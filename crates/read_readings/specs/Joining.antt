@@ -3,7 +3,7 @@
 use mathlib.Core.Path.{_≡_, sym, ap, _∙_}
 use mathlib.Core.Bool.{false, cond}
 use mathlib.Core.List.{List, [], _∷_, _++_, map}
-use Prim.Native.Nat.{ℕ, zero, suc, _+_, _-_, _≤_}
+use Prim.Native.Nat.{ℕ, zero, suc, _+_, _-_, _≤_, _<_}
 use native.Mathlib.Omega.{arith}
 use lib.Dec.{eqb}
 use lib.ListN.{drop}
@@ -12,10 +12,10 @@ use Rattle.read_stretch.specs.declared.Span.{Span}
 use Rattle.read_stretch.specs.Stretches.{span, bytesAt, nextSpan, nextStretch}
 use Rattle.read_stretch.specs.Meaning.{Stretch}
 use Rattle.read_stretch.specs.Places.{Found, stretch-next}
 use Rattle.read_spec.specs.Judged.{Judged}
-use Rattle.read_spec.specs.Readings.{Reading, reading, ends, readings, readings-step}
-use Rattle.read_spec.specs.Resync.{fromPlace, Mark, resync}
-use Rattle.read_spec.specs.Reaching.{UpTo, closes, behind, up-to}
+use Rattle.read_readings.specs.Readings.{Reading, reading, ends, readings, readings-step}
+use Rattle.read_readings.specs.Resync.{fromPlace, Mark, resync}
+use Rattle.read_readings.specs.Reaching.{UpTo, closes, behind, up-to}
 
 -- every reading of a list closes at place i or before it
 abbrev pub ClosedBy : ℕ → List Reading → Type 0
@@ -28,14 +28,14 @@ Joins judge s from i = (before : List Reading) × (readings judge s from ≡ bef
 
 module _ (judge : List ℕ → Judged) (s : List ℕ) where
   -- where a stretch is found: its reading, and those from its closing mark
-  found-step : (from : ℕ) → Found s from (nextSpan s from)
+  pub found-step : (from : ℕ) → Found s from (nextSpan s from)
       → readings judge s from ≡ reading (nextSpan s from) (judge (nextStretch s from)) ∷ readings judge s (nextSpan s from .closing)
   found-step from f =
       readings-step judge s from
       ∙ rw (ne-eqb (nextSpan s from .first) (nextSpan s from .closing) (λ e. omega (arith, e, f .stretch .some)))
 
   -- the same next stretch, the same readings
-  same-next : (from i : ℕ) → nextSpan s from ≡ nextSpan s i → readings judge s from ≡ readings judge s i
+  pub same-next : (from i : ℕ) → nextSpan s from ≡ nextSpan s i → readings judge s from ≡ readings judge s i
   unfolding nextStretch
   same-next from i e =
       readings-step judge s from
@@ -62,17 +62,25 @@ module _ (judge : List ℕ → Judged) (s : List ℕ) where
   pub readings-join : (from i : ℕ) → from ≤ i → Mark s i → Joins judge s from i
   readings-join from i h m = join-in i from i (omega arith) h m
 
-  -- and no stretch is passed over: each is among the readings from the start, behind those that close where it opens or before
+  -- and no stretch is passed over: each that starts behind a place is among the readings from that place, behind those that close where it
+  -- opens or before
+  pub stretch-from : (from p q : ℕ) → from < p → Stretch s p q
+      → (before : List Reading)
+      × (readings judge s from ≡ before ++ (reading (span p q) (judge (bytesAt s (span p q))) ∷ readings judge s q))
+      × ClosedBy (p - 1) before
+  unfolding nextStretch
+  stretch-from from p q h x =
+      let m : Mark s (p - 1) = record { inside = omega (arith, x .some, x .ends); stands = x .opens } in
+      let (before, e, c) = readings-join from (p - 1) (omega arith) m in
+      let d : eqb p q ≡ false = ne-eqb p q (λ z. omega (arith, z, x .some)) in
+      (before, e ∙ ap (λ (l : List Reading). before ++ l) (readings-step judge s (p - 1) ∙ rw (stretch-next s p q x, d)), c)
+
+  -- so each is among the readings from the start
   pub every-stretch : (p q : ℕ) → Stretch s p q
       → (before : List Reading)
       × (readings judge s 0 ≡ before ++ (reading (span p q) (judge (bytesAt s (span p q))) ∷ readings judge s q))
       × ClosedBy (p - 1) before
-  unfolding nextStretch
-  every-stretch p q x =
-      let m : Mark s (p - 1) = record { inside = omega (arith, x .some, x .ends); stands = x .opens } in
-      let (before, e, c) = readings-join 0 (p - 1) (omega arith) m in
-      let d : eqb p q ≡ false = ne-eqb p q (λ z. omega (arith, z, x .some)) in
-      (before, e ∙ ap (λ (l : List Reading). before ++ l) (readings-step judge s (p - 1) ∙ rw (stretch-next s p q x, d)), c)
+  every-stretch p q x = stretch-from 0 p q (x .behind) x
 
 -- two streams that are equal from a mark on: read from their starts, both come to the mark, and behind it the readings are the same
 pub resync-whole : (judge : List ℕ → Judged) (x y : List ℕ) (i j : ℕ) → Mark x i → Mark y j → drop i x ≡ drop j y
