@@ -1,0 +1,5 @@
+pub mod Entries
+pub mod Updating
+pub mod Recorded
+pub mod Last
+pub mod Cases
