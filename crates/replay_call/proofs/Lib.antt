@@ -1,0 +1,5 @@
+pub mod Keeping
+pub mod Running
+pub mod Standing
+pub mod Answering
+pub mod Single

@@ -1,0 +1,4 @@
+pub mod Order
+pub mod Streams
+pub mod Given
+pub mod Requests
