@@ -1,12 +1,14 @@
 // The sponge of the ten GAGE digests (document 000, section 1.1.4; document 01, 'The digest') over state size and rate, with the instances as
-// rows of a table: a message taken up whole or in parts, and the digest given out. The promises cite specs/Parts.antt and the definitions of
-// the crate digest_spec.
+// rows of a table: a message taken up whole or in parts, and the digest given out. A state stays in planes from block to block; its bytes are woven in and told
+// only where a call begins or ends. The promises cite specs/Parts.antt and the definitions of the crate digest_spec.
+use gage_planes_spec::State;
 use gage_spec::LARGEST;
 ghost use mathlib.Core.Path.{_≡_};
 ghost use mathlib.Core.Bool.{true, false};
-ghost use Prim.Native.Nat.{_*_, _/_};
+ghost use Prim.Native.Nat.{_*_, _/_, _≤_};
 ghost use lib.ListN.{length, take};
-ghost use Rattle.gage_spec.specs.Permutation.{ROUNDS, permitted, permute};
+ghost use Rattle.gage_spec.specs.Permutation.{LARGEST, ROUNDS, permitted, permute};
+ghost use Rattle.gage_planes_spec.specs.Told.{told};
 ghost use Rattle.gage_sponge.specs.Padding.{blockCount, lastBlock};
 ghost use Rattle.gage_sponge.specs.Absorbing.{from, xored};
 ghost use Rattle.digest_spec.specs.Instances.{DIGEST, unknown, sizeOf, rateOf, outputsOf};
@@ -70,19 +72,27 @@ fn shape_of(instance: usize) -> Shape
     }
 }
 
-// The permutation of the first n bytes of a state, n being permitted.
-fn turned(s: [u8; LARGEST], n: usize) -> [u8; LARGEST]
+// The permutation of a state of n bytes, n being permitted.
+fn turned(s: State, n: usize) -> State
     requires { ⌜ permitted n ≡ true ⌝ }
-    ensures { λ r. ⌜ take n r ≡ permute ROUNDS (take n s) ⌝ }
+    ensures { λ r. ⌜ told n r ≡ permute ROUNDS (told n s) ⌝ }
 {
-    let p = gage_permute::permute(s, n, gage_spec::ROUNDS);
-    p.state
+    gage_planes::permuted(s, n, gage_spec::ROUNDS)
+}
+
+// A state's first bytes woven, as many as its size.
+fn woven(s: [u8; LARGEST], size: usize) -> State
+    requires { ⌜ size ≤ LARGEST ⌝ }
+    ensures { λ r. ⌜ told size r ≡ take size s ⌝ }
+{
+    let bytes = s;
+    gage_weave::weave(&bytes[0..size])
 }
 
 // A state after a message's whole blocks, taken straight from the message.
-fn absorb_whole(s: [u8; LARGEST], message: &[u8], size: usize, rate: usize) -> [u8; LARGEST]
+fn absorb_whole(s: State, message: &[u8], size: usize, rate: usize) -> State
     requires { ⌜ Fits size rate ⌝ }
-    ensures { λ r. ⌜ take size r ≡ taken rate (now (message .entry)) (from (take size s)) (length (now (message .entry)) / rate) .state ⌝ }
+    ensures { λ r. ⌜ told size r ≡ taken rate (now (message .entry)) (from (told size s)) (length (now (message .entry)) / rate) .state ⌝ }
 {
     let mut state = s;
     let blocks = message.len() / rate;
@@ -90,7 +100,7 @@ fn absorb_whole(s: [u8; LARGEST], message: &[u8], size: usize, rate: usize) -> [
     let mut i = 0;
     while i < blocks {
         let end = at + rate;
-        state = turned(gage_sponge::mix(state, &message[at..end]), size);
+        state = turned(gage_weave::mix(state, &message[at..end]), size);
         at = end;
         i += 1;
     }
@@ -98,28 +108,28 @@ fn absorb_whole(s: [u8; LARGEST], message: &[u8], size: usize, rate: usize) -> [
 }
 
 // A state after what is left of the message, padded.
-fn absorb_last(s: [u8; LARGEST], rest: &[u8], size: usize, rate: usize) -> [u8; LARGEST]
+fn absorb_last(s: State, rest: &[u8], size: usize, rate: usize) -> State
     requires { ⌜ Fits size rate ⌝ }
-    ensures { λ r. ⌜ take size r ≡ permute ROUNDS (xored (take rate (lastBlock (now (rest .entry)))) (take size s)) ⌝ }
+    ensures { λ r. ⌜ told size r ≡ permute ROUNDS (xored (take rate (lastBlock (now (rest .entry)))) (told size s)) ⌝ }
 {
     let last = gage_sponge::last_block(rest);
-    turned(gage_sponge::mix(s, &last[0..rate]), size)
+    turned(gage_weave::mix(s, &last[0..rate]), size)
 }
 
 // The state after the message's whole blocks and its padded last block.
-fn absorb(message: &[u8], size: usize, rate: usize) -> [u8; LARGEST]
+fn absorb(message: &[u8], size: usize, rate: usize) -> State
     requires { ⌜ Fits size rate ⌝ }
-    ensures { λ r. ⌜ take size r ≡ absorbed size rate (now (message .entry)) (blockCount rate (now (message .entry))) .state ⌝ }
+    ensures { λ r. ⌜ told size r ≡ absorbed size rate (now (message .entry)) (blockCount rate (now (message .entry))) .state ⌝ }
 {
-    let s = absorb_whole([0u8; LARGEST], message, size, rate);
+    let s = absorb_whole(woven([0u8; LARGEST], size), message, size, rate);
     let at = message.len() / rate * rate;
     absorb_last(s, &message[at..], size, rate)
 }
 
 // The digest given out of a state: before each output the permutation.
-fn squeeze(s: [u8; LARGEST], size: usize, rate: usize, outputs: usize) -> [u8; DIGEST]
+fn squeeze(s: State, size: usize, rate: usize, outputs: usize) -> [u8; DIGEST]
     requires { ⌜ Fits size rate × (outputs * rate ≡ DIGEST) ⌝ }
-    ensures { λ r. ⌜ r ≡ squeezed rate (from (take size s)) outputs .hash ⌝ }
+    ensures { λ r. ⌜ r ≡ squeezed rate (from (told size s)) outputs .hash ⌝ }
 {
     let mut hash = [0u8; DIGEST];
     let mut t = s;
@@ -127,9 +137,10 @@ fn squeeze(s: [u8; LARGEST], size: usize, rate: usize, outputs: usize) -> [u8; D
     let mut k = 0;
     while k < outputs {
         let next = turned(t, size);
-        base_lists::copy(&next[0..rate], &mut hash[at..]);
+        let end = at + rate;
+        gage_weave::tell(next, &mut hash[at..end]);
         t = next;
-        at += rate;
+        at = end;
         k += 1;
     }
     hash
@@ -158,9 +169,9 @@ pub fn take_in(instance: usize, s: [u8; LARGEST], part: &[u8]) -> [u8; LARGEST]
     }
     let shape = shape_of(instance);
     let size = shape.size;
-    let state = absorb_whole(s, part, size, shape.rate);
+    let state = absorb_whole(woven(s, size), part, size, shape.rate);
     let mut out = [0u8; LARGEST];
-    base_lists::copy(&state[0..size], &mut out);
+    gage_weave::tell(state, &mut out[0..size]);
     out
 }
 
@@ -173,7 +184,7 @@ pub fn close(instance: usize, s: [u8; LARGEST], rest: &[u8]) -> [u8; DIGEST]
     }
     let shape = shape_of(instance);
     let rate = shape.rate;
-    let state = absorb_last(s, rest, shape.size, rate);
+    let state = absorb_last(woven(s, shape.size), rest, shape.size, rate);
     squeeze(state, shape.size, rate, shape.outputs)
 }
 

@@ -2,16 +2,15 @@
 -- `permute` took, and the other way round, whatever the two proved calls give. Stated over their contracts as the check reads them (`Post`). That a state has 72 bytes is no
 -- premise on top: owning an array of them says so (`GoodsP`, which the check tells a function of its arguments). Assumes nothing.
 use mathlib.Core.Path.{_≡_, ap, _∙_}
-use mathlib.Core.List.{List, [], _∷_}
+use mathlib.Core.List.{List}
 use Prim.Native.Nat.{ℕ, _≤_}
 use native.Mathlib.Omega.{arith}
 use lib.ListN.{length, take}
 use lib.Seq.{length-take-le}
 use mir.Syntax.{w8}
 use mir.Val.{Val}
-use denote.Shadow.{shadow}
 use denote.Plain.{UInt}
-use denote.Array.{Array, each}
+use denote.Array.{Array}
 use denote.Laws.{Is}
 use contract.Lifetimes.{Lfts}
 use denote.Triple.Clauses.{AtExit}
@@ -25,28 +24,20 @@ use Rattle.gage_spec.specs.Permutation.{LARGEST, judged, permute, unpermute, an
 use Rattle.gage_spec.specs.States.{length-permute, length-unpermute}
 use Rattle.gage_spec.specs.Inverse.{rounds-undone, rounds-redone}
 use Rattle.gage_spec.specs.Answers.{answered-back}
-use Rattle.gage_permute.proofs.Judging.{allowed}
+use Rattle.gage_planes_spec.specs.Sizes.{allowed}
+use Rattle.gage_weave.specs.Arrays.{array-bytes}
 use Rattle.gage_permute.proofs.permute.Kinds as permute-kinds
 use Rattle.gage_permute.proofs.permute.Reads as permute-reads
 use Rattle.gage_permute.proofs.unpermute.Kinds as unpermute-kinds
 use Rattle.gage_permute.proofs.unpermute.Reads as unpermute-reads
 
--- an array of bytes holds bytes
-each-byte : (xs : List ℕ) (us : List Val) → shadow (each ℕ (UInt w8 .own) xs us) → Below 256 xs
-each-byte [] us s = tt
-each-byte (x ∷ xs) [] s = absurd s
-each-byte (x ∷ xs) (u ∷ us) s = (s .0 .1, each-byte xs us (s .1))
-
-array-bytes : (n : ℕ) (xs : List ℕ) (vs : List Val) → Is (Array (UInt w8) n) xs vs → Below 256 xs
-array-bytes n xs vs p = each-byte xs (p .0) (p .1 .1)
-
 -- a state's first n bytes, where n is permitted and k a count of rounds
 module _ (s : List ℕ) (n k : ℕ) (vs : List Val) (state : Is (Array (UInt w8) LARGEST) s vs) (h : judged n k ≡ Done) where
   fits : n ≤ length s
-  fits = let l : length s ≡ LARGEST = good-length (eInt w8) LARGEST s vs state in omega (arith, allowed n k h .1)
+  fits = let l : length s ≡ LARGEST = good-length (eInt w8) LARGEST s vs state in omega (arith, allowed n k h .2)
 
   wide : SMALLEST ≤ length (take n s)
-  wide = let l : length (take n s) ≡ n = length-take-le n s fits in omega (arith, allowed n k h .0)
+  wide = let l : length (take n s) ≡ n = length-take-le n s fits in omega (arith, allowed n k h .1)
 
   bytes : Below 256 (take n s)
   bytes = below-take 256 n s (array-bytes LARGEST s vs state)

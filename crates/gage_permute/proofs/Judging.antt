@@ -18,18 +18,6 @@ use Rattle.gage_spec.specs.declared.Answer.the-variants.{Done, Size, Rounds}
 use Rattle.gage_spec.specs.declared.Permuted.{Permuted}
 use Rattle.gage_spec.proofs.Answer as answer-type
 
--- what is done has a permitted size and a count of rounds
-pub allowed : (n k : ℕ) → judged n k ≡ Done → (29 ≤ n) × (n ≤ LARGEST) × (1 ≤ k) × (k ≤ MOST-ROUNDS)
-unfolding judged
-allowed n k e = go (permitted n) refl (leb 1 k) refl (leb k MOST-ROUNDS) refl e
-  where
-    go : (p : Bool) → permitted n ≡ p → (a : Bool) → leb 1 k ≡ a → (b : Bool) → leb k MOST-ROUNDS ≡ b
-        → cond p (cond (a && b) Done Rounds) Size ≡ Done → (29 ≤ n) × (n ≤ LARGEST) × (1 ≤ k) × (k ≤ MOST-ROUNDS)
-    go true p true a true b f = (permitted-size n p .0, permitted-size n p .1, leb-true 1 k a, leb-true k MOST-ROUNDS b)
-    go true p true a false b f = absurd (omega (arith, ap numberOf f))
-    go true p false a t b f = absurd (omega (arith, ap numberOf f))
-    go false p t a u b f = absurd (omega (arith, ap numberOf f))
-
 module _ (f : ℕ → List ℕ → List ℕ) (s : List ℕ) (n k : ℕ) (r : Answer) (e : r ≡ judged n k) where
   -- a refusal gives the state back
   pub refused : OneOf (1 ∷ 2 ∷ []) (tagOf answer-type.the-type r) → _≡_ {A = Permuted} (record { answer = r; state = s }) (answered f s n k)

@@ -26,8 +26,8 @@ use Rattle.ingage_spec.specs.Runs.{encrypting-from, decrypting-from}
 use Rattle.ingage_spec.specs.Results.{length-seal, length-decrypted}
 use Rattle.ingage_answers.specs.Naming.{seal-unnamed, open-unnamed, seal-named, open-named}
 use Rattle.ingage_answers.specs.Exactly.{Within, not-too-long, seal-counted, open-counted, sealed-within, opened-within}
-use Rattle.ingage_steps.specs.Arrays.{finishOf}
-use Rattle.ingage_steps.specs.First.{finish-first}
+use Rattle.gage_planes_spec.specs.declared.State.{State}
+use Rattle.gage_planes_spec.specs.Told.{told}
 
 never : {P : Type 0} → _≡_ {A = Bool} true false → P
 never e = absurd (let z : _≡_ {A = ℕ} 0 1 = cc e in omega arith)
@@ -115,7 +115,7 @@ pub cleared-over : (w o : List ℕ) (k : ℕ) → length w ≡ k → k ≤ lengt
 cleared-over w o k l h =
     rw (over-length w o (omega arith), min-eq-left h, length-replicate, drop-at w (drop (length w) o) k l, l)
 
-module _ (z : Instance) (fits : Fitting z) (key nonce A text seal out : List ℕ) (w : Within z key nonce A text seal out) (s : List ℕ) (begins : take (z .state) s ≡ begun z key nonce A .state) where
+module _ (z : Instance) (fits : Fitting z) (key nonce A text seal out : List ℕ) (w : Within z key nonce A text seal out) (s : State) (begins : told (z .state) s ≡ begun z key nonce A .state) where
   abbrev R : ℕ
   R = z .rate
 
@@ -129,16 +129,15 @@ module _ (z : Instance) (fits : Fitting z) (key nonce A text seal out : List ℕ
   start = begun z key nonce A
 
   -- sealing, step after step
-  pub seal-done : (e f T out′ seal′ : List ℕ) (count : ℕ) → take n e ≡ encrypting R (from (take n s)) text k .run .state
-      → out′ ≡ over (take (length text) (encrypting R (from (take n s)) text k .text)) out
-      → length e ≡ LARGEST → f ≡ finishOf n e → T ≡ sealOf z (take n f) → seal′ ≡ copied T seal → count ≡ callsOf z (length A) (length text)
+  pub seal-done : (e : State) (f T out′ seal′ : List ℕ) (count : ℕ) → told n e ≡ encrypting R (from (told n s)) text k .run .state
+      → out′ ≡ over (take (length text) (encrypting R (from (told n s)) text k .text)) out
+      → take n f ≡ finished (from (told n e)) .state → T ≡ sealOf z (take n f) → seal′ ≡ copied T seal → count ≡ callsOf z (length A) (length text)
       → sealCall z key nonce A text out seal ≡ record { answer = sealed.Done count; out = out′; seal = seal′ }
   unfolding encrypted finished
-  seal-done e f T out′ seal′ count state write long end place put calls =
+  seal-done e f T out′ seal′ count state write done place put calls =
       let same = encrypting-from R start text k in
-      let last : take n e ≡ encrypting R start text k .run .state = state ∙ rw begins (same .0) in
+      let last : told n e ≡ encrypting R start text k .run .state = state ∙ rw begins (same .0) in
       let t : out′ ≡ over (encrypted z key nonce A text .text) out = write ∙ rw (begins, same .1) in
-      let done : take n f ≡ finished (from (take n e)) .state = rw end (finish-first z e fits long) in
       let tag : T ≡ encrypted z key nonce A text .seal = place ∙ ap (sealOf z) (done ∙ rw last) in
       let p : seal′ ≡ encrypted z key nonce A text .seal =
       put ∙ rw tag (filled (encrypted z key nonce A text .seal) seal (length-seal z fits key nonce A (w .key-size) (w .nonce-size) text ∙ sym (w .seal-size))) in
@@ -146,15 +145,14 @@ module _ (z : Instance) (fits : Fitting z) (key nonce A text seal out : List ℕ
       sealed-within z key nonce A text seal out w ∙ rw (c, t, p)
 
   -- opening, step after step
-  module _ (d f T out′ : List ℕ) (count : ℕ) (state : take n d ≡ decrypting R (from (take n s)) text k .run .state)
-      (write : out′ ≡ over (decrypting R (from (take n s)) text k .text) out)
-      (long : length d ≡ LARGEST) (end : f ≡ finishOf n d) (place : T ≡ sealOf z (take n f)) (calls : count ≡ callsOf z (length A) (length text)) where
+  module _ (d : State) (f T out′ : List ℕ) (count : ℕ) (state : told n d ≡ decrypting R (from (told n s)) text k .run .state)
+      (write : out′ ≡ over (decrypting R (from (told n s)) text k .text) out)
+      (done : take n f ≡ finished (from (told n d)) .state) (place : T ≡ sealOf z (take n f)) (calls : count ≡ callsOf z (length A) (length text)) where
     -- the seal worked out, the message and the count
     worked-out : T ≡ decrypted z key nonce A text .seal
     unfolding decrypted finished
     worked-out =
-        let last : take n d ≡ decrypting R start text k .run .state = state ∙ rw begins (decrypting-from R start text k .0) in
-        let done : take n f ≡ finished (from (take n d)) .state = rw end (finish-first z d fits long) in
+        let last : told n d ≡ decrypting R start text k .run .state = state ∙ rw begins (decrypting-from R start text k .0) in
         place ∙ ap (sealOf z) (done ∙ rw last)
 
     given : out′ ≡ over (decrypted z key nonce A text .text) out

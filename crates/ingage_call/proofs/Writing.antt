@@ -1,21 +1,16 @@
--- A text written over a buffer piece by piece, and what a copy into a part of just a piece's length leaves there. Assumes nothing.
+-- A text written over a buffer piece by piece. Assumes nothing.
 use mathlib.Core.Path.{_≡_, sym, ap, _∙_}
-use mathlib.Core.List.{List, _++_, append-assoc, append-nil}
+use mathlib.Core.List.{List, _++_, append-assoc}
 use Prim.Native.Nat.{ℕ, _+_, _-_}
 use native.Mathlib.Omega.{arith}
-use lib.ListN.{length, take, drop, length-append, drop-of-length-le}
+use lib.ListN.{length, take, drop, length-append}
 use lib.Seq.{take-at, drop-at, drop-drop}
-use Rattle.base_lists.specs.Buffers.{over, copied}
+use Rattle.base_lists.specs.Buffers.{over}
 
 -- one piece x more, behind what was written
 over-split : (w x o : List ℕ) → over (w ++ x) o ≡ w ++ (x ++ drop (length x) (drop (length w) o))
 over-split w x o =
     ap (λ (l : List ℕ). (w ++ x) ++ l) (rw (length-append w x, sym (drop-drop (length x) (length w) o))) ∙ append-assoc w x (drop (length x) (drop (length w) o))
-
--- the first bytes of y, copied into a part of just x's length
-pub copied-in : (x y mid : List ℕ) → length mid ≡ length x → take (length x) y ≡ x → copied y mid ≡ x
-copied-in x y mid l e =
-    rw (l, e, drop-of-length-le mid {i = length x} (omega arith)) (append-nil x)
 
 -- the buffer with a piece x put in its part, at the place where the text so far ends
 pub written : (w x o out : List ℕ) (at end : ℕ) → out ≡ over w o → length w ≡ at → at + length x ≡ end

@@ -55,7 +55,7 @@ pub fn seal(
     }
     let s = texts::begin(z, key, nonce, assoc);
     let e = texts::pass(z, s, Way::Encrypt, message, out);
-    let f = ingage_steps::finish(e, z.state);
+    let f = texts::finish(z, e);
     base_lists::copy(texts::seal_of(z, &f), seal);
     Sealed::Done(ingage_answers::calls(z, assoc.len(), message.len()))
 }
@@ -89,7 +89,7 @@ pub fn open(
     let count = ingage_answers::calls(z, assoc.len(), cipher.len());
     let s = texts::begin(z, key, nonce, assoc);
     let d = texts::pass(z, s, Way::Decrypt, cipher, out);
-    let f = ingage_steps::finish(d, z.state);
+    let f = texts::finish(z, d);
     if !base_lists::compare(texts::seal_of(z, &f), seal) {
         base_lists::clear(out, cipher.len());
         return Opened::Seal(count);

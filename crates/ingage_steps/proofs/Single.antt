@@ -2,6 +2,7 @@
 use mathlib.Core.Path.{_≡_, sym, _∙_}
 use mathlib.Core.List.{List}
 use Prim.Native.Nat.{ℕ}
+use Rattle.gage_planes_spec.specs.declared.State.{State}
 use contract.Lifetimes.{Lfts}
 use denote.Triple.Clauses.{AtExit}
 use borrow.Fn.Kinds.{Dens, endedOf}
@@ -23,11 +24,11 @@ pub associated-block-single : (κs : Lfts 1) (a : Dens κs associated-block-kind
     → associated-block-reads.Post κs a r x → associated-block-reads.Post κs a r′ x′ → r ≡ r′
 associated-block-single κs a r r′ x x′ p q = p ∙ sym q
 
-pub after-associated-single : (κs : Lfts 0) (a : Dens κs after-associated-kinds.ps) (r r′ : List ℕ)
+pub after-associated-single : (κs : Lfts 0) (a : Dens κs after-associated-kinds.ps) (r r′ : State)
     (x x′ : AtExit (endedOf 0 after-associated-kinds.ps after-associated-kinds.r) κs)
     → after-associated-reads.Post κs a r x → after-associated-reads.Post κs a r′ x′ → r ≡ r′
 after-associated-single κs a r r′ x x′ p q = p ∙ sym q
 
-pub finish-single : (κs : Lfts 0) (a : Dens κs finish-kinds.ps) (r r′ : List ℕ) (x x′ : AtExit (endedOf 0 finish-kinds.ps finish-kinds.r) κs)
+pub finish-single : (κs : Lfts 0) (a : Dens κs finish-kinds.ps) (r r′ : State) (x x′ : AtExit (endedOf 0 finish-kinds.ps finish-kinds.r) κs)
     → finish-reads.Post κs a r x → finish-reads.Post κs a r′ x′ → r ≡ r′
 finish-single κs a r r′ x x′ p q = p ∙ sym q

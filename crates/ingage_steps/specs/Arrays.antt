@@ -1,4 +1,4 @@
--- What each step leaves in the array that holds a state, or a block, of any size: the bytes behind the size too. That the first bytes are
+-- What each step leaves in the array that holds a state, or a block, of any size, the bytes behind the size too; and in a state in planes. That the first bytes are
 -- those of the crate cipher's definitions is First.antt. Assumes nothing: these are definitions.
 use Prim.Native.Nat.{ℕ, _-_}
 use mathlib.Core.Bool.{cond}
@@ -10,6 +10,9 @@ use Rattle.base_lists.specs.Buffers.{copied}
 use Rattle.gage_spec.specs.Permutation.{LARGEST, ROUNDS, permute, answered}
 use Rattle.gage_sponge.specs.Padding.{lastBlock}
 use Rattle.gage_sponge.specs.Absorbing.{xored}
+use Rattle.gage_planes_spec.specs.declared.State.{State}
+use Rattle.gage_planes_spec.specs.Told.{mixed}
+use Rattle.gage_planes_spec.specs.Rounds.{permuted}
 use Rattle.ingage_spec.specs.declared.Instance.{Instance}
 use Rattle.ingage_spec.specs.Cipher.{LAST-BLOCK, AFTER-MESSAGE, lastXored}
 
@@ -41,6 +44,10 @@ markedBlock R p = cond (ltb (length p) R) (lastXored LAST-BLOCK (take R (lastBlo
 unfoldable pub markedOf : ℕ → List ℕ → List ℕ
 markedOf R p = cond (ltb (length p) R) (lastOf LAST-BLOCK R (lastBlock p)) (lastBlock p)
 
+-- v XORed into the last byte of a state of n bytes in planes
+unfoldable pub lastMixed : ℕ → ℕ → State → State
+lastMixed v n t = mixed (lastOf v n (replicate LARGEST 0)) t
+
 -- the step before 'Finalization', and its step 1
-unfoldable pub finishOf : ℕ → List ℕ → List ℕ
-finishOf n s = wholeOf n (lastOf AFTER-MESSAGE n s)
+unfoldable pub finishOf : ℕ → State → State
+finishOf n t = permuted n ROUNDS (lastMixed AFTER-MESSAGE n t)

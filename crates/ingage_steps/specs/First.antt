@@ -6,25 +6,31 @@ use mathlib.Core.List.{List, [], _∷_, _++_, append-nil}
 use Prim.Native.Nat.{ℕ, zero, suc, _+_, _-_, _≤_, _<_}
 use native.Mathlib.Nat.{not-suc-le-zero, le-of-suc-le-suc}
 use native.Mathlib.Omega.{arith}
-use lib.Bits.{bitXor}
+use lib.Bits.{bitXor, xor-zero-r}
 use lib.Dec.{ltb}
-use lib.ListN.{length, getD, set, take, drop, replicate, length-append, length-set, length-take, length-drop, length-replicate}
+use lib.ListN.{length, getD, set, take, drop, replicate, length-append, length-set, length-take, length-drop, length-replicate, getD-replicate}
 use lib.Seq.{take-all, length-take-le, take-set-lt, getD-take, drop-at, drop-drop, take-append-add}
 use borrow.Author.Tests.{le-ltb}
+use Rattle.base_lists.specs.Below.{Below, below-replicate}
 use Rattle.base_lists.specs.Buffers.{copied}
 use Rattle.base_lists.specs.Over.{over-length}
 use Rattle.gage_spec.specs.Permutation.{LARGEST, ROUNDS, permitted, permute, answered}
 use Rattle.gage_spec.specs.Tables.{permitted-size}
-use Rattle.gage_spec.specs.Answers.{answered-first}
+use Rattle.gage_spec.specs.Answers.{answered-first, judged-done}
 use Rattle.gage_spec.specs.States.{length-permute}
 use Rattle.gage_sponge.specs.Padding.{lastBlock, LARGEST-RATE}
 use Rattle.gage_sponge.specs.Absorbing.{xored, from}
 use Rattle.gage_sponge.specs.Blocks.{take-replicate, length-last-block}
 use Rattle.gage_sponge.specs.Xor.{xored-take}
+use Rattle.gage_planes_spec.specs.declared.State.{State}
+use Rattle.gage_planes_spec.specs.Told.{told, mixed}
+use Rattle.gage_planes_spec.specs.Bytes.{length-told}
+use Rattle.gage_planes_spec.specs.Permuting.{told-permuted}
+use Rattle.gage_weave.specs.Mixing.{told-mixed}
 use Rattle.ingage_spec.specs.declared.Instance.{Instance}
 use Rattle.ingage_spec.specs.Instances.{Fitting}
 use Rattle.ingage_spec.specs.Cipher.{LAST-BLOCK, AFTER-MESSAGE, whole, lastXored, keyed, started, finished}
-use Rattle.ingage_steps.specs.Arrays.{wholeOf, lastOf, putAt, keyOf, startOf, markedBlock, markedOf, finishOf}
+use Rattle.ingage_steps.specs.Arrays.{wholeOf, lastOf, putAt, keyOf, startOf, markedBlock, markedOf, lastMixed, finishOf}
 
 -- the permutation on a state of a permitted size
 pub whole-first : (n : ℕ) (s : List ℕ) → permitted n ≡ true → length s ≡ LARGEST → take n (wholeOf n s) ≡ whole (take n s)
@@ -52,9 +58,38 @@ pub last-first : (v n : ℕ) (s : List ℕ) → 1 ≤ n → n ≤ length s → t
 unfolding lastOf
 last-first v n s h g = rw (le-ltb n 1 h) (last-xored-take v n s h g)
 
-length-last : (v n : ℕ) (s : List ℕ) → 1 ≤ n → length (lastOf v n s) ≡ length s
-unfolding lastOf
-length-last v n s h = rw (le-ltb n 1 h) (length-set s (n - 1) (bitXor v (getD s (n - 1) 0)))
+-- bytes with one changed
+below-set : (m : ℕ) (s : List ℕ) (k v : ℕ) → Below m s → v < m → Below m (set s k v)
+below-set m [] k v b h = tt
+below-set m (x ∷ s) zero v b h = (h, b .1)
+below-set m (x ∷ s) (suc k) v b h = (b .0, below-set m s k v (b .1) h)
+
+-- zeros with one byte changed, XORed into a state that ends there
+nothing : (b : List ℕ) → xored b [] ≡ []
+unfolding xored
+nothing [] = refl
+nothing (x ∷ b) = refl
+
+last-only : (v k m : ℕ) (x : List ℕ) → k < m → length x ≡ suc k → xored (set (replicate m 0) k v) x ≡ xored (replicate k 0 ++ (v ∷ [])) x
+unfolding xored
+last-only v k zero x h e = absurd (not-suc-le-zero h)
+last-only v k (suc m) [] h e = absurd (omega arith)
+last-only v zero (suc m) (y ∷ []) h e = ap (λ (l : List ℕ). bitXor v y ∷ l) (nothing (replicate m 0))
+last-only v zero (suc m) (y ∷ z ∷ x) h e = absurd (omega arith)
+last-only v (suc k) (suc m) (y ∷ x) h e = ap (λ (l : List ℕ). bitXor 0 y ∷ l) (last-only v k m x (le-of-suc-le-suc h) (omega arith))
+
+-- v XORed into the last byte of a state in planes
+pub last-told : (v n : ℕ) (t : State) → v < 256 → 1 ≤ n → n ≤ LARGEST → told n (lastMixed v n t) ≡ lastXored v (told n t)
+unfolding lastMixed lastOf lastXored
+last-told v n t small h g =
+    let zeros : List ℕ = replicate LARGEST 0 in
+    let none : getD zeros (n - 1) 0 ≡ 0 = getD-replicate LARGEST (n - 1) 0 0 (omega arith) in
+    let one : bitXor v (getD zeros (n - 1) 0) ≡ v = ap (bitXor v) none ∙ xor-zero-r v in
+    let l = length-told n t in
+    let is : cond (ltb n 1) zeros (set zeros (n - 1) (bitXor v (getD zeros (n - 1) 0))) ≡ set zeros (n - 1) v = rw (le-ltb n 1 h, one) in
+    ap (λ (b : List ℕ). told n (mixed b t)) is
+    ∙ told-mixed n (set zeros (n - 1) v) t g (below-set 256 zeros (n - 1) v (below-replicate 256 LARGEST 0 (omega arith)) small)
+    ∙ last-only v (n - 1) LARGEST (told n t) (omega arith) (omega arith) ∙ rw l
 
 -- the block of a piece of the associated data
 pub marked-first : (R : ℕ) (p : List ℕ) → 1 ≤ R → R ≤ LARGEST-RATE → take R (markedOf R p) ≡ markedBlock R p
@@ -66,14 +101,14 @@ marked-first R p h g = go (ltb (length p) R)
     go false = refl
 
 -- the end
-pub finish-first : (z : Instance) (s : List ℕ) → Fitting z → length s ≡ LARGEST → take (z .state) (finishOf (z .state) s) ≡ finished (from (take (z .state) s)) .state
+pub finish-first : (z : Instance) (t : State) → Fitting z → told (z .state) (finishOf (z .state) t) ≡ finished (from (told (z .state) t)) .state
 unfolding finishOf finished
-finish-first z s fits l =
+finish-first z t fits =
     let e = fits .ends in
     let m = fits .moves in
     let h = fits .held in
-    whole-first (z .state) (lastOf AFTER-MESSAGE (z .state) s) (fits .allowed) (length-last AFTER-MESSAGE (z .state) s (omega arith) ∙ l)
-    ∙ ap whole (last-first AFTER-MESSAGE (z .state) s (omega arith) (omega arith))
+    told-permuted (z .state) ROUNDS (lastMixed AFTER-MESSAGE (z .state) t) (judged-done (z .state) ROUNDS (fits .allowed) refl) (omega arith)
+    ∙ ap whole (last-told AFTER-MESSAGE (z .state) t (omega arith) (omega arith) (omega arith))
 
 -- bytes put at a place with room for them
 put-room : (at : ℕ) (b s : List ℕ) → at + length b ≤ length s → putAt at b s ≡ take at s ++ (b ++ drop (at + length b) s)

@@ -1,13 +1,14 @@
 // The steps of InGAGE's Algorithms 5 and 6 (ingage_spec/specs/Cipher.antt) that pass no text: the start, the block of a piece of the associated data,
-// and what is XORed in behind each text. A state is an array by value of which the first bytes count, as many as the instance's state has. The
-// promises cite specs/Arrays.antt.
+// and what is XORed in behind each text. The start is worked out in an array by value of which the first bytes count, as many as the instance's state has;
+// from then on a state stays in planes. The promises cite specs/Arrays.antt.
+use gage_planes_spec::State;
 use gage_spec::LARGEST;
 use gage_spec::ROUNDS;
 use gage_sponge::LARGEST_RATE;
 use ingage_spec::Instance;
 ghost use mathlib.Core.Path.{_≡_};
 ghost use Rattle.ingage_spec.specs.Cipher.{AFTER-ASSOCIATED};
-ghost use Rattle.ingage_steps.specs.Arrays.{wholeOf, lastOf, putAt, markedOf, startOf, finishOf};
+ghost use Rattle.ingage_steps.specs.Arrays.{wholeOf, lastOf, putAt, markedOf, startOf, lastMixed, finishOf};
 
 // What is XORed into the last block of the associated data, into the state after it, and into the state after the message (document 000,
 // section 2.1).
@@ -79,16 +80,24 @@ pub fn associated_block(rate: usize, p: &[u8]) -> [u8; LARGEST_RATE]
     m
 }
 
-// 'Absorb associated data A', the step after its blocks.
-pub fn after_associated(s: [u8; LARGEST], n: usize) -> [u8; LARGEST]
-    ensures { λ r. ⌜ r ≡ lastOf AFTER-ASSOCIATED n s ⌝ }
+// v XORed into the last byte of a state of n bytes.
+fn mark(t: State, n: usize, v: u8) -> State
+    ensures { λ r. ⌜ r ≡ lastMixed v n t ⌝ }
 {
-    xor_last(s, n, AFTER_ASSOCIATED)
+    let b = xor_last([0u8; LARGEST], n, v);
+    gage_weave::mix(t, &b)
+}
+
+// 'Absorb associated data A', the step after its blocks.
+pub fn after_associated(t: State, n: usize) -> State
+    ensures { λ r. ⌜ r ≡ lastMixed AFTER-ASSOCIATED n t ⌝ }
+{
+    mark(t, n, AFTER_ASSOCIATED)
 }
 
 // The step before 'Finalization', and its step 1.
-pub fn finish(s: [u8; LARGEST], n: usize) -> [u8; LARGEST]
-    ensures { λ r. ⌜ r ≡ finishOf n s ⌝ }
+pub fn finish(t: State, n: usize) -> State
+    ensures { λ r. ⌜ r ≡ finishOf n t ⌝ }
 {
-    whole(xor_last(s, n, AFTER_MESSAGE), n)
+    gage_planes::permuted(mark(t, n, AFTER_MESSAGE), n, ROUNDS)
 }

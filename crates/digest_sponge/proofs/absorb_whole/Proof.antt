@@ -46,7 +46,7 @@ loop-less : tie.Need-loop-less Inv-loop μ-loop
 loop-less c = search needs
 
 loop-again : tie.Need-loop-again Inv-loop μ-loop
-loop-again c = taken-more (c .before .before .before .before .loop .inv) (c .before .before .before .loop-test .taken) (c .before .mix .ensures) (c .turned .ensures)
+loop-again c = taken-more (c .before .before .before .before .loop .inv) (c .before .before .before .loop-test .taken) (c .before .mix .ensures .1) (c .turned .ensures)
 
 returns : tie.Need-returns Inv-loop μ-loop
 returns c = taken-all (c .before .loop .inv) (c .loop-test .left)

@@ -1,6 +1,7 @@
 -- `permute` meets its promise: what is judged done `turned` takes (`allowed`), and a refusal gives the state back (`refused`).
 -- Assumes nothing.
-use Rattle.gage_permute.proofs.Judging.{allowed, refused, done}
+use Rattle.gage_permute.proofs.Judging.{refused, done}
+use Rattle.gage_planes_spec.specs.Sizes.{allowed}
 use Rattle.gage_spec.specs.Permutation.{permute}
 use mathlib.Core.Path.{sym, _∙_}
 use native.Mathlib.Omega.{arith}
@@ -22,8 +23,8 @@ returns c =
 turned-requires : tie.Need-turned-requires
 turned-requires c κs =
     let start = c .before .before .before in
-    let size = allowed (start .args .n) (start .args .k) (sym (c .before .before .judge .ensures) ∙ c .enum-told .given .1) in
-    (omega (arith, size .0), size .1, size .2, size .3)
+    let done = sym (c .before .before .judge .ensures) ∙ c .enum-told .given .1 in
+    (done, allowed (start .args .n) (start .args .k) done .2)
 
 returns-2 : tie.Need-returns-2
 returns-2 c =

@@ -1,57 +1,70 @@
--- `turned` meets its promise: the first substitution, and the turns in a wide state over the start of what it gave (`turned-is`). Assumes nothing.
-use Rattle.gage_permute.proofs.Rounds.{cell-at, turned-is}
-use lib.ListN.{getD}
-use mathlib.Core.List.{List}
-use mathlib.Core.Path.{ap}
-use Prim.Native.Nat.{ℕ}
+-- `turned` meets its promise: woven, permuted in planes, and told (`turned-is`). Assumes nothing.
+use Rattle.gage_weave.specs.Arrays.{array-bytes}
+use Rattle.gage_permute.proofs.Rounds.{turned-is}
 use native.Mathlib.Omega.{arith}
 use borrow.Author.Needs.{needs}
 use Rattle.gage_permute.proofs.turned.Statement.{statement}
 use Rattle.gage_permute.proofs.turned.Tie as tie
+use Rattle.gage_permute.proofs.turned.Reads as reads
+use Rattle.gage_permute.proofs.turned.Lts as lts
+use Rattle.gage_planes.proofs.permuted.Reads as permuted-reads
+use Rattle.gage_weave.proofs.tell.Reads as tell-reads
+use Rattle.gage_weave.proofs.weave.Reads as weave-reads
 
-table-requires : tie.Need-table-requires
-table-requires c κs = search needs
+-- src/lib.rt:23:31
+sub-weave : tie.Need-sub-weave
+sub-weave c = search needs
 
-array-read-substitute : tie.Need-array-read-substitute
-array-read-substitute c = search needs
+-- src/lib.rt:23:31
+part-weave-start : tie.Need-part-weave-start
+part-weave-start c = search needs
 
-substitute-requires : tie.Need-substitute-requires
-substitute-requires c κs = search needs
+-- src/lib.rt:23:31
+part-weave-end : tie.Need-part-weave-end
+part-weave-end c = search needs
 
-slice-aggregate-copy : tie.Need-slice-aggregate-copy
-slice-aggregate-copy c = search needs
+-- src/lib.rt:23:9
+weave-requires : tie.Need-weave-requires
+weave-requires c κs = search needs
 
-slice-aggregate-copy-2 : tie.Need-slice-aggregate-copy-2
-slice-aggregate-copy-2 c = search needs
+-- src/lib.rt:24:9
+permuted-requires : tie.Need-permuted-requires
+permuted-requires c κs = search needs
 
-copy-requires : tie.Need-copy-requires
-copy-requires c κs = search needs
+-- src/lib.rt:26:25
+sub-tell : tie.Need-sub-tell
+sub-tell c = search needs
 
-slice-aggregate-turns : tie.Need-slice-aggregate-turns
-slice-aggregate-turns c = search needs
+-- src/lib.rt:26:25
+part-r-start : tie.Need-part-r-start
+part-r-start c = search needs
 
-turns-requires : tie.Need-turns-requires
-turns-requires c κs = search needs
+-- src/lib.rt:26:25
+part-r-end : tie.Need-part-r-end
+part-r-end c = search needs
 
+-- src/lib.rt:26:5
+tell-requires : tie.Need-tell-requires
+tell-requires c κs = search needs
+
+-- src/lib.rt:19:1
 returns : tie.Need-returns
 returns c =
-    let begun = c .before .before .before .before .before .before .before in
-    let start = begun .before .before in
-    let table = begun .before .table in
-    turned-is (start .args .n) (start .args .k) (getD (table .result) 0 0) (start .args .s) (search needs) (start .pre .1) (start .pre .2) (start .pre .3)
-    (cell-at (table .ensures) 0 (omega arith)) (ap (λ (l : List ℕ). getD l 0 0) (table .ensures)) _ _ _ (begun .substitute .ensures)
-    (c .before .before .before .before .copy .ensures) (c .before .turns .ensures)
+    let start = c .before .before .before .before .before .before .before in
+    turned-is (start .args .n) (start .args .k) (start .args .s) _ _ _ (start .pre .0) (start .pre .1) (search needs) (array-bytes 72 (start .args .s) _ (start .good .0))
+    (c .before .before .before .before .weave .ensures) (c .before .before .before .permuted .ensures) (c .before .tell .ensures)
 
 pub turned-spec : {M : Type 1} → statement M
 turned-spec =
     tie.close
     (tie.spec
-    table-requires
-    array-read-substitute
-    substitute-requires
-    slice-aggregate-copy
-    slice-aggregate-copy-2
-    copy-requires
-    slice-aggregate-turns
-    turns-requires
+    sub-weave
+    part-weave-start
+    part-weave-end
+    weave-requires
+    permuted-requires
+    sub-tell
+    part-r-start
+    part-r-end
+    tell-requires
     returns)

@@ -1,6 +1,7 @@
 -- `unpermute` meets its promise: what is judged done `unturned` takes (`allowed`), and a refusal gives the state back (`refused`).
 -- Assumes nothing.
-use Rattle.gage_permute.proofs.Judging.{allowed, refused, done}
+use Rattle.gage_permute.proofs.Judging.{refused, done}
+use Rattle.gage_planes_spec.specs.Sizes.{allowed}
 use Rattle.gage_spec.specs.Permutation.{unpermute}
 use mathlib.Core.Path.{sym, _∙_}
 use native.Mathlib.Omega.{arith}
@@ -23,7 +24,7 @@ unturned-requires : tie.Need-unturned-requires
 unturned-requires c κs =
     let start = c .before .before .before in
     let size = allowed (start .args .n) (start .args .k) (sym (c .before .before .judge .ensures) ∙ c .enum-told .given .1) in
-    (omega (arith, size .0), size .1, size .2, size .3)
+    (omega (arith, size .1), size .2, size .3, size .4)
 
 returns-2 : tie.Need-returns-2
 returns-2 c =

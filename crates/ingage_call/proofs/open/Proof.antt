@@ -69,7 +69,7 @@ pass-requires : tie.Need-pass-requires
 pass-requires c κs = (fits (c .before .before .before .before .before .before .before .before), inside (c .before .before .before) .room)
 
 finish-requires : tie.Need-finish-requires
-finish-requires c κs = tt
+finish-requires c κs = fits (c .before .before .before .before .before .before .before .before .before .before .before)
 
 slice-aggregate-seal-of : tie.Need-slice-aggregate-seal-of
 slice-aggregate-seal-of c = sym (c .before .finish .ok .1 .0 .1)
@@ -94,7 +94,7 @@ returns-5 c =
     let t = c .before .before .before .before .before .before .before .before .before .before .before in
     let f = c .before .before .before .before .before .before .before .before in
     let n = c .before .before .before .before .before .before .before .before .before .before .before .before .before .before in
-    open-met (known k (open-wrong (z-of k) (fits k) (begins k .args .key .now) (begins k .args .nonce .now) (begins k .args .assoc .now) (begins k .args .cipher .now) (begins k .args .seal .now) (begins k .args .out .now) (inside e) (b .begin .result) (b .begin .ensures) (t .pass .result) (f .finish .result) _ _ (n .calls .result) (t .pass .ensures .0) (t .pass .ensures .1) (t .pass .ok .1 .0 .1) (f .finish .ensures) (c .before .before .before .before .before .before .seal-of .ensures) (n .calls .ensures) _ (sym (c .before .before .before .before .before .compare .ensures) ∙ not-true _ (c .before .before .before .before .if4 .taken)) (c .before .before .clear .ensures)))
+    open-met (known k (open-wrong (z-of k) (fits k) (begins k .args .key .now) (begins k .args .nonce .now) (begins k .args .assoc .now) (begins k .args .cipher .now) (begins k .args .seal .now) (begins k .args .out .now) (inside e) (b .begin .result) (b .begin .ensures) (t .pass .result) (f .finish .result) _ _ (n .calls .result) (t .pass .ensures .0) (t .pass .ensures .1) (f .finish .ensures) (c .before .before .before .before .before .before .seal-of .ensures) (n .calls .ensures) _ (sym (c .before .before .before .before .before .compare .ensures) ∙ not-true _ (c .before .before .before .before .if4 .taken)) (c .before .before .clear .ensures)))
 
 same-length-2 : tie.Need-same-length-2
 same-length-2 c = c .before .before .before .before .before .before .out .given
@@ -107,7 +107,7 @@ returns-6 c =
     let t = c .before .before .before .before .before .before .before in
     let f = c .before .before .before .before in
     let n = c .before .before .before .before .before .before .before .before .before .before in
-    open-met (known k (open-done (z-of k) (fits k) (begins k .args .key .now) (begins k .args .nonce .now) (begins k .args .assoc .now) (begins k .args .cipher .now) (begins k .args .seal .now) (begins k .args .out .now) (inside e) (b .begin .result) (b .begin .ensures) (t .pass .result) (f .finish .result) _ _ (n .calls .result) (t .pass .ensures .0) (t .pass .ensures .1) (t .pass .ok .1 .0 .1) (f .finish .ensures) (c .before .before .seal-of .ensures) (n .calls .ensures) (sym (c .before .compare .ensures) ∙ not-false _ (c .if4 .left))))
+    open-met (known k (open-done (z-of k) (fits k) (begins k .args .key .now) (begins k .args .nonce .now) (begins k .args .assoc .now) (begins k .args .cipher .now) (begins k .args .seal .now) (begins k .args .out .now) (inside e) (b .begin .result) (b .begin .ensures) (t .pass .result) (f .finish .result) _ _ (n .calls .result) (t .pass .ensures .0) (t .pass .ensures .1) (f .finish .ensures) (c .before .before .seal-of .ensures) (n .calls .ensures) (sym (c .before .compare .ensures) ∙ not-false _ (c .if4 .left))))
 
 pub open-spec : {M : Type 1} → statement M
 open-spec =

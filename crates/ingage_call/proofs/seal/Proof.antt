@@ -66,7 +66,7 @@ pass-requires : tie.Need-pass-requires
 pass-requires c κs = (fits (c .before .before .before .before .before .before .before), inside (c .before .before) .room)
 
 finish-requires : tie.Need-finish-requires
-finish-requires c κs = tt
+finish-requires c κs = fits (c .before .before .before .before .before .before .before .before .before .before)
 
 slice-aggregate-seal-of : tie.Need-slice-aggregate-seal-of
 slice-aggregate-seal-of c = sym (c .before .finish .ok .1 .0 .1)
@@ -93,7 +93,7 @@ returns-5 c =
     let b = c .before .before .before .before .before .before .before .before .before .before .before .before in
     let t = c .before .before .before .before .before .before .before .before .before .before in
     let f = c .before .before .before .before .before .before .before in
-    seal-met (known k (seal-done (z-of k) (fits k) (begins k .args .key .now) (begins k .args .nonce .now) (begins k .args .assoc .now) (begins k .args .message .now) (begins k .args .seal .now) (begins k .args .out .now) (inside e) (b .begin .result) (b .begin .ensures) (t .pass .result) (f .finish .result) _ _ _ (c .calls .result) (t .pass .ensures .0) (t .pass .ensures .1) (t .pass .ok .1 .0 .1) (f .finish .ensures) (c .before .before .before .before .before .seal-of .ensures) (c .before .before .before .copy .ensures) (c .calls .ensures)))
+    seal-met (known k (seal-done (z-of k) (fits k) (begins k .args .key .now) (begins k .args .nonce .now) (begins k .args .assoc .now) (begins k .args .message .now) (begins k .args .seal .now) (begins k .args .out .now) (inside e) (b .begin .result) (b .begin .ensures) (t .pass .result) (f .finish .result) _ _ _ (c .calls .result) (t .pass .ensures .0) (t .pass .ensures .1) (f .finish .ensures) (c .before .before .before .before .before .seal-of .ensures) (c .before .before .before .copy .ensures) (c .calls .ensures)))
 
 pub seal-spec : {M : Type 1} → statement M
 seal-spec =

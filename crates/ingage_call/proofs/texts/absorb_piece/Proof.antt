@@ -25,7 +25,7 @@ mix-block-requires c κs = c .before .before .pre
 returns : tie.Need-returns
 returns c =
     let s = c .before .before .before in
-    piece-absorbed (s .args .z) (s .pre) (s .args .p .now) (s .args .s) (c .before .associated-block .result) (c .mix-block .result)
+    piece-absorbed (s .args .z) (s .pre) (s .args .p .now) (c .before .associated-block .result) (s .args .s) (c .mix-block .result)
     (marked (s .args .z) (s .args .p .now) (s .pre) (c .before .associated-block .ensures)) (c .mix-block .ensures)
 
 pub absorb-piece-spec : {M : Type 1} → statement M

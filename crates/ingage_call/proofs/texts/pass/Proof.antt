@@ -21,10 +21,6 @@ Inv-loop z way text out₀ rate count r₀ i₀ out r i = Passing way z text r�
 abbrev μ-loop : tie.MeasureT-loop
 μ-loop z way text out₀ rate count r₀ i₀ out r i = count - i
 
--- the array of the state is as long as its type says
-size : (c : tie.Start Inv-loop μ-loop) → length (c .args .s) ≡ LARGEST
-size c = c .good .1 .0 .1 .0 .1
-
 -- one more than the text's length is a number of the machine
 fits : (c : tie.Start Inv-loop μ-loop) → Fits w64 (length (c .args .text .now) + 1)
 fits c = omega arith
@@ -43,7 +39,7 @@ short-part c = le-trans (cut-short (c .end-of .result - c .before .before .loop 
 
 -- the buffer keeps its length
 kept : (c : tie.At-loop Inv-loop μ-loop) → length (c .loop .out) ≡ length (c .before .before .before .args .out .now)
-kept c = length-passing (c .before .before .before .args .z) (c .before .before .before .pre .0) (c .before .before .before .args .text .now) (c .before .before .before .args .s) (c .before .before .before .args .out .now) (size (c .before .before .before)) (c .before .before .before .args .way) (c .before .before .before .pre .1) (c .loop .inv)
+kept c = length-passing (c .before .before .before .args .z) (c .before .before .before .pre .0) (c .before .before .before .args .text .now) (c .before .before .before .args .s) (c .before .before .before .args .out .now) (c .before .before .before .args .way) (c .before .before .before .pre .1) (c .loop .inv)
 
 -- the part of the buffer that the piece is given
 part : (c : tie.After-given2 Inv-loop μ-loop) → Lent (c .before .before .before .before .before .before .before .args .way) (c .before .given .result) (c .given2 .result) (take (c .before .before .end-of .result - c .before .before .before .before .loop .i * c .before .before .before .before .before .before .before .args .z .rate) (drop (c .before .before .before .before .loop .i * c .before .before .before .before .before .before .before .args .z .rate) (c .before .before .before .before .before .before .before .args .text .now))) (c .before .before .before .before .loop .out)
@@ -56,7 +52,7 @@ add-count : tie.Need-add-count Inv-loop μ-loop
 add-count c = fits-le (most-blocks (c .before .before .args .z .rate) (length (c .before .before .args .text .now))) (fits (c .before .before))
 
 loop-holds : tie.Need-loop-holds Inv-loop μ-loop
-loop-holds c = passing-none (c .before .before .args .way) (c .before .before .args .z) (c .before .before .args .text .now) (c .before .before .args .s) (c .before .before .args .out .now) (size (c .before .before))
+loop-holds c = passing-none (c .before .before .args .way) (c .before .before .args .z) (c .before .before .args .text .now) (c .before .before .args .s) (c .before .before .args .out .now)
 
 mul-at : tie.Need-mul-at Inv-loop μ-loop
 mul-at c = fits-le (le-trans (starts c) (le-add-right (length (c .before .before .before .before .args .text .now)) 1)) (fits (c .before .before .before .before))
@@ -98,7 +94,7 @@ loop-less : tie.Need-loop-less Inv-loop μ-loop
 loop-less c = fewer-turns (length (c .before .before .before .before .before .before .before .before .before .before .before .before .args .text .now) / c .before .before .before .before .before .before .before .before .before .before .before .before .args .z .rate + 1) (c .before .before .before .before .before .before .before .before .before .loop .i) (c .before .before .before .before .before .before .before .before .loop-test .taken)
 
 loop-again : tie.Need-loop-again Inv-loop μ-loop
-loop-again c = passing-more (c .before .before .before .before .before .before .before .before .before .before .before .before .args .z) (c .before .before .before .before .before .before .before .before .before .before .before .before .pre .0) (c .before .before .before .before .before .before .before .before .before .before .before .before .args .text .now) (c .before .before .before .before .before .before .before .before .before .before .before .before .args .s) (c .before .before .before .before .before .before .before .before .before .before .before .before .args .out .now) (size (c .before .before .before .before .before .before .before .before .before .before .before .before)) (c .before .before .before .before .before .before .before .before .before .before .before .before .args .way) (c .before .before .before .before .before .before .before .end-of .result) (c .before .before .before .before .before .before .given .result) (c .before .before .before .before .before .given2 .result) _ (c .before .before .pass-piece .result) (c .before .before .before .before .before .before .before .before .before .loop .inv) (c .before .before .before .before .before .before .before .before .loop-test .taken) (c .before .before .before .before .before .before .before .end-of .ensures) (c .before .before .before .before .before .before .given .ensures) (c .before .before .before .before .before .given2 .ensures) (c .before .before .pass-piece .ensures .0) (c .before .before .pass-piece .ensures .1) (c .before .before .pass-piece .ok .1 .0 .1)
+loop-again c = passing-more (c .before .before .before .before .before .before .before .before .before .before .before .before .args .z) (c .before .before .before .before .before .before .before .before .before .before .before .before .pre .0) (c .before .before .before .before .before .before .before .before .before .before .before .before .args .text .now) (c .before .before .before .before .before .before .before .before .before .before .before .before .args .s) (c .before .before .before .before .before .before .before .before .before .before .before .before .args .out .now) (c .before .before .before .before .before .before .before .before .before .before .before .before .args .way) (c .before .before .before .before .before .before .before .end-of .result) (c .before .before .before .before .before .before .given .result) (c .before .before .before .before .before .given2 .result) _ (c .before .before .pass-piece .result) (c .before .before .before .before .before .before .before .before .before .loop .inv) (c .before .before .before .before .before .before .before .before .loop-test .taken) (c .before .before .before .before .before .before .before .end-of .ensures) (c .before .before .before .before .before .before .given .ensures) (c .before .before .before .before .before .given2 .ensures) (c .before .before .pass-piece .ensures .0) (c .before .before .pass-piece .ensures .1)
 
 same-length : tie.Need-same-length Inv-loop μ-loop
 same-length c = kept (c .before)

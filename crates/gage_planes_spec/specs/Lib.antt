@@ -1,0 +1,15 @@
+pub mod Planes
+pub mod Columns
+pub mod Moving
+pub mod Products
+pub mod Leading
+pub mod Turning
+pub mod Told
+pub mod Bytes
+pub mod Exact
+pub mod Windows
+pub mod Rounds
+pub mod Rounding
+pub mod Both
+pub mod Permuting
+pub mod Sizes

@@ -1,0 +1,6 @@
+pub mod Weaving
+pub mod Exchanging
+pub mod Drawing
+pub mod Telling
+pub mod Mixing
+pub mod Arrays
