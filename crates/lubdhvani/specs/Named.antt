@@ -26,14 +26,10 @@ module _ (key font : List ℕ) {l m : Layout} (e : l ≡ m) where
   converted-named own s f p =
       (p .0 ∙ ap (λ (n : Layout). convertCall (told key font n) own s f .answer) e, p .1 ∙ ap (λ (n : Layout). convertCall (told key font n) own s f .frame) e)
 
-  -- what a reader is told anew, with a layout
-  abbrev asks : ℕ → ℕ → Layout → Asked
-  asks editions allowed n = record { editions = editions; allowed = allowed; layout = n }
-
-  pub read-named : (editions allowed : ℕ) (s : List ℕ) (from : ℕ) (o : List ℕ) {r : Reading} {w : List ℕ}
-      → (r ≡ readAnswer (told key font l) (asks editions allowed l) s from o) × (w ≡ readOut (told key font l) (asks editions allowed l) s from o)
-      → (r ≡ readAnswer (told key font m) (asks editions allowed m) s from o) × (w ≡ readOut (told key font m) (asks editions allowed m) s from o)
-  read-named editions allowed s from o p = (
-    p .0 ∙ ap (λ (n : Layout). readAnswer (told key font n) (asks editions allowed n) s from o) e,
-    p .1 ∙ ap (λ (n : Layout). readOut (told key font n) (asks editions allowed n) s from o) e,
-  )
+-- and what a reader comes to, told anew what was asked
+module _ (key font : List ℕ) {q p : Asked} (e : q ≡ p) where
+  pub read-told : (s : List ℕ) (from : ℕ) (o : List ℕ) {r : Reading} {w : List ℕ}
+      → (r ≡ readAnswer (told key font (q .layout)) q s from o) × (w ≡ readOut (told key font (q .layout)) q s from o)
+      → (r ≡ readAnswer (told key font (p .layout)) p s from o) × (w ≡ readOut (told key font (p .layout)) p s from o)
+  read-told s from o h =
+      (h .0 ∙ ap (λ (a : Asked). readAnswer (told key font (a .layout)) a s from o) e, h .1 ∙ ap (λ (a : Asked). readOut (told key font (a .layout)) a s from o) e)

@@ -1,0 +1,10 @@
+pub mod Promises
+pub mod Contracts
+pub mod Inverse
+pub mod Cipher
+pub mod Cutting
+pub mod Bundles
+pub mod Written
+pub mod Reading
+pub mod Back
+pub mod Bytes
