@@ -2,16 +2,19 @@
 //! call of the product, written from the papers alone and the plain way they
 //! read. Plain slices in, plain structs out, lent buffers as document 01 says.
 
+pub mod accept;
 pub mod answers;
 pub mod bundle;
 pub mod chance;
 pub mod cipher;
 pub mod compose;
 pub mod convert;
+pub mod desk;
 pub mod diffusion;
 pub mod digest;
 pub mod drawing;
 pub mod frame;
+pub mod index;
 pub mod inputs;
 pub mod kat;
 pub mod leaders;
@@ -23,6 +26,7 @@ pub mod padding;
 pub mod permutation;
 pub mod reader;
 pub mod readings;
+pub mod replay;
 pub mod rows;
 pub mod running;
 pub mod shuffle;

@@ -39,6 +39,19 @@ pub const OTHER_EDITION: u8 = 16;
 pub const OTHER_LAYOUT: u8 = 17;
 /// Count of rounds not from 1 to 255 (order W9).
 pub const NO_ROUNDS: u8 = 18;
+/// Over 512 stretches, or entries of an index (orders W10 and W12).
+pub const TOO_MANY: u8 = 19;
+/// Bad trace field, or a request that carries bytes (order W11).
+pub const BAD_EVENT: u8 = 20;
+/// Print with no line given and unprinted (order W11).
+pub const NO_LINE: u8 = 21;
+/// A nonce that an earlier stretch has too (order W12).
+pub const REPEATED_NONCE: u8 = 22;
+/// An entry number past the index (order W14).
+pub const NO_ENTRY: u8 = 23;
+/// An entry whose place doesn't start a stretch that reads as a line (order
+/// W14).
+pub const NO_LINE_THERE: u8 = 24;
 
 pub const KEY: usize = 16;
 pub const NONCE: usize = 12;
@@ -59,6 +72,8 @@ pub const FRAME_ROOM: usize = 276;
 pub const FRAME_ROOM_2: usize = 290;
 /// For every reader, whatever editions it allows.
 pub const STRETCH_MOST: usize = 288;
+/// Stretches of a stream that is accepted (order W12).
+pub const STRETCHES_MOST: usize = 512;
 /// A line of n bytes takes n + 39 calls of the permutation, in edition two
 /// n + 46.
 pub const BESIDE_LINE: usize = 39;

@@ -20,30 +20,30 @@ pub const SERVES: u64 = 250;
 const OUTCOMES: [&str; 4] = ["neither", "A", "B", "17"];
 
 /// A number and a frame, with the room behind it.
-type Converted = (u32, usize, Vec<u8>);
+type Converted = (usize, usize, Vec<u8>);
 
 /// By the library, to the edition that `own` is of.
 fn by_library(told: Told, stretch: &[u8], own: Own) -> Converted {
     let Told { key, digest, .. } = told;
     let (layout, nonce) = (told.layout.0, own.nonce);
     let mut room = vec![0xee; FRAME_ROOM_2];
-    let (mut length, out) = (usize::MAX, room.as_mut_ptr());
+    let out = room.as_mut_ptr();
     // SAFETY: each pointer is to as many bytes as are said, and what is written
     // is of this call alone.
     #[rustfmt::skip]
-    let number = unsafe {
+    let made = unsafe {
         match own.job {
             None => lubdhvani_to_one(
                 stretch.as_ptr(), stretch.len(), key.as_ptr(), key.len(), digest.as_ptr(), digest.len(), layout,
-                nonce.as_ptr(), nonce.len(), out, FRAME_ROOM_2, &mut length,
+                nonce.as_ptr(), nonce.len(), out, FRAME_ROOM_2,
             ),
             Some(job) => lubdhvani_to_two(
                 stretch.as_ptr(), stretch.len(), key.as_ptr(), key.len(), digest.as_ptr(), digest.len(), layout,
-                nonce.as_ptr(), nonce.len(), job.as_ptr(), job.len(), out, FRAME_ROOM_2, &mut length,
+                nonce.as_ptr(), nonce.len(), job.as_ptr(), job.len(), out, FRAME_ROOM_2,
             ),
         }
     };
-    (number, length, room)
+    (made.number, made.length, room)
 }
 
 fn by_second_program(told: Told, stretch: &[u8], own: Own) -> Converted {
@@ -115,14 +115,14 @@ impl Trip {
         let same = once == by_second_program(told, stretch, there);
         let expected = number(told.layout, &self.line);
         if expected != DONE {
-            return ("17", same && once.0 == u32::from(expected));
+            return ("17", same && once.0 == usize::from(expected));
         }
         let outcome = match told.layout {
             LAYOUT_A => "A",
             LAYOUT_B => "B",
             _ => "neither",
         };
-        if !same || once.0 != u32::from(DONE) {
+        if !same || once.0 != usize::from(DONE) {
             return (outcome, false);
         }
         let stretch = &once.2[1..once.1 - 1];

@@ -5,6 +5,12 @@ use crate::memory::Stand;
 use second::line::{Layout, LAYOUT_A, LAYOUT_B};
 use second::reader::Asked;
 
+/// What a reading is, as the header numbers it.
+pub const END: usize = 0;
+pub const LINE: usize = 1;
+pub const STRETCH_REFUSED: usize = 2;
+pub const CALL_REFUSED: usize = 3;
+
 #[derive(Clone, Copy, Debug, PartialEq, Eq)]
 pub enum Call {
     Permute,
@@ -34,7 +40,7 @@ pub struct Signature {
     pub number: Option<&'static str>,
     pub buffers: &'static [&'static str],
     pub written: usize,
-    /// The numbers that go out, through pointers or in a struct.
+    /// The numbers that go out beside it, in a struct.
     pub outs: &'static [&'static str],
     /// Every answer it can give: a test that misses one has not tested it.
     pub outcomes: &'static [&'static str],
@@ -132,7 +138,7 @@ pub static SIGNATURES: [Signature; 16] = [
         buffers: &["stream", "key", "font", "line"],
         written: 1,
         outs: &[
-            "first", "closing", "length", "calls", "edition", "job", "given",
+            "first", "closing", "length", "calls", "edition", "job", "outcome",
         ],
         outcomes: &[
             "line", "line A", "line B", "end", "2", "3", "4", "10", "7", "6", "8", "15", "5", "9",
@@ -232,18 +238,16 @@ pub struct Case {
     /// For the calls that know layouts.
     pub layout: Layout,
     pub buffers: Vec<Buffer>,
-    /// What stands in every number that goes out, before the call.
-    pub before: usize,
 }
 
 /// What a call leaves behind. `number` is 0 where the call returns none.
 #[derive(PartialEq, Eq)]
 pub struct Answer {
-    pub number: u32,
+    pub number: usize,
     pub outs: Vec<usize>,
     /// The bytes of every buffer, in order.
     pub after: Vec<Vec<u8>>,
-    /// Names of buffers and numbers beside which something was written.
+    /// Names of buffers beside which something was written.
     pub strayed: Vec<&'static str>,
 }
 
@@ -268,8 +272,8 @@ impl Answer {
             (Call::BundleName, [_, length]) | (Call::BundleRows, [_, length]) => {
                 if *length > 0 { "part" } else { "none" }.to_string()
             }
-            (Call::Read, [.., given]) if *given > 0 => "line".to_string(),
-            (Call::Read, _) if self.number == 0 => "end".to_string(),
+            (Call::Read, [.., LINE]) => "line".to_string(),
+            (Call::Read, [.., END]) => "end".to_string(),
             _ => self.number.to_string(),
         }
     }

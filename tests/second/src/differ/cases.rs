@@ -58,7 +58,6 @@ pub fn case(chance: &mut Chance, stock: &Stock) -> Case {
         asked: asked(chance),
         layout: layout(chance, stock.layout),
         buffers,
-        before: chance.word() as usize,
     };
     match chance.below(200) {
         0 => make_vast(chance, &mut case),

@@ -1,7 +1,7 @@
 //! A case answered by the static library, through include/lubdhvani.h.
 
 use crate::calls::{Answer, Call, Case};
-use crate::memory::{Ground, Put, Slot, Stand};
+use crate::memory::{Ground, Put, Stand};
 
 #[link(name = "lubdhvani", kind = "static")]
 extern "C" {
@@ -13,8 +13,7 @@ extern "C" {
         message_length: usize,
         out: *mut u8,
         room: usize,
-        calls: *mut usize,
-    ) -> u32;
+    ) -> Counted;
     fn lubdhvani_seal(
         instance: usize,
         key: *const u8,
@@ -29,8 +28,7 @@ extern "C" {
         room: usize,
         seal: *mut u8,
         seal_length: usize,
-        calls: *mut usize,
-    ) -> u32;
+    ) -> Counted;
     fn lubdhvani_open(
         instance: usize,
         key: *const u8,
@@ -45,8 +43,7 @@ extern "C" {
         seal_length: usize,
         out: *mut u8,
         room: usize,
-        calls: *mut usize,
-    ) -> u32;
+    ) -> Counted;
     fn lubdhvani_write(
         key: *const u8,
         key_length: usize,
@@ -59,9 +56,7 @@ extern "C" {
         line_length: usize,
         frame: *mut u8,
         room: usize,
-        length: *mut usize,
-        calls: *mut usize,
-    ) -> u32;
+    ) -> Framed;
     fn lubdhvani_write_two(
         key: *const u8,
         key_length: usize,
@@ -76,16 +71,19 @@ extern "C" {
         line_length: usize,
         frame: *mut u8,
         room: usize,
-        length: *mut usize,
-        calls: *mut usize,
-    ) -> u32;
-    fn lubdhvani_next_stretch(
+    ) -> Framed;
+    pub fn lubdhvani_accept(
         stream: *const u8,
         stream_length: usize,
-        from: usize,
-        first: *mut usize,
-        closing: *mut usize,
-    );
+        key: *const u8,
+        key_length: usize,
+        font: *const u8,
+        font_length: usize,
+        editions: usize,
+        layout: usize,
+    ) -> Accepted;
+    pub fn lubdhvani_nonce(stretch: *const u8, stretch_length: usize) -> NonceFound;
+    fn lubdhvani_next_stretch(stream: *const u8, stream_length: usize, from: usize) -> Span;
     fn lubdhvani_read(
         stream: *const u8,
         stream_length: usize,
@@ -110,8 +108,7 @@ extern "C" {
         nonce_length: usize,
         frame: *mut u8,
         room: usize,
-        length: *mut usize,
-    ) -> u32;
+    ) -> Measured;
     pub fn lubdhvani_to_two(
         stretch: *const u8,
         stretch_length: usize,
@@ -126,8 +123,7 @@ extern "C" {
         job_length: usize,
         frame: *mut u8,
         room: usize,
-        length: *mut usize,
-    ) -> u32;
+    ) -> Measured;
     fn lubdhvani_bundle_write(
         name: *const u8,
         name_length: usize,
@@ -135,31 +131,37 @@ extern "C" {
         rows_length: usize,
         bundle: *mut u8,
         room: usize,
-        length: *mut usize,
-    ) -> u32;
-    fn lubdhvani_bundle_read(bundle: *const u8, bundle_length: usize, length: *mut usize) -> u32;
+    ) -> Measured;
+    fn lubdhvani_bundle_read(bundle: *const u8, bundle_length: usize) -> Measured;
     fn lubdhvani_bundle_digest(
         bundle: *const u8,
         bundle_length: usize,
         out: *mut u8,
         room: usize,
     ) -> u32;
-    fn lubdhvani_bundle_name(
-        bundle: *const u8,
-        bundle_length: usize,
-        first: *mut usize,
-        length: *mut usize,
-    );
-    fn lubdhvani_bundle_rows(
-        bundle: *const u8,
-        bundle_length: usize,
-        character: u8,
-        first: *mut usize,
-        length: *mut usize,
-    );
+    fn lubdhvani_bundle_name(bundle: *const u8, bundle_length: usize) -> Part;
+    fn lubdhvani_bundle_rows(bundle: *const u8, bundle_length: usize, character: u8) -> Part;
 }
 
-/// The structs of the header.
+// The structs of the header.
+
+/// What accepting a stream gives.
+#[repr(C)]
+#[derive(Clone, Copy, Debug, PartialEq, Eq)]
+pub struct Accepted {
+    pub number: usize,
+    pub first: usize,
+    pub closing: usize,
+}
+
+/// The nonce of a stretch.
+#[repr(C)]
+#[derive(Clone, Copy, Debug, PartialEq, Eq)]
+pub struct NonceFound {
+    pub found: u32,
+    pub bytes: [u8; 12],
+}
+
 #[repr(C)]
 struct Anew {
     editions: usize,
@@ -168,15 +170,46 @@ struct Anew {
 }
 
 #[repr(C)]
+pub struct Counted {
+    pub number: usize,
+    pub calls: usize,
+}
+
+#[repr(C)]
+pub struct Measured {
+    pub number: usize,
+    pub length: usize,
+}
+
+#[repr(C)]
+struct Framed {
+    number: usize,
+    length: usize,
+    calls: usize,
+}
+
+#[repr(C)]
+struct Span {
+    first: usize,
+    closing: usize,
+}
+
+#[repr(C)]
+struct Part {
+    first: usize,
+    length: usize,
+}
+
+#[repr(C)]
 struct Reading {
+    outcome: usize,
+    number: usize,
     first: usize,
     closing: usize,
     length: usize,
     calls: usize,
     edition: usize,
     job: usize,
-    number: u32,
-    given: u32,
 }
 
 /// Memory for every buffer of a call, and a vast one.
@@ -188,26 +221,15 @@ pub struct Grounds {
 /// Puts every buffer of the case into memory, calls, and looks at all of it.
 pub fn answer(case: &Case, grounds: &mut Grounds) -> Answer {
     let puts = put_all(case, grounds);
-    let outs = case.call.signature().outs;
-    let mut slots: Vec<Slot> = outs.iter().map(|_| Slot::new(case.before)).collect();
-    let pointers: Vec<*mut usize> = slots.iter_mut().map(Slot::pointer).collect();
 
     // SAFETY: what the header asks for. Each pointer is to as many bytes as are
     // said, the written ones to memory of their own.
-    let number = unsafe { called(case, &puts, &pointers) };
+    let (number, outs) = unsafe { called(case, &puts) };
 
-    let (after, mut strayed) = left_all(case, &puts, grounds);
-    let mut numbers = Vec::new();
-    for (slot, name) in slots.iter().zip(outs) {
-        let (number, kept) = slot.left();
-        numbers.push(number);
-        if !kept {
-            strayed.push(name);
-        }
-    }
+    let (after, strayed) = left_all(case, &puts, grounds);
     Answer {
         number,
-        outs: numbers,
+        outs,
         after,
         strayed,
     }
@@ -256,78 +278,91 @@ macro_rules! call {
     };
 }
 
-unsafe fn called(case: &Case, puts: &[Put], outs: &[*mut usize]) -> u32 {
+/// The number and what goes out with it, in the order of the signature.
+type Called = (usize, Vec<usize>);
+
+fn plain(number: u32) -> Called {
+    (number as usize, vec![])
+}
+
+fn counted(is: Counted) -> Called {
+    (is.number, vec![is.calls])
+}
+
+fn measured(is: Measured) -> Called {
+    (is.number, vec![is.length])
+}
+
+fn framed(is: Framed) -> Called {
+    (is.number, vec![is.length, is.calls])
+}
+
+fn read(is: Reading) -> Called {
+    let outs = vec![
+        is.first, is.closing, is.length, is.calls, is.edition, is.job, is.outcome,
+    ];
+    (is.number, outs)
+}
+
+fn part(is: Part) -> Called {
+    (0, vec![is.first, is.length])
+}
+
+unsafe fn called(case: &Case, puts: &[Put]) -> Called {
     let layout = case.layout.0;
-    match (case.call, puts, outs) {
-        (Call::Permute, [state], []) => call!(lubdhvani_permute: [state] (case.number)),
-        (Call::Unpermute, [state], []) => call!(lubdhvani_unpermute: [state] (case.number)),
-        (Call::Digest, [message, out], &[calls]) => {
-            call!(lubdhvani_digest: [] (case.number) [message, out] (calls))
+    match (case.call, puts) {
+        (Call::Permute, [state]) => plain(call!(lubdhvani_permute: [state] (case.number))),
+        (Call::Unpermute, [state]) => plain(call!(lubdhvani_unpermute: [state] (case.number))),
+        (Call::Digest, [message, out]) => {
+            counted(call!(lubdhvani_digest: [] (case.number) [message, out] ()))
         }
-        (Call::Seal, [key, nonce, associated, message, out, seal], &[calls]) => {
-            call!(lubdhvani_seal: [] (case.number) [key, nonce, associated, message, out, seal] (calls))
+        (Call::Seal, [key, nonce, associated, message, out, seal]) => counted(
+            call!(lubdhvani_seal: [] (case.number) [key, nonce, associated, message, out, seal] ()),
+        ),
+        (Call::Open, [key, nonce, associated, cipher, seal, out]) => counted(
+            call!(lubdhvani_open: [] (case.number) [key, nonce, associated, cipher, seal, out] ()),
+        ),
+        (Call::Write, [key, nonce, font, line, frame]) => {
+            framed(call!(lubdhvani_write: [key, nonce, font] (layout) [line, frame] ()))
         }
-        (Call::Open, [key, nonce, associated, cipher, seal, out], &[calls]) => {
-            call!(lubdhvani_open: [] (case.number) [key, nonce, associated, cipher, seal, out] (calls))
+        (Call::WriteTwo, [key, nonce, font, job, line, frame]) => {
+            framed(call!(lubdhvani_write_two: [key, nonce, font] (layout) [job, line, frame] ()))
         }
-        (Call::Write, [key, nonce, font, line, frame], &[length, calls]) => {
-            call!(lubdhvani_write: [key, nonce, font] (layout) [line, frame] (length, calls))
+        (Call::NextStretch, [stream]) => {
+            let span = call!(lubdhvani_next_stretch: [stream] (case.number));
+            (0, vec![span.first, span.closing])
         }
-        (Call::WriteTwo, [key, nonce, font, job, line, frame], &[length, calls]) => {
-            call!(lubdhvani_write_two: [key, nonce, font] (layout) [job, line, frame] (length, calls))
-        }
-        (Call::NextStretch, [stream], &[first, closing]) => {
-            call!(lubdhvani_next_stretch: [stream] (case.number, first, closing));
-            0
-        }
-        (
-            Call::Read,
-            [stream, key, font, line],
-            &[first, closing, length, calls, edition, job, given],
-        ) => {
+        (Call::Read, [stream, key, font, line]) => {
             let asked = Anew {
                 editions: case.asked.editions.0 as usize,
                 allowed: case.asked.allowed,
                 layout: case.layout.0,
             };
-            let reading =
-                call!(lubdhvani_read: [stream] (case.number) [key, font] (asked) [line] ());
-            *first = reading.first;
-            *closing = reading.closing;
-            *length = reading.length;
-            *calls = reading.calls;
-            *edition = reading.edition;
-            *job = reading.job;
-            *given = reading.given as usize;
-            reading.number
+            read(call!(lubdhvani_read: [stream] (case.number) [key, font] (asked) [line] ()))
         }
-        (Call::ToOne, [stretch, key, font, nonce, frame], &[length]) => {
-            call!(lubdhvani_to_one: [stretch, key, font] (layout) [nonce, frame] (length))
+        (Call::ToOne, [stretch, key, font, nonce, frame]) => {
+            measured(call!(lubdhvani_to_one: [stretch, key, font] (layout) [nonce, frame] ()))
         }
-        (Call::ToTwo, [stretch, key, font, nonce, job, frame], &[length]) => {
-            call!(lubdhvani_to_two: [stretch, key, font] (layout) [nonce, job, frame] (length))
+        (Call::ToTwo, [stretch, key, font, nonce, job, frame]) => {
+            measured(call!(lubdhvani_to_two: [stretch, key, font] (layout) [nonce, job, frame] ()))
         }
-        _ => bundle_called(case, puts, outs),
+        _ => bundle_called(case, puts),
     }
 }
 
 /// The calls of a bundle.
-unsafe fn bundle_called(case: &Case, puts: &[Put], outs: &[*mut usize]) -> u32 {
-    match (case.call, puts, outs) {
-        (Call::BundleWrite, [name, rows, bundle], &[length]) => {
-            call!(lubdhvani_bundle_write: [name, rows, bundle] (length))
+unsafe fn bundle_called(case: &Case, puts: &[Put]) -> Called {
+    match (case.call, puts) {
+        (Call::BundleWrite, [name, rows, bundle]) => {
+            measured(call!(lubdhvani_bundle_write: [name, rows, bundle] ()))
         }
-        (Call::BundleRead, [bundle], &[length]) => call!(lubdhvani_bundle_read: [bundle] (length)),
-        (Call::BundleDigest, [bundle, out], &[]) => {
-            call!(lubdhvani_bundle_digest: [bundle, out] ())
+        (Call::BundleRead, [bundle]) => measured(call!(lubdhvani_bundle_read: [bundle] ())),
+        (Call::BundleDigest, [bundle, out]) => {
+            plain(call!(lubdhvani_bundle_digest: [bundle, out] ()))
         }
-        (Call::BundleName, [bundle], &[first, length]) => {
-            call!(lubdhvani_bundle_name: [bundle] (first, length));
-            0
-        }
-        (Call::BundleRows, [bundle], &[first, length]) => {
-            call!(lubdhvani_bundle_rows: [bundle] (case.number as u8, first, length));
-            0
+        (Call::BundleName, [bundle]) => part(call!(lubdhvani_bundle_name: [bundle] ())),
+        (Call::BundleRows, [bundle]) => {
+            part(call!(lubdhvani_bundle_rows: [bundle] (case.number as u8)))
         }
         _ => unreachable!("a case has its call's buffers"),
     }

@@ -1,10 +1,13 @@
 //! Calls the static library and the second program with the same arguments,
 //! chosen by chance, and compares all that each leaves behind.
 
+mod accept;
 mod back;
 mod bundles;
 mod calls;
 mod cases;
+mod index;
+mod joined;
 mod library;
 mod memory;
 mod reference;
@@ -57,7 +60,7 @@ fn main() {
 }
 
 /// Both sides' memory, and the stock last used.
-struct Bench {
+pub struct Bench {
     seed: u64,
     grounds: Grounds,
     stock: (u64, Stock),
@@ -115,8 +118,11 @@ fn differ(seed: u64, count: u64) -> bool {
     let complete = tally.print();
     let fed = running::differ(seed, count / running::SERVES);
     let back = back::differ(seed, count / back::SERVES);
+    let accepted = accept::differ(seed, count / accept::SERVES);
+    let joined = joined::differ(&mut bench, seed, count / joined::SERVES);
+    let indexed = index::differ(seed, count / index::SERVES);
     println!("differ: {} calls, {} differ", count, differing);
-    differing == 0 && complete && fed && back
+    differing == 0 && complete && fed && back && accepted && joined && indexed
 }
 
 /// How often each answer of each call was met.

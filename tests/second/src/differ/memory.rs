@@ -181,27 +181,3 @@ pub const VAST_BYTES: usize = 8192;
 fn canary(place: usize) -> u8 {
     (place as u8).wrapping_mul(37) ^ 0xa5
 }
-
-/// A number to be written by a call, between words that must not be.
-pub struct Slot([usize; 9]);
-
-impl Slot {
-    const OWN: usize = 4;
-
-    pub fn new(before: usize) -> Slot {
-        let mut words = [usize::from_ne_bytes([0xa5; 8]); 9];
-        words[Slot::OWN] = before;
-        Slot(words)
-    }
-
-    pub fn pointer(&mut self) -> *mut usize {
-        // SAFETY: a word of the array; made from the whole, not from the word.
-        unsafe { self.0.as_mut_ptr().add(Slot::OWN) }
-    }
-
-    /// The number now, and whether all words beside it are as they were.
-    pub fn left(&self) -> (usize, bool) {
-        let fresh = Slot::new(self.0[Slot::OWN]);
-        (self.0[Slot::OWN], self.0 == fresh.0)
-    }
-}

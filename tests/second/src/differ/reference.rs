@@ -2,12 +2,12 @@
 
 use std::ops::Range;
 
-use crate::calls::{Answer, Call, Case};
+use crate::calls::{Answer, Call, Case, CALL_REFUSED, END, LINE, STRETCH_REFUSED};
 use crate::memory::Ground;
 use second::convert::convert;
 use second::frame::Own;
 use second::numbers::DONE;
-use second::reader::read;
+use second::reader::{read, Reading};
 use second::told::Told;
 use second::{bundle, cipher, digest, frame, permutation, stream};
 
@@ -32,7 +32,7 @@ pub fn answer(case: &Case, vast: &mut Ground) -> Answer {
     }
 }
 
-fn answered(case: &Case, lent: &mut [&mut [u8]]) -> (u32, Vec<usize>) {
+fn answered(case: &Case, lent: &mut [&mut [u8]]) -> (usize, Vec<usize>) {
     let layout = case.layout;
     match (case.call, lent) {
         (Call::Permute, [state]) => (permutation::permute(state, case.number).into(), vec![]),
@@ -77,7 +77,7 @@ fn answered(case: &Case, lent: &mut [&mut [u8]]) -> (u32, Vec<usize>) {
                 reading.count,
                 reading.edition.into(),
                 reading.job as usize,
-                usize::from(reading.number == DONE && !reading.end),
+                outcome(&reading),
             ];
             (reading.number.into(), outs)
         }
@@ -100,8 +100,18 @@ fn answered(case: &Case, lent: &mut [&mut [u8]]) -> (u32, Vec<usize>) {
     }
 }
 
+/// The call's own refusals are 2, 3, 4 and 10; every other is a stretch's.
+fn outcome(reading: &Reading) -> usize {
+    match reading.number {
+        DONE if reading.end => END,
+        DONE => LINE,
+        2 | 3 | 4 | 10 => CALL_REFUSED,
+        _ => STRETCH_REFUSED,
+    }
+}
+
 /// The calls of a bundle.
-fn bundle_answered(case: &Case, lent: &mut [&mut [u8]]) -> (u32, Vec<usize>) {
+fn bundle_answered(case: &Case, lent: &mut [&mut [u8]]) -> (usize, Vec<usize>) {
     let placed = |part: Range<usize>| (0, vec![part.start, part.len()]);
     match (case.call, lent) {
         (Call::BundleWrite, [name, rows, out]) => {

@@ -1,6 +1,7 @@
 //! The running digest: calls in sequence on one record, the library's beside
 //! the second program's. After each call every byte of the record is compared.
 
+use crate::library::Counted;
 use second::chance::Chance;
 use second::digest::{digest, instances, sizes};
 use second::numbers::{DIGEST, MESSAGE_LIMIT};
@@ -11,7 +12,7 @@ use second::text::value;
 extern "C" {
     fn lubdhvani_start(running: *mut Record, instance: usize) -> u32;
     fn lubdhvani_feed(running: *mut Record, bytes: *const u8, length: usize) -> u32;
-    fn lubdhvani_finish(running: *mut Record, out: *mut u8, room: usize, calls: *mut usize) -> u32;
+    fn lubdhvani_finish(running: *mut Record, out: *mut u8, room: usize) -> Counted;
 }
 
 /// One sequence for so many of the other calls.
@@ -22,7 +23,7 @@ const MOST_STEPS: usize = 12;
 const BESIDE: usize = 8;
 
 /// What each call can answer: a run that misses one has not tried it.
-const OUTCOMES: [(&str, &[u32]); 3] = [
+const OUTCOMES: [(&str, &[usize]); 3] = [
     ("lubdhvani_start", &[0, 1]),
     ("lubdhvani_feed", &[0, 14, 1, 3]),
     ("lubdhvani_finish", &[0, 14, 1, 4]),
@@ -43,7 +44,7 @@ struct Pair {
     lent: Lent,
     record: Record,
     message: Option<Vec<u8>>,
-    met: Vec<(usize, u32)>,
+    met: Vec<(usize, usize)>,
 }
 
 impl Pair {
@@ -61,9 +62,9 @@ impl Pair {
     }
 
     /// Both answered the same number, and the records are the same.
-    fn same(&mut self, call: usize, library: u32, reference: u8) -> bool {
+    fn same(&mut self, call: usize, library: usize, reference: u8) -> bool {
         self.met.push((call, library));
-        library == u32::from(reference)
+        library == usize::from(reference)
             && self.lent.before == PAINT
             && self.lent.behind == PAINT
             && self.lent.record.bytes() == self.record.bytes()
@@ -79,7 +80,7 @@ impl Pair {
         if reference == 0 {
             self.message = Some(Vec::new());
         }
-        self.same(0, library, reference)
+        self.same(0, library as usize, reference)
     }
 
     fn feed(&mut self, chance: &mut Chance) -> bool {
@@ -101,25 +102,23 @@ impl Pair {
         if let (0, Some(message)) = (reference, &mut self.message) {
             message.extend(&bytes);
         }
-        self.same(1, library, reference)
+        self.same(1, library as usize, reference)
     }
 
     fn finish(&mut self, chance: &mut Chance) -> bool {
         let room = chance.one_of(&[0, DIGEST - 1, DIGEST, DIGEST, DIGEST, DIGEST + 9]);
         let mut ours = chance.bytes(room);
         let mut theirs = ours.clone();
-        let mut calls = usize::MAX;
-        // SAFETY: record, buffer and count are this pair's alone.
-        let library =
-            unsafe { lubdhvani_finish(&mut self.lent.record, ours.as_mut_ptr(), room, &mut calls) };
+        // SAFETY: record and buffer are this pair's alone.
+        let library = unsafe { lubdhvani_finish(&mut self.lent.record, ours.as_mut_ptr(), room) };
         let reference = finish(&mut self.record, &mut theirs);
-        let mut holds = ours == theirs && calls == reference.count;
+        let mut holds = ours == theirs && library.calls == reference.count;
         if let (0, Some(message)) = (reference.number, self.message.take()) {
             let mut whole = ours.clone();
             let answer = digest(self.record.instance as usize, &message, &mut whole);
             holds = holds && whole == ours && answer == reference;
         }
-        self.same(2, library, reference.number) && holds
+        self.same(2, library.number, reference.number) && holds
     }
 
     /// Fields of the record changed behind the calls' backs, the same in both.

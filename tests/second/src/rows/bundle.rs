@@ -1,4 +1,4 @@
-//! `bundle_rows`: one call and one row for each case of the case file: bundles
+//! `rows_bundle`: one call and one row for each case of the case file: bundles
 //! written, read, digested and taken in parts, each refusal alone and in pairs,
 //! and a bundle cut, lengthened and damaged.
 

@@ -1,4 +1,4 @@
-//! `seal_rows`: one call and one row for each case of the case file, which seals,
+//! `rows_seal`: one call and one row for each case of the case file, which seals,
 //! opens, writes a frame or converts a stretch.
 
 use std::fmt::Write;

@@ -1,4 +1,4 @@
-//! `digest_rows`: every instance over the lengths around its blocks and the
+//! `rows_digest`: every instance over the lengths around its blocks and the
 //! limits, then the refusals, then a buffer longer than the digest: one call and
 //! one row for each case of the case file.
 

@@ -1,6 +1,7 @@
 //! The expected outputs of the product's test programs, one file of rows each.
 //! Where a test program reads cases, its standard input is made here too.
 
+mod accept;
 mod beat;
 mod bundle;
 mod call;
@@ -49,18 +50,20 @@ impl Rows {
 }
 
 pub fn all() -> Vec<Rows> {
+    let (acceptances, accept_rows) = accept::stdin_and_rows();
     let (bundles, bundle_rows) = bundle::stdin_and_rows();
     let (digests, digest_rows) = digest::stdin_and_rows();
     let (runnings, running_rows) = running::stdin_and_rows();
     let (sealings, seal_rows) = call::stdin_and_rows();
     let (readings, stream_rows) = stream::stdin_and_rows();
     vec![
-        Rows::of_cases("bundle_rows", bundles, bundle_rows),
-        Rows::of_cases("digest_rows", digests, digest_rows),
-        Rows::printed("permute_rows", permute::rows()),
-        Rows::of_cases("running_rows", runnings, running_rows),
-        Rows::of_cases("seal_rows", sealings, seal_rows),
-        Rows::of_cases("stream_rows", readings, stream_rows),
+        Rows::of_cases("rows_accept", acceptances, accept_rows),
+        Rows::of_cases("rows_bundle", bundles, bundle_rows),
+        Rows::of_cases("rows_digest", digests, digest_rows),
+        Rows::printed("rows_permute", permute::rows()),
+        Rows::of_cases("rows_running", runnings, running_rows),
+        Rows::of_cases("rows_seal", sealings, seal_rows),
+        Rows::of_cases("rows_stream", readings, stream_rows),
     ]
 }
 

@@ -1,13 +1,14 @@
-//! `permute_rows`: whether expression 1.2 gives the products of the table, the
+//! `rows_permute`: whether expression 1.2 gives the products of the table, the
 //! permutation and its inverse at every permitted size and a few counts of
-//! rounds over three states, and what is refused: counts that are no rounds, and
-//! sizes that are not permitted.
+//! rounds over three states, the first round as the substitution that it is, and
+//! what is refused: counts that are no rounds, and sizes that are not permitted.
 
 use std::fmt::Write;
 
 use super::by_rule;
 use crate::permutation::{permute, unpermute, PERMITTED, ROUNDS};
-use crate::substitution::products_agree;
+use crate::readings::Convention;
+use crate::substitution::{products_agree, substitute};
 use crate::text::hex;
 
 const NOT_PERMITTED: [usize; 5] = [0, 28, 31, 65, 73];
@@ -58,9 +59,15 @@ fn permuted(rows: &mut String, n: usize, k: usize) {
         let mut there = state.clone();
         permute(&mut there, k);
         writeln!(rows, "permute {} {} {} {}", n, k, kind, hex(&there)).unwrap();
-        let mut back = state;
+        let mut back = state.clone();
         unpermute(&mut back, k);
         writeln!(rows, "unpermute {} {} {} {}", n, k, kind, hex(&back)).unwrap();
+        if k == 1 {
+            let mut bytes = state;
+            substitute(Convention::Document01, 0, &mut bytes);
+            let kept = same(bytes == there);
+            writeln!(rows, "substitute {} {} {} {}", n, kind, hex(&bytes), kept).unwrap();
+        }
     }
 }
 

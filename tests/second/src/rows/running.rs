@@ -1,4 +1,4 @@
-//! `running_rows`: the running digest (order W4), one call and one row for each
+//! `rows_running`: the running digest (order W4), one call and one row for each
 //! case of the case file, on the record that the call before it left: messages
 //! cut around the blocks of every instance, refusals each alone and several at
 //! once, and records as no feeding leaves them.

@@ -1,4 +1,4 @@
-//! `stream_rows`: every case of the case file read from its place to the end
+//! `rows_stream`: every case of the case file read from its place to the end
 //! of the stream, or to a refusal of the call, one row a reading.
 
 use std::fmt::Write;
@@ -156,7 +156,7 @@ impl Case {
 
 /// Where the longest run of one byte value stands: all that long streams have
 /// between their first and last bytes.
-fn longest_run(bytes: &[u8]) -> Range<usize> {
+pub fn longest_run(bytes: &[u8]) -> Range<usize> {
     let mut longest = 0..0;
     let mut start = 0;
     for (at, byte) in bytes.iter().enumerate() {

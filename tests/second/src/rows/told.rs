@@ -16,11 +16,11 @@ pub fn digest() -> Vec<u8> {
     digest_of(DIGEST)
 }
 
-fn key_of(length: usize) -> Vec<u8> {
+pub fn key_of(length: usize) -> Vec<u8> {
     by_rule(length, |i| 0x10 + i)
 }
 
-fn digest_of(length: usize) -> Vec<u8> {
+pub fn digest_of(length: usize) -> Vec<u8> {
     by_rule(length, |i| 3 * i + 1)
 }
 
