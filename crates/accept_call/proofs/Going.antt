@@ -34,7 +34,8 @@ pub record Going (judge : List ℕ → Judged) (s : List ℕ) (all : ℕ) (highs
   pub many : n + length (readings judge s from) ≡ all
   pub left : acceptFrom s [] (readings judge s 0) ≡ acceptFrom s seen (readings judge s from)
 
-pub going-none : (judge : List ℕ → Judged) (s : List ℕ) (all : ℕ) → all ≡ stretchesIn s → Going judge s all (replicate mostStretches 0) (replicate mostStretches 0) 0 0
+pub going-none : (judge : List ℕ → Judged) (s : List ℕ) (all : ℕ) → all ≡ stretchesIn s → Going judge s all (replicate mostStretches 0)
+    (replicate mostStretches 0) 0 0
 going-none judge s all e = record {
   seen = [];
   kept = kept-none (replicate mostStretches 0) (replicate mostStretches 0);
@@ -83,11 +84,13 @@ module _ {judge : List ℕ → Judged} {s : List ℕ} {all : ℕ} {highs lows : 
       unfolding acceptFrom this
       going-refused d = sym (now-left ∙ rw (← number-is, ne-eqb number 0 d))
 
-      module _ (line : number ≡ 0) (bytes : Below 256 s) (x y : ℕ) (x-is : x ≡ high (nonceOf (bytesAt s p))) (y-is : y ≡ low (nonceOf (bytesAt s p))) (r : Bool) (r-is : r ≡ pairIn highs lows x y 0 n) where
+      module _ (line : number ≡ 0) (bytes : Below 256 s) (x y : ℕ) (x-is : x ≡ high (nonceOf (bytesAt s p))) (y-is : y ≡ low (nonceOf (bytesAt s p)))
+          (r : Bool) (r-is : r ≡ pairIn highs lows x y 0 n) where
         met-is : r ≡ met (g .seen) (nonceOf (bytesAt s p))
         met-is =
             r-is ∙ ap₂ (λ (u v : ℕ). pairIn highs lows u v 0 n) x-is y-is
-            ∙ kept-met highs lows (nonceOf (bytesAt s p)) (nonce-twelve (bytesAt s p) (below-take 256 (p .closing - p .first) _ (below-drop 256 (p .first) s bytes))) (g .kept)
+            ∙ kept-met highs lows (nonceOf (bytesAt s p)) (nonce-twelve (bytesAt s p) (below-take 256 (p .closing - p .first) _
+            (below-drop 256 (p .first) s bytes))) (g .kept)
 
         pub going-repeated : r ≡ true → at p answer-is.Repeated ≡ acceptFrom s [] (readings judge s 0)
         unfolding acceptFrom this

@@ -60,7 +60,8 @@ front (a ∷ l) (suc i) n x rest e =
     record { inside = omega (arith, f .inside); first = f .first; behind = f .behind }
 
 module _ (highs lows : List ℕ) (n : List ℕ) (t : Twelve n) where
-  from-place : (seen : List (List ℕ)) (i : ℕ) → AllTwelve seen → take (length seen) (drop i highs) ≡ map high seen → take (length seen) (drop i lows) ≡ map low seen
+  from-place : (seen : List (List ℕ)) (i : ℕ) → AllTwelve seen → take (length seen) (drop i highs) ≡ map high seen
+      → take (length seen) (drop i lows) ≡ map low seen
       → pairIn highs lows (high n) (low n) i (length seen) ≡ met seen n
   unfolding pairIn pairAt met
   from-place [] i a p q = refl

@@ -29,7 +29,8 @@ use Rattle.accept_runs.specs.Promises.{Tells}
 framed-nonce : (t : Told) (own : Own) (L b : List ℕ) → Accepts t own L → frameOf t own L ≡ marked b → nonceAnswer b ≡ record { found = 1; bytes = own .nonce }
 framed-nonce t own L b a e =
     ap nonceAnswer (sym (between t b own L e))
-    ∙ line-nonce t both (stuffed (sealedBody t own L)) own L (length L + besideLine (own .edition)) (written-given t both own L a (allows-only (own .edition) .1))
+    ∙ line-nonce t both (stuffed (sealedBody t own L)) own L (length L + besideLine (own .edition))
+    (written-given t both own L a (allows-only (own .edition) .1))
 
 -- so of every frame that a write call made it is the nonce that the call was told
 pub frame-nonce : (t : Told) (own : Own) (L b : List ℕ) → Makes t own L (marked b) → nonceAnswer b ≡ record { found = 1; bytes = own .nonce }
@@ -39,7 +40,8 @@ pub record NonceOf (b : List ℕ) (n : Nonce) : Type 0 where
   pub found : n .found ≡ 1
   pub every-frame : (t : Told) (own : Own) (L : List ℕ) → Makes t own L (marked b) → n .bytes ≡ own .nonce
 
-module _ (key font : List ℕ) (asked : Asked) (s : List ℕ) (bytes : Below 256 s) (from : ℕ) (l : List ℕ) (r : Reading) (l′ : List ℕ) (c : Reads key font asked s from l r l′) where
+module _ (key font : List ℕ) (asked : Asked) (s : List ℕ) (bytes : Below 256 s) (from : ℕ) (l : List ℕ) (r : Reading) (l′ : List ℕ)
+    (c : Reads key font asked s from l r l′) where
   pub nonce-of-line : (p q : ℕ) (b : Label) (n k : ℕ) → r ≡ gives p q b n k → (x : Nonce) → Tells (bytesAt s (span p q)) x
       → NonceOf (bytesAt s (span p q)) x × Made key font (asked .layout) (asked .editions) b (take n l′) k (bytesAt s (span p q))
   nonce-of-line p q b n k e x y =

@@ -29,7 +29,8 @@ module _ (t : Told) (ed : ℕ) (s : List ℕ) where
   pub accept-case : Case (acceptAnswer t ed s)
   unfolding acceptAnswer sizedTold
   accept-case =
-      go (eqb (length (t .key)) keyLength) refl (eqb (length (t .font)) digestLength) refl (ltb longestStream (length s)) refl (ltb mostStretches (stretchesIn s)) refl
+      go (eqb (length (t .key)) keyLength) refl (eqb (length (t .font)) digestLength) refl (ltb longestStream (length s)) refl
+      (ltb mostStretches (stretchesIn s)) refl
     where
       go : (a : Bool) → eqb (length (t .key)) keyLength ≡ a → (b : Bool) → eqb (length (t .font)) digestLength ≡ b
           → (c : Bool) → ltb longestStream (length s) ≡ c → (d : Bool) → ltb mostStretches (stretchesIn s) ≡ d
@@ -43,10 +44,12 @@ module _ (t : Told) (ed : ℕ) (s : List ℕ) where
       go true w true x false y true z = many
       go true w true x false y false z =
           judged (record { key-is = eqb-true (length (t .key)) keyLength w; font-is = eqb-true (length (t .font)) digestLength x })
-          (ltb-false longestStream (length s) y) (omega (arith, ltb-false mostStretches (stretchesIn s) z, counted (judge t ed) s)) (outcome s (readAll t ed s) [] tt)
+          (ltb-false longestStream (length s) y) (omega (arith, ltb-false mostStretches (stretchesIn s) z, counted (judge t ed) s))
+          (outcome s (readAll t ed s) [] tt)
 
   -- all lines with nonces that differ, within the limits
-  pub good-accepted : Sizes t → length s ≤ longestStream → length (readAll t ed s) ≤ mostStretches → Lines (readAll t ed s) → AllDiffer (noncesOf s (readAll t ed s))
+  pub good-accepted : Sizes t → length s ≤ longestStream → length (readAll t ed s) ≤ mostStretches → Lines (readAll t ed s)
+      → AllDiffer (noncesOf s (readAll t ed s))
       → acceptAnswer t ed s ≡ yes s
   unfolding acceptAnswer sizedTold
   good-accepted z h few l d =

@@ -85,7 +85,8 @@ module _ (s : List ℕ) where
       go : (t : Bool) → eqb (numberIn (r .judged)) 0 ≡ t → (u : Bool) → met seen (nonceAt s r) ≡ u
           → (met seen (nonceAt s r) ≡ false → Outcome (seen ++ (nonceAt s r ∷ [])) rs (acceptFrom s (seen ++ (nonceAt s r ∷ [])) rs))
           → Outcome seen (r ∷ rs)
-          (cond (not t) (at (r .place) (answer-is.Refused (numberIn (r .judged)))) (cond u (at (r .place) answer-is.Repeated) (acceptFrom s (seen ++ (nonceAt s r ∷ [])) rs)))
+          (cond (not t) (at (r .place) (answer-is.Refused (numberIn (r .judged)))) (cond u (at (r .place) answer-is.Repeated)
+          (acceptFrom s (seen ++ (nonceAt s r ∷ [])) rs)))
       go false e u q on = here (refused (eqb-false (numberIn (r .judged)) 0 e))
       go true e true q on = here (repeated (eqb-true (numberIn (r .judged)) 0 e) (met-occurs seen (nonceAt s r) q))
       go true e false q on = one-more seen r rs (eqb-true (numberIn (r .judged)) 0 e) (on q)

@@ -27,7 +27,8 @@ use Rattle.bundle_dots.specs.Lines.{newline, blank, printed, unprinted, lineLen
 use Rattle.bundle_draw.specs.Drawing.{nameWord, wordLength, legible, digitAt, nameLineLength, nameChar, rowChar, charAt, drawingLength, listed, drawing}
 use Rattle.bundle_draw.specs.Listed.{length-listed, getD-listed, listed-agree, listed-self}
 use Rattle.bundle_dots.specs.Faults.{nextRow, fault}
-use Rattle.bundle_draw.specs.Making.{endOf, nameLengthOf, hexValue, nameByte, dotValue, rowByte, rowFrom, nameDrawn, rowsDrawn, faultRow, ofWritten, makeAnswer, makeOut}
+use Rattle.bundle_draw.specs.Making.{endOf, nameLengthOf, hexValue, nameByte, dotValue, rowByte, rowFrom}
+use Rattle.bundle_draw.specs.Making.{nameDrawn, rowsDrawn, faultRow, ofWritten, makeAnswer, makeOut}
 use Rattle.bundle_draw.specs.Drawn.{make-written}
 
 -- a text ends its first line at the first newline
@@ -121,7 +122,8 @@ module _ (name : List ℕ) where
     where
       go : (t : Bool) → ltb i wordLength ≡ t → (u v : Bool)
           → newline < cond t (getD nameWord i 0)
-          (cond u (digitAt name (i - wordLength)) (cond v blank (cond (ltb i (3 * length name + 6)) (legible (getD name (i - (2 * length name + 6)) 0)) newline)))
+          (cond u (digitAt name (i - wordLength)) (cond v blank (cond (ltb i (3 * length name + 6)) (legible (getD name (i - (2 * length name + 6)) 0))
+          newline)))
       go true e u v = word-above i (ltb-true i wordLength e)
       go false e true v =
           digit-above (cond (eqb ((i - wordLength) % 2) 0) (getD name ((i - wordLength) / 2) 0 / 16 % 16) (getD name ((i - wordLength) / 2) 0 % 16))

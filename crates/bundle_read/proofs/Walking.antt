@@ -76,7 +76,8 @@ among-end g b j zero e = refl
 among-end g b j (suc n) e = absurd (omega arith)
 
 module _ (g b : List ℕ) (j n : ℕ) (some : 0 < n) where
-  among-more : among g (glyphsAt n (drop j b)) ≡ cond (same g (take glyphRows (drop (j + rowsAt) b))) true (among g (glyphsAt (n - 1) (drop (j + glyphField) b)))
+  among-more : among g (glyphsAt n (drop j b)) ≡ cond (same g (take glyphRows (drop (j + rowsAt) b))) true
+      (among g (glyphsAt (n - 1) (drop (j + glyphField) b)))
   unfolding among glyphsAt
   among-more = go n some
     where

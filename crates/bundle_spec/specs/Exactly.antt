@@ -11,7 +11,8 @@ use lib.Seq.{length-take-le, take-at, drop-at}
 use borrow.Author.Tests.{eq-eqb, eqb-true}
 use Rattle.base_fields.specs.Fields.{field, Front, value, no-field, front}
 use Rattle.base_fields.specs.Laws.{front-field, front-short, front-stands}
-use Rattle.bundle_spec.specs.Bundles.{nameTag, glyphTag, glyphRows, glyphLength, characters, allRows, takes, glyphFields, bundleOf, dotted, glyphOf, Rows, rows, no-rows, before, behind, rowsOf, Parts, parts, no-parts, named, afterName, partsOf}
+use Rattle.bundle_spec.specs.Bundles.{nameTag, glyphTag, glyphRows, glyphLength, characters, allRows, takes, glyphFields, bundleOf, dotted, glyphOf, Rows}
+use Rattle.bundle_spec.specs.Bundles.{rows, no-rows, before, behind, rowsOf, Parts, parts, no-parts, named, afterName, partsOf}
 use Rattle.bundle_spec.specs.Lengths.{takes-glyph, name-taken, glyph-taken, Fitting}
 
 -- rows have seven dots exactly if those of both parts have

@@ -11,7 +11,8 @@ use borrow.Author.Tests.{eq-eqb, le-leb, eqb-true, leb-true}
 use Rattle.base_lists.specs.Never.{never}
 use Rattle.base_fields.specs.Fields.{field}
 use Rattle.base_fields.specs.Laws.{length-field}
-use Rattle.bundle_spec.specs.Bundles.{nameTag, glyphTag, shortestName, longestName, glyphRows, glyphLength, characters, allRows, takes, glyphFields, bundleOf, dotted, fitting}
+use Rattle.bundle_spec.specs.Bundles.{nameTag, glyphTag, shortestName, longestName, glyphRows, glyphLength, characters}
+use Rattle.bundle_spec.specs.Bundles.{allRows, takes, glyphFields, bundleOf, dotted, fitting}
 
 -- a glyph's field whole: its head, its character and its rows
 abbrev pub glyphField : ℕ

@@ -74,6 +74,7 @@ pub write-length-single : (κs : Lfts 0) (a : Dens κs write-length-kinds.ps) (r
     → write-length-reads.Post κs a r x → write-length-reads.Post κs a r′ x′ → r ≡ r′
 write-length-single κs a r r′ x x′ p q = p ∙ sym q
 
-pub digest-number-single : (κs : Lfts 0) (a : Dens κs digest-number-kinds.ps) (r r′ : ℕ) (x x′ : AtExit (endedOf 0 digest-number-kinds.ps digest-number-kinds.r) κs)
+pub digest-number-single : (κs : Lfts 0) (a : Dens κs digest-number-kinds.ps) (r r′ : ℕ) (x x′ : AtExit
+    (endedOf 0 digest-number-kinds.ps digest-number-kinds.r) κs)
     → digest-number-reads.Post κs a r x → digest-number-reads.Post κs a r′ x′ → r ≡ r′
 digest-number-single κs a r r′ x x′ p q = p ∙ sym q

@@ -30,7 +30,8 @@ use Rattle.bundle_read.specs.Exactly.{Bundled, written-read, read-written, read
 use Rattle.bundle_write.specs.declared.Written.{Written}
 use Rattle.bundle_write.specs.declared.Written.the-variants as written-is
 use Rattle.bundle_write.specs.declared.Digested.the-variants as digested-is
-use Rattle.bundle_write.specs.Answers.{writeAnswer, writeOut, fontInstance, bundleDigest, nameBy, namePart, glyphPart, rowsBy, rowsPart, partOf, nameIn, rowsIn, digestAnswer, digestOut}
+use Rattle.bundle_write.specs.Answers.{writeAnswer, writeOut, fontInstance, bundleDigest, nameBy, namePart, glyphPart}
+use Rattle.bundle_write.specs.Answers.{rowsBy, rowsPart, partOf, nameIn, rowsIn, digestAnswer, digestOut}
 use Rattle.bundle_write.specs.Steps.{givenAnswer, givenOut, fontAnswer, fontOut}
 use Rattle.bundle_write.specs.Order.{given, of-bundle}
 

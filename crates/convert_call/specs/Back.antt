@@ -58,7 +58,8 @@ took t own s f n = by-sizes (sizesRight t own) refl (ltb (length f) (frameRoom (
     named : Edition
     named = other (own .edition)
 
-    by-sort : sizesRight t own ≡ true → frameRoom (own .edition) ≤ length f → (x : Sorted) → sorted t named s ≡ x → bySort t own x f .answer ≡ converted-is.Done n → Took t own s f
+    by-sort : sizesRight t own ≡ true → frameRoom (own .edition) ≤ length f → (x : Sorted) → sorted t named s ≡ x
+        → bySort t own x f .answer ≡ converted-is.Done n → Took t own s f
     by-sort r h misnamed i e = absurd (let z : _≡_ {A = ℕ} 0 1 = cc e in omega arith)
     by-sort r h (judged j) i e = by-judged j i e
       where
@@ -81,7 +82,8 @@ took t own s f n = by-sizes (sizesRight t own) refl (ltb (length f) (frameRoom (
     by-sizes false r y h e = absurd (let z : _≡_ {A = ℕ} 0 1 = cc e in omega arith)
 
 -- the stretch between the marks of a frame is of its edition
-frame-held : (t : Told) (own : Own) (L : List ℕ) → Accepts t own L → held (stuffed (sealedBody t own L)) ≡ fields own (t .font) (sealedLine t own L .text) (sealedLine t own L .seal)
+frame-held : (t : Told) (own : Own) (L : List ℕ) → Accepts t own L → held (stuffed (sealedBody t own L))
+    ≡ fields own (t .font) (sealedLine t own L .text) (sealedLine t own L .seal)
 unfolding held sealedBody
 frame-held t own L a =
     rw (length-good (stuffed (sealedBody t own L)) (stretch-within (a .sealable)) (stuff-well (sealedBody t own L)))

@@ -51,7 +51,8 @@ module _ (t : Told) (own : Own) (s f : List ℕ) where
   unfolding sorted
   sorted-beside named = go (lengthAnswer s)
     where
-      go : (u : Unstuffed) → Beside (sortStuffing u (sortFields t named (fieldsOf (unstuffed s)))) (sortStuffing u (sortFields bare named (fieldsOf (unstuffed s))))
+      go : (u : Unstuffed) → Beside (sortStuffing u (sortFields t named (fieldsOf (unstuffed s))))
+          (sortStuffing u (sortFields bare named (fieldsOf (unstuffed s))))
       go unstuffed-is.TooLong = equal (judged shape)
       go unstuffed-is.NoRoom = equal (judged shape)
       go unstuffed-is.Bad = equal (judged stuffing)

@@ -24,7 +24,8 @@ use Rattle.read_spec.specs.Editions.{allows, only, among}
 use Rattle.read_spec.specs.Judged.{shape, stuffing, font, work, seal, unlisted, trade, layout, line}
 use Rattle.read_spec.specs.Judging.{judgeFields, byStuffing, judge, heldBy, held}
 use Rattle.convert_spec.specs.declared.Converted.the-variants as converted-is
-use Rattle.convert_spec.specs.Answers.{other, sameEdition, otherThan, Sorted, misnamed, judged, sortFields, sortStuffing, sorted, foundOf, refused, bySort, convertCall}
+use Rattle.convert_spec.specs.Answers.{other, sameEdition, otherThan, Sorted, misnamed, judged, sortFields}
+use Rattle.convert_spec.specs.Answers.{sortStuffing, sorted, foundOf, refused, bySort, convertCall}
 
 -- the edition named is allowed to a reader of it alone, and the other is not
 same-allows : (e e′ : Edition) → sameEdition e e′ ≡ allows (only e) e′
@@ -40,7 +41,8 @@ module _ (t : Told) (named : Edition) where
   by-fields (fields own digest cipher T) h = go (sameEdition named (own .edition)) refl h
     where
       go : (b : Bool) → sameEdition named (own .edition) ≡ b → not b ≡ false
-          → cond (not b) misnamed (judged (judgeFields t (fields own digest cipher T))) ≡ judged (judgeFields t (among (only named) (fields own digest cipher T)))
+          → cond (not b) misnamed (judged (judgeFields t (fields own digest cipher T))) ≡ judged
+          (judgeFields t (among (only named) (fields own digest cipher T)))
       go true e n = rw (sym (same-allows named (own .edition)) ∙ e)
       go false e n = never (sym n)
 
@@ -82,7 +84,8 @@ pub sizes-told : (t : Told) (own : Own) → sizesRight t own ≡ true → Sizes 
 unfolding sizesRight
 sizes-told t own = go (eqb (length (t .key)) keyLength) refl (eqb (length (own .nonce)) nonceLength) (eqb (length (own .job)) (jobSize (own .edition)))
   where
-    go : (x : Bool) → eqb (length (t .key)) keyLength ≡ x → (y v : Bool) → cond x (cond y (cond v (eqb (length (t .font)) digestLength) false) false) false ≡ true → Sizes t
+    go : (x : Bool) → eqb (length (t .key)) keyLength ≡ x → (y v : Bool) → cond x (cond y (cond v (eqb (length (t .font)) digestLength) false) false) false
+        ≡ true → Sizes t
     go true p true true e = record { key-is = eqb-true (length (t .key)) keyLength p; font-is = eqb-true (length (t .font)) digestLength e }
     go true p true false e = never e
     go true p false v e = never e

@@ -16,7 +16,8 @@ use Rattle.frame_spec.specs.Told.{Told}
 use Rattle.frame_spec.specs.Frames.{sealedBody}
 use Rattle.frame_spec.specs.Lengths.{besideLine, sealed-body-lengths}
 use Rattle.read_spec.specs.Sizes.{Sizes}
-use Rattle.read_spec.specs.Judged.{Label, labelOf, noLabel, labelIn, lineIn, numberIn, callsIn, Judged, shape, stuffing, font, work, seal, unlisted, trade, layout, line}
+use Rattle.read_spec.specs.Judged.{Label, labelOf, noLabel, labelIn, lineIn, numberIn, callsIn, Judged, shape}
+use Rattle.read_spec.specs.Judged.{stuffing, font, work, seal, unlisted, trade, layout, line}
 use Rattle.read_spec.specs.Judging.{judge}
 use Rattle.read_readings.specs.Readings.{reading}
 use Rattle.demand_reading.specs.Promises.{Seen}

@@ -24,7 +24,8 @@ use Rattle.demand_reading.specs.Promises.{Seen, Run}
 use Rattle.demand_reading.specs.Reaching.{Ended}
 use Rattle.demand_joined.specs.Seeing.{seenOf, theEnd, seenTo}
 use Rattle.demand_joined.specs.Stretches.{stretches-read}
-use Rattle.demand_joined.specs.Frames.{Frame, inside, countOf, lineAt, frame-marked, length-frame, inside-some, inside-free, inside-judged, count-within, line-seen}
+use Rattle.demand_joined.specs.Frames.{Frame, inside, countOf, lineAt, frame-marked, length-frame}
+use Rattle.demand_joined.specs.Frames.{inside-some, inside-free, inside-judged, count-within, line-seen}
 use Rattle.demand_joined.specs.Fillers.{Refused, Unmade, FillerSeen, a-refusal, its-line, filler-seen}
 
 -- a frame, and the filler behind it

@@ -65,7 +65,8 @@ module _ (key font : List ℕ) (asked : Asked) (s : List ℕ) (p q : ℕ) (b : L
 -- every stretch that a write call makes is given as its line, where its calls are allowed
 pub every-line-given : (key font : List ℕ) (asked : Asked) (b : Label) (L : List ℕ) (k : ℕ) → k ≤ asked .allowed
     → (s : List ℕ) (p q : ℕ) → length s ≤ longestStream → Stretch s p q
-    → Made key font (asked .layout) (asked .editions) b L k (bytesAt s (span p q)) → {seen : List Seen} → Run key font asked s 0 0 seen → Ended seen → SeenGiven p q b L k seen
+    → Made key font (asked .layout) (asked .editions) b L k (bytesAt s (span p q)) → {seen : List Seen} → Run key font asked s 0 0 seen → Ended seen
+    → SeenGiven p q b L k seen
 every-line-given key font asked b L k enough s p q h x made run end =
     let y = written-made key font (asked .layout) (asked .editions) b L k (bytesAt s (span p q)) made .0 .accepts .sealable in
     from-start key font asked s p q b L k (p - 1) (record { key-is = y .key-is; font-is = y .font-is }) h
@@ -73,7 +74,8 @@ every-line-given key font asked b L k enough s p q h x made run end =
     (λ l r l′ g c. written-is-given key font asked b L k enough s p q h x made l r l′ g c) run end
 
 -- and every frame that a write call makes, standing anywhere in a stream within the limit
-module _ (key : List ℕ) (own : Own) (font : List ℕ) (lay : Layout) (L f : List ℕ) (w : Written) (f′ : List ℕ) (p : Writes key own font lay L f w f′) (n k : ℕ) (e : w ≡ written-is.Done n k) where
+module _ (key : List ℕ) (own : Own) (font : List ℕ) (lay : Layout) (L f : List ℕ) (w : Written) (f′ : List ℕ) (p : Writes key own font lay L f w f′) (n k : ℕ)
+    (e : w ≡ written-is.Done n k) where
   opens : (a c : List ℕ) → Mark (a ++ (take n f′ ++ c)) (length a)
   unfolding frameOf framed
   opens a c =
@@ -81,7 +83,8 @@ module _ (key : List ℕ) (own : Own) (font : List ℕ) (lay : Layout) (L f : Li
       let is : a ++ (take n f′ ++ c) ≡ a ++ (mark ∷ (b ++ c)) = ap (λ (x : List ℕ). a ++ (x ++ c)) (wrote key own font lay L f w f′ p n k e .frame) in
       rw is (record { inside = omega (arith, length-append a (mark ∷ (b ++ c))); stands = getD-append-seam a mark (b ++ c) 0 })
 
-  pub every-frame-given : (asked : Asked) → asked .layout ≡ lay → allows (asked .editions) (own .edition) ≡ true → k ≤ asked .allowed → (a c : List ℕ) → length (a ++ (take n f′ ++ c)) ≤ longestStream
+  pub every-frame-given : (asked : Asked) → asked .layout ≡ lay → allows (asked .editions) (own .edition) ≡ true → k ≤ asked .allowed → (a c : List ℕ)
+      → length (a ++ (take n f′ ++ c)) ≤ longestStream
       → {seen : List Seen} → Run key font asked (a ++ (take n f′ ++ c)) 0 0 seen → Ended seen
       → SeenGiven (length a + 1) (length a + n - 1) (labelOf own) L k seen
   every-frame-given asked same may enough a c h run end =

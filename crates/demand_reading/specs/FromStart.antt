@@ -34,12 +34,14 @@ countedFrom i v = record {
 counted-seen : (i : ℕ) (r : Reading) (l′ : List ℕ) → countedFrom i (seenFrom 0 r l′) ≡ seenFrom i r l′
 counted-seen i r l′ = simp unary-clauses refl
 
-run-counted : {key font : List ℕ} {asked : Asked} {s : List ℕ} {i from : ℕ} {seen : List Seen} → Run key font asked s 0 from seen → Run key font asked s i from (map (countedFrom i) seen)
+run-counted : {key font : List ℕ} {asked : Asked} {s : List ℕ} {i from : ℕ} {seen : List Seen} → Run key font asked s 0 from seen
+    → Run key font asked s i from (map (countedFrom i) seen)
 run-counted none = none
 run-counted {i = i} (next r l l′ g p q) = rw (counted-seen i r l′) (next r l l′ g p (run-counted q))
 
 -- fewer calls
-run-take : {key font : List ℕ} {asked : Asked} {s : List ℕ} {i from : ℕ} {seen : List Seen} (n : ℕ) → Run key font asked s i from seen → Run key font asked s i from (take n seen)
+run-take : {key font : List ℕ} {asked : Asked} {s : List ℕ} {i from : ℕ} {seen : List Seen} (n : ℕ) → Run key font asked s i from seen
+    → Run key font asked s i from (take n seen)
 run-take zero q = none
 run-take (suc n) none = none
 run-take (suc n) (next r l l′ g p q) = next r l l′ g p (run-take n q)
@@ -71,7 +73,8 @@ ended-alike key font asked x y i j hx hy w {rx} {ry} p a q b =
 
 -- two streams equal from a mark on, each read from its start to its end with the same key and font and one allowance for both: both runs
 -- come to the mark, and what is seen behind it, with places counted from it, is the same
-pub resync-from-start : (key font : List ℕ) (asked : Asked) (x y : List ℕ) (i j : ℕ) → Sizes (told key font (asked .layout)) → length x ≤ longestStream → length y ≤ longestStream
+pub resync-from-start : (key font : List ℕ) (asked : Asked) (x y : List ℕ) (i j : ℕ) → Sizes (told key font (asked .layout)) → length x ≤ longestStream
+    → length y ≤ longestStream
     → Mark x i → Mark y j → drop i x ≡ drop j y → {sx sy : List Seen}
     → Run key font asked x 0 0 sx → Ended sx → Run key font asked y 0 0 sy → Ended sy
     → (u : Reaches key font asked x i sx) × (v : Reaches key font asked y j sy) × (map (countedFrom i) (u .after) ≡ map (countedFrom j) (v .after))

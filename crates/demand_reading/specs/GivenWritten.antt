@@ -47,7 +47,8 @@ use Rattle.read_spec.specs.Judging.{judge}
 use Rattle.read_spec.specs.Ceiling.{within}
 use Rattle.read_spec.specs.Allowance.{enough-allowed, not-work}
 use Rattle.read_readings.specs.Readings.{ends}
-use Rattle.read_call.specs.Answers.{longestStream, sizedTold, Found, call, stretch, judgedWithin, found, plain, readingAt, readingOf, buffer, answerOf, readAnswer, readOut}
+use Rattle.read_call.specs.Answers.{longestStream, sizedTold, Found, call, stretch, judgedWithin, found}
+use Rattle.read_call.specs.Answers.{plain, readingAt, readingOf, buffer, answerOf, readAnswer, readOut}
 use Rattle.demand_reading.specs.Promises.{Reads, Writes}
 use Rattle.demand_reading.specs.Resync.{sized}
 use Rattle.demand_reading.specs.Written.{marked, Written, written-given, given-made, made-given}
@@ -61,7 +62,8 @@ unfolding sizedTold
 told-sized t k d = rw (eq-eqb (length (t .key)) keyLength k) (eq-eqb (length (t .font)) digestLength d)
 
 -- a write call that is done
-module _ (key : List ℕ) (own : Own) (font : List ℕ) (lay : Layout) (L f : List ℕ) (w : written.Written) (f′ : List ℕ) (p : Writes key own font lay L f w f′) where
+module _ (key : List ℕ) (own : Own) (font : List ℕ) (lay : Layout) (L f : List ℕ) (w : written.Written) (f′ : List ℕ)
+    (p : Writes key own font lay L f w f′) where
   abbrev t : Told
   t = told key font lay
 
@@ -91,13 +93,15 @@ module _ (key : List ℕ) (own : Own) (font : List ℕ) (lay : Layout) (L f : Li
 
 -- what a call finds where the next stretch is the one written
 module _ (t : Told) (asked : Asked) (z : Sizes t) (s : List ℕ) (from room : ℕ) (h : length s ≤ longestStream) (g : longest ≤ room) (f : from ≤ length s) where
-  pub found-next : (p : Span) → nextSpan s from ≡ p → (p .first ≡ p .closing → ⊥) → found t asked s from room ≡ stretch p (judgedWithin t asked (nextStretch s from))
+  pub found-next : (p : Span) → nextSpan s from ≡ p → (p .first ≡ p .closing → ⊥) → found t asked s from room
+      ≡ stretch p (judgedWithin t asked (nextStretch s from))
   found-next p e d =
       sized t asked s from room h g f (told-sized t (z .key-is) (z .font-is)) ∙ rw (e, ne-eqb (p .first) (p .closing) d)
 
 -- every frame that a write call makes, standing anywhere in a stream within the limit, is read from its opening mark as its line, where
 -- its calls are allowed
-module _ (key : List ℕ) (own : Own) (font : List ℕ) (lay : Layout) (L f : List ℕ) (w : written.Written) (f′ : List ℕ) (p : Writes key own font lay L f w f′) (n k : ℕ) (e : w ≡ written-is.Done n k) where
+module _ (key : List ℕ) (own : Own) (font : List ℕ) (lay : Layout) (L f : List ℕ) (w : written.Written) (f′ : List ℕ) (p : Writes key own font lay L f w f′)
+    (n k : ℕ) (e : w ≡ written-is.Done n k) where
   is : Wrote key own font lay L f w f′ p n k
   is = wrote key own font lay L f w f′ p n k e
 
@@ -136,7 +140,8 @@ module _ (key : List ℕ) (own : Own) (font : List ℕ) (lay : Layout) (L f : Li
       found-next t asked (record { key-is = y .key-is; font-is = y .font-is }) s (length a) (length l) h g at there sp (λ u. omega (arith, u))
       ∙ ap (stretch there) (ap (within (asked .allowed)) j ∙ enough-allowed (asked .allowed) (line own L k) enough) in
       let last : length a + 1 + length (stuffed b) ≡ length a + n - 1 = omega (arith, frame-length) in (
-        q .0 ∙ ap (λ (u : Told). readAnswer u asked s (length a) l) alike ∙ ap readingOf found-is ∙ ap (λ (m : ℕ). gives (length a + 1) m (labelOf own) (length L) k) last,
+        q .0 ∙ ap (λ (u : Told). readAnswer u asked s (length a) l) alike ∙ ap readingOf found-is ∙ ap
+            (λ (m : ℕ). gives (length a + 1) m (labelOf own) (length L) k) last,
         q .1 ∙ ap (λ (u : Told). readOut u asked s (length a) l) alike ∙ ap (λ (x : Found). buffer x l) found-is,
       )
 
@@ -227,7 +232,8 @@ answer-line (unlisted m) n k e = absurd (let z : _≡_ {A = ℕ} 0 1 = cc e in o
 answer-line (trade m) n k e = absurd (let z : _≡_ {A = ℕ} 0 1 = cc e in omega arith)
 answer-line (layout m) n k e = absurd (let z : _≡_ {A = ℕ} 0 1 = cc e in omega arith)
 
-gave : (t : Told) (asked : Asked) (s : List ℕ) (from room p q : ℕ) (b : Label) (n k : ℕ) → readingOf (found t asked s from room) ≡ gives p q b n k → Gave t asked s from room p q b n k
+gave : (t : Told) (asked : Asked) (s : List ℕ) (from room p q : ℕ) (b : Label) (n k : ℕ) → readingOf (found t asked s from room) ≡ gives p q b n k
+    → Gave t asked s from room p q b n k
 unfolding found nextStretch judgedWithin
 gave t asked s from room p q b n k =
     go (sizedTold t) refl (ltb longestStream (length s)) refl (ltb room longest) refl (ltb (length s) from) refl (ends (nextSpan s from)) refl
@@ -242,7 +248,8 @@ gave t asked s from room p q b n k =
         (cond v₀ (call from answer-is.TooLong)
         (cond c (call from answer-is.NoRoom)
         (cond d (call from answer-is.Beyond)
-        (cond e (call (length s) answer-is.End) (stretch (nextSpan s from) (within (asked .allowed) (judge t (asked .editions) (nextStretch s from))))))))) ≡ gives p q b n k
+        (cond e (call (length s) answer-is.End) (stretch (nextSpan s from) (within (asked .allowed) (judge t (asked .editions) (nextStretch s from))))))))) ≡
+        gives p q b n k
         → Gave t asked s from room p q b n k
     go true u false v false w false x false y r =
         let o : nextSpan s from ≡ span p q = ap (λ (g : Reading). span (g .first) (g .closing)) r in
@@ -251,7 +258,8 @@ gave t asked s from room p q b n k =
         let given-with : labelIn whole ≡ b = ap (λ (g : Reading). label (g .edition) (g .job)) r in
         let its : judge t (asked .editions) (nextStretch s from) ≡ line (z .0) (z .1) k =
         not-work (asked .allowed) (judge t (asked .editions) (nextStretch s from)) (line (z .0) (z .1) k) (z .2) (λ e. omega (arith, ap numberIn e)) in
-        let j : judge t (asked .editions) (bytesAt s (span p q)) ≡ line (z .0) (z .1) k = ap (λ (g : Span). judge t (asked .editions) (bytesAt s g)) (sym o) ∙ its in
+        let j : judge t (asked .editions) (bytesAt s (span p q)) ≡ line (z .0) (z .1) k = ap (λ (g : Span). judge t (asked .editions) (bytesAt s g)) (sym o) ∙
+        its in
         record {
           sizes = sized-told t u;
           own = z .0;
@@ -268,9 +276,11 @@ gave t asked s from room p q b n k =
     go false u v₀ v c w d x e y r = absurd (let z : _≡_ {A = ℕ} 0 1 = cc (said r) in omega arith)
 
 -- a call: its arguments, and an answer and a buffer that its promise admits
-module _ (key font : List ℕ) (asked : Asked) (s : List ℕ) (bytes : Below 256 s) (from : ℕ) (l : List ℕ) (r : Reading) (l′ : List ℕ) (c : Reads key font asked s from l r l′) where
+module _ (key font : List ℕ) (asked : Asked) (s : List ℕ) (bytes : Below 256 s) (from : ℕ) (l : List ℕ) (r : Reading) (l′ : List ℕ)
+    (c : Reads key font asked s from l r l′) where
   -- a line that is given is what a write call makes of it, with the same count, edition and job
-  pub given-is-written : (p q : ℕ) (b : Label) (n k : ℕ) → r ≡ gives p q b n k → Made key font (asked .layout) (asked .editions) b (take n l′) k (bytesAt s (span p q))
+  pub given-is-written : (p q : ℕ) (b : Label) (n k : ℕ) → r ≡ gives p q b n k → Made key font (asked .layout) (asked .editions) b (take n l′) k
+      (bytesAt s (span p q))
   given-is-written p q b n k e =
       let t = told key font (asked .layout) in
       let ed = asked .editions in
@@ -294,7 +304,8 @@ module _ (key font : List ℕ) (asked : Asked) (s : List ℕ) (bytes : Below 256
 -- and every stretch that a write call makes gives its line, read from its opening mark, where its edition and its calls are allowed
 pub written-is-given : (key font : List ℕ) (asked : Asked) (b : Label) (L : List ℕ) (k : ℕ) → k ≤ asked .allowed
     → (s : List ℕ) (p q : ℕ) → length s ≤ longestStream → Stretch s p q
-    → Made key font (asked .layout) (asked .editions) b L k (bytesAt s (span p q)) → (l : List ℕ) (r : Reading) (l′ : List ℕ) → longest ≤ length l → Reads key font asked s (p - 1) l r l′
+    → Made key font (asked .layout) (asked .editions) b L k (bytesAt s (span p q)) → (l : List ℕ) (r : Reading) (l′ : List ℕ) → longest ≤ length l
+    → Reads key font asked s (p - 1) l r l′
     → (r ≡ gives p q b (length L) k) × (l′ ≡ over L l)
 unfolding nextStretch judgedWithin
 written-is-given key font asked b L k enough s p q h x m l r l′ g c =

@@ -20,7 +20,8 @@ use Rattle.read_call.specs.Answers.{readAnswer, readOut, numberOf, lengthOf, ca
 -- a read call with this key and font, and what it is asked, of the stream s from a place, with the line buffer l before it, may answer r
 -- and leave l′ in it
 abbrev pub Reads : List ℕ → List ℕ → Asked → List ℕ → ℕ → List ℕ → Reading → List ℕ → Type 0
-Reads key font asked s from l r l′ = (r ≡ readAnswer (told key font (asked .layout)) asked s from l) × (l′ ≡ readOut (told key font (asked .layout)) asked s from l)
+Reads key font asked s from l r l′ = (r ≡ readAnswer (told key font (asked .layout)) asked s from l)
+    × (l′ ≡ readOut (told key font (asked .layout)) asked s from l)
 
 -- a write call of the line L under this key, font and layout, and with what is the frame's own, with the buffer f before it, may answer w and leave
 -- f′ in it

@@ -44,7 +44,16 @@ seen-at i p (trade n) l = refl
 seen-at i p (layout n) l = refl
 seen-at i p (line own w n) l =
     let b = labelOf own in
-    ap (λ (x : List ℕ). record { number = 0; ended = false; first = p .first - i; closing = p .closing - i; calls = n; edition = b .edition; job = b .job; line = x })
+    ap (λ (x : List ℕ). record {
+      number = 0;
+      ended = false;
+      first = p .first - i;
+      closing = p .closing - i;
+      calls = n;
+      edition = b .edition;
+      job = b .job;
+      line = x;
+    })
     (take-over w l (length w) refl)
 
 -- places in order

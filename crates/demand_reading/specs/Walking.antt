@@ -18,7 +18,8 @@ pub data Walk (key font : List ℕ) (asked : Asked) : Walker → List Seen → T
   moves : {w : Walker} (r : Reading) (w′ : Walker) (l l′ : List ℕ) {rest : List Seen} → longest ≤ length l → Nexts key font asked w l r w′ l′
       → Walk key font asked w′ rest → Walk key font asked w (seenFrom 0 r l′ ∷ rest)
 
-pub walk-run : {key font : List ℕ} {asked : Asked} {w : Walker} {seen : List Seen} → Walk key font asked w seen → Run key font asked (streamOf w) 0 (placeOf w) seen
+pub walk-run : {key font : List ℕ} {asked : Asked} {w : Walker} {seen : List Seen} → Walk key font asked w seen
+    → Run key font asked (streamOf w) 0 (placeOf w) seen
 walk-run stays = none
 walk-run {key} {font} {asked} {w} (moves r w′ l l′ {rest} g p q) =
     let on : Run key font asked (streamOf w) 0 (r .closing) rest =

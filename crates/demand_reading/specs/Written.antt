@@ -62,7 +62,8 @@ module _ (t : Told) (ed : ℕ) (own : Own) (L : List ℕ) (a : Accepts t own L) 
   unfolding sealedBody
   holds = (
     record { short = stretch-within (a .sealable); well = stuff-well (sealedBody t own L) },
-    among-allowed ed (fieldsOf (unstuffed (stuffed (sealedBody t own L)))) (ap fieldsOf (unstuff-stuff (sealedBody t own L)) ∙ fields-body (sealed-sized (a .sealable))) y,
+    among-allowed ed (fieldsOf (unstuffed (stuffed (sealedBody t own L)))) (ap fieldsOf (unstuff-stuff (sealedBody t own L)) ∙ fields-body
+        (sealed-sized (a .sealable))) y,
   )
 
   -- what sealing made, opening finds

@@ -27,7 +27,8 @@ known = 0xF3 ∷ 0x12 ∷ 0x44 ∷ 0x7D ∷ 0xDD ∷ 0xCF ∷ 0x17 ∷ 0x5A ∷ 
 
 -- compared byte by byte
 tested : same (answer .text ++ answer .seal) known ≡ true
-unfolding same encrypted sealOf finished encrypting begun absorbed absorbing associatedBlock started keyed lastXored block padded xored permute permuteBy turns leaders substitute cells bytes follow shuffle shuffledByte weighed tabled
+unfolding same encrypted sealOf finished encrypting begun absorbed absorbing associatedBlock started keyed lastXored block padded xored permute permuteBy turns
+    leaders substitute cells bytes follow shuffle shuffledByte weighed tabled
 tested = refl
 
 -- the ciphertext and the seal behind it

@@ -16,7 +16,8 @@ pub digest-single : (κs : Lfts 2) (a : Dens κs kinds.ps) (r r′ : Digested) (
     → reads.Post κs a r x → reads.Post κs a r′ x′ → (r ≡ r′) × (x .1 .1 .0 .now ≡ x′ .1 .1 .0 .now)
 digest-single κs a r r′ x x′ p q = (p .0 ∙ sym (q .0), p .1 ∙ sym (q .1))
 
-pub digest-number-single : (κs : Lfts 0) (a : Dens κs digest-number-kinds.ps) (r r′ : ℕ) (x x′ : AtExit (endedOf 0 digest-number-kinds.ps digest-number-kinds.r) κs)
+pub digest-number-single : (κs : Lfts 0) (a : Dens κs digest-number-kinds.ps) (r r′ : ℕ) (x x′ : AtExit
+    (endedOf 0 digest-number-kinds.ps digest-number-kinds.r) κs)
     → digest-number-reads.Post κs a r x → digest-number-reads.Post κs a r′ x′ → r ≡ r′
 digest-number-single κs a r r′ x x′ p q = p ∙ sym q
 

@@ -21,7 +21,8 @@ known =
 
 -- compared byte by byte, so that a wrong definition is found out at its first wrong byte
 tested : same (digestOf 8 []) known ≡ true
-unfolding same digestOf sponged squeezed absorbed bitSize bitRate sizeOf rateOf outputsOf block padded xored permute permuteBy turns leaders substitute cells bytes follow shuffle shuffledByte weighed tabled
+unfolding same digestOf sponged squeezed absorbed bitSize bitRate sizeOf rateOf outputsOf block padded xored permute permuteBy turns leaders substitute cells
+    bytes follow shuffle shuffledByte weighed tabled
 tested = refl
 
 -- the digest of no bytes by instance 8

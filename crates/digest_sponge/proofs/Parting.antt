@@ -53,7 +53,8 @@ module _ (i : ℕ) {n R k : ℕ} (known : unknown i ≡ false) (shape : (n ≡ s
       (ap₂ (λ (u : List ℕ) (k : ℕ). u ++ drop k zeros) (sym whole) (sym (ap (λ (l : List ℕ). length l) whole ∙ la)))
 
   -- the last block and the outputs
-  pub rest-closed : (s rest : List ℕ) (o state : State) {w : List ℕ} → told n o ≡ take n s → told n state ≡ permute ROUNDS (xored (take R (lastBlock rest)) (told n o))
+  pub rest-closed : (s rest : List ℕ) (o state : State) {w : List ℕ} → told n o ≡ take n s
+      → told n state ≡ permute ROUNDS (xored (take R (lastBlock rest)) (told n o))
       → w ≡ squeezed R (from (told n state)) k .hash → w ≡ closedBy i s rest
   unfolding closedBy closed
   rest-closed s rest o state first e w-is =
@@ -62,7 +63,8 @@ module _ (i : ℕ) {n R k : ℕ} (known : unknown i ≡ false) (shape : (n ≡ s
       ∙ rw (known, shape .0, shape .1, shape .2)
 
   -- the message taken up and the outputs
-  pub message-hashed : (m : List ℕ) (s : State) {w : List ℕ} → told n s ≡ absorbed n R m (blockCount R m) .state → w ≡ squeezed R (from (told n s)) k .hash → w ≡ hashOf i m
+  pub message-hashed : (m : List ℕ) (s : State) {w : List ℕ} → told n s ≡ absorbed n R m (blockCount R m) .state → w ≡ squeezed R (from (told n s)) k .hash
+      → w ≡ hashOf i m
   unfolding hashOf digestOf sponged
   message-hashed m s e w-is =
       w-is ∙ squeezed-state R (from (told n s)) (absorbed n R m (blockCount R m)) k e ∙ rw (known, shape .0, shape .1, shape .2)

@@ -11,7 +11,8 @@ use Rattle.base_fields.specs.Fields.{headLength, Front, value, no-field, front}
 use Rattle.base_fields.specs.Laws.{front-stands}
 use Rattle.frame_body.specs.declared.Edition.{Edition}
 use Rattle.frame_body.specs.declared.Edition.the-variants.{One, Two}
-use Rattle.frame_body.specs.Fields.{nonceTag, digestTag, cipherTag, sealTag, jobTag, Own, ownOf, takes, next, byJob, afterNonce, afterDigest, afterJob, afterCipher, afterSeal, fieldsOf}
+use Rattle.frame_body.specs.Fields.{nonceTag, digestTag, cipherTag, sealTag, jobTag, Own, ownOf, takes}
+use Rattle.frame_body.specs.Fields.{next, byJob, afterNonce, afterDigest, afterJob, afterCipher, afterSeal, fieldsOf}
 use Rattle.frame_body.specs.Answers.{Ends, Found, judged}
 
 -- a field found at a place: its value, and the place behind it

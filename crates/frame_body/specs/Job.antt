@@ -9,7 +9,8 @@ use Rattle.base_lists.specs.Below.{Below}
 use Rattle.base_fields.specs.Fields.{Front, value, no-field, front}
 use Rattle.base_fields.specs.Laws.{front-taken}
 use Rattle.frame_body.specs.declared.Edition.the-variants.{One, Two}
-use Rattle.frame_body.specs.Fields.{highByte, nonceTag, digestTag, cipherTag, sealTag, jobTag, jobLength, jobSize, Own, ownOf, takes, Fields, fields, no-body, next, byJob, afterNonce, afterDigest, afterJob, afterCipher, afterSeal, fieldsOf}
+use Rattle.frame_body.specs.Fields.{highByte, nonceTag, digestTag, cipherTag, sealTag, jobTag, jobLength, jobSize, Own, ownOf, takes}
+use Rattle.frame_body.specs.Fields.{Fields, fields, no-body, next, byJob, afterNonce, afterDigest, afterJob, afterCipher, afterSeal, fieldsOf}
 use Rattle.frame_body.specs.Lengths.{job-taken}
 
 -- bytes as a number behind what stood before them

@@ -12,7 +12,8 @@ use Rattle.line_spec.specs.Lines.{longest}
 use Rattle.base_fields.specs.Laws.{length-field}
 use Rattle.frame_body.specs.declared.Edition.{Edition}
 use Rattle.frame_body.specs.declared.Edition.the-variants.{One, Two}
-use Rattle.frame_body.specs.Fields.{nonceTag, digestTag, cipherTag, sealTag, jobTag, nonceLength, digestLength, shortest, sealLength, jobLength, jobSize, field, Own, jobField, body, associated, takes}
+use Rattle.frame_body.specs.Fields.{nonceTag, digestTag, cipherTag, sealTag, jobTag, nonceLength, digestLength, shortest, sealLength}
+use Rattle.frame_body.specs.Fields.{jobLength, jobSize, field, Own, jobField, body, associated, takes}
 
 -- how long field 05 is (order W6), which edition one has not: what is longer in edition two is longer by so much
 abbrev pub jobFieldLength : Edition → ℕ

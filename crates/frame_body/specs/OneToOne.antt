@@ -11,8 +11,10 @@ use Rattle.base_fields.specs.Fields.{Front, value, no-field, front}
 use Rattle.base_fields.specs.Laws.{front-field, front-value}
 use Rattle.frame_body.specs.declared.Edition.{Edition}
 use Rattle.frame_body.specs.declared.Edition.the-variants.{One, Two}
-use Rattle.frame_body.specs.Fields.{nonceTag, digestTag, cipherTag, sealTag, jobTag, jobSize, field, Own, ownOf, jobField, associated, body, takes, Fields, fields, no-body, next, byJob, afterNonce, afterDigest, afterJob, afterCipher, afterSeal, fieldsOf}
-use Rattle.frame_body.specs.Lengths.{Sized, takes-nonce, takes-digest, takes-cipher, takes-seal, takes-job, nonce-taken, digest-taken, cipher-taken, seal-taken, job-taken}
+use Rattle.frame_body.specs.Fields.{nonceTag, digestTag, cipherTag, sealTag, jobTag, jobSize, field, Own, ownOf, jobField, associated, body}
+use Rattle.frame_body.specs.Fields.{takes, Fields, fields, no-body, next, byJob, afterNonce, afterDigest, afterJob, afterCipher, afterSeal, fieldsOf}
+use Rattle.frame_body.specs.Lengths.{Sized, takes-nonce, takes-digest, takes-cipher, takes-seal, takes-job}
+use Rattle.frame_body.specs.Lengths.{nonce-taken, digest-taken, cipher-taken, seal-taken, job-taken}
 
 -- on behind a field
 pub on : (tag : ℕ) (v s : List ℕ) (go : List ℕ → List ℕ → Fields) → takes tag (length v) ≡ true → next (front takes tag (field tag v ++ s)) go ≡ go v s
@@ -41,7 +43,8 @@ pub fields-body : {own : Own} {digest cipher seal : List ℕ} → Sized own dige
 unfolding fieldsOf afterNonce afterJob afterCipher afterSeal
 fields-body {own} {digest} {cipher} {seal} z =
     ap fieldsOf (from-front own digest cipher seal)
-    ∙ on nonceTag (own .nonce) (field digestTag digest ++ (jobField (own .edition) (own .job) ++ (field cipherTag cipher ++ (field sealTag seal ++ [])))) afterNonce
+    ∙ on nonceTag (own .nonce) (field digestTag digest ++ (jobField (own .edition) (own .job) ++ (field cipherTag cipher ++ (field sealTag seal ++ []))))
+    afterNonce
     (takes-nonce (length (own .nonce)) (z .nonce-is))
     ∙ on digestTag digest (jobField (own .edition) (own .job) ++ (field cipherTag cipher ++ (field sealTag seal ++ []))) (afterDigest (own .nonce))
     (takes-digest (length digest) (z .digest-is))
@@ -95,7 +98,8 @@ tells b h =
   where
     whole : (own : Own) (digest cipher seal : List ℕ) → takes nonceTag (length (own .nonce)) ≡ true → length (own .job) ≡ jobSize (own .edition)
         → takes digestTag (length digest) ≡ true → takes cipherTag (length cipher) ≡ true → takes sealTag (length seal) ≡ true → (s : List ℕ)
-        → b ≡ field nonceTag (own .nonce) ++ (field digestTag digest ++ (jobField (own .edition) (own .job) ++ (field cipherTag cipher ++ (field sealTag seal ++ s))))
+        → b ≡ field nonceTag (own .nonce) ++ (field digestTag digest ++ (jobField (own .edition) (own .job)
+        ++ (field cipherTag cipher ++ (field sealTag seal ++ s))))
         → Tells b (afterSeal own digest cipher seal s)
     whole own digest cipher seal p j q r u (x ∷ s) e = tt
     whole own digest cipher seal p j q r u [] e = (

@@ -8,7 +8,8 @@ use lib.Seq.{take-at, drop-at, drop-append-add}
 use Rattle.base_fields.specs.Laws.{length-field}
 use Rattle.frame_body.specs.declared.Edition.{Edition}
 use Rattle.frame_body.specs.declared.Edition.the-variants.{Two}
-use Rattle.frame_body.specs.Fields.{nonceTag, digestTag, cipherTag, sealTag, jobTag, nonceLength, digestLength, sealLength, jobLength, headLength, field, Own, ownOf, jobField, body, associated}
+use Rattle.frame_body.specs.Fields.{nonceTag, digestTag, cipherTag, sealTag, jobTag, nonceLength, digestLength, sealLength}
+use Rattle.frame_body.specs.Fields.{jobLength, headLength, field, Own, ownOf, jobField, body, associated}
 use Rattle.frame_body.specs.Lengths.{Sized, jobFieldLength, associatedLength, length-associated}
 
 -- the nonce
@@ -67,31 +68,36 @@ module _ (own : Own) (digest cipher seal : List ℕ) (z : Sized own digest ciphe
   pub nonce-at : take nonceLength (drop nonceAt (body own digest cipher seal)) ≡ own .nonce
   unfolding body
   nonce-at =
-      simp append-assoc (value-at [] nonceTag (own .nonce) (associated (own .edition) digest (own .job) ++ (field cipherTag cipher ++ field sealTag seal)) nonceAt nonceLength refl (z .nonce-is))
+      simp append-assoc (value-at [] nonceTag (own .nonce) (associated (own .edition) digest (own .job) ++ (field cipherTag cipher ++ field sealTag seal))
+      nonceAt nonceLength refl (z .nonce-is))
 
   pub associated-at : take (associatedLength (own .edition)) (drop associatedAt (body own digest cipher seal)) ≡ associated (own .edition) digest (own .job)
   unfolding body
   associated-at =
       simp append-assoc
-      (part-at (field nonceTag (own .nonce)) (associated (own .edition) digest (own .job)) (field cipherTag cipher ++ field sealTag seal) associatedAt (associatedLength (own .edition)) n-is a-is)
+      (part-at (field nonceTag (own .nonce)) (associated (own .edition) digest (own .job)) (field cipherTag cipher ++ field sealTag seal) associatedAt
+      (associatedLength (own .edition)) n-is a-is)
 
   pub digest-at : take digestLength (drop digestAt (body own digest cipher seal)) ≡ digest
   unfolding body associated
   digest-at =
       simp append-assoc
-      (value-at (field nonceTag (own .nonce)) digestTag digest (jobField (own .edition) (own .job) ++ (field cipherTag cipher ++ field sealTag seal)) digestAt digestLength (omega (arith, n-is)) (z .digest-is))
+      (value-at (field nonceTag (own .nonce)) digestTag digest (jobField (own .edition) (own .job) ++ (field cipherTag cipher ++ field sealTag seal)) digestAt
+      digestLength (omega (arith, n-is)) (z .digest-is))
 
   pub cipher-at : take (length cipher) (drop (cipherAt (own .edition)) (body own digest cipher seal)) ≡ cipher
   unfolding body
   cipher-at =
       rw (append-assoc (field nonceTag (own .nonce) ++ associated (own .edition) digest (own .job)) (field cipherTag cipher) (field sealTag seal))
-      (value-at (field nonceTag (own .nonce) ++ associated (own .edition) digest (own .job)) cipherTag cipher (field sealTag seal) (cipherAt (own .edition)) (length cipher) (omega (arith, na-is)) refl)
+      (value-at (field nonceTag (own .nonce) ++ associated (own .edition) digest (own .job)) cipherTag cipher (field sealTag seal) (cipherAt (own .edition))
+      (length cipher) (omega (arith, na-is)) refl)
 
   pub seal-at : take sealLength (drop (sealAt (own .edition) (length cipher)) (body own digest cipher seal)) ≡ seal
   unfolding body
   seal-at =
       rw (← append-nil (field sealTag seal))
-      (value-at (field nonceTag (own .nonce) ++ associated (own .edition) digest (own .job) ++ field cipherTag cipher) sealTag seal [] (sealAt (own .edition) (length cipher)) sealLength (omega (arith, nac-is)) (z .seal-is))
+      (value-at (field nonceTag (own .nonce) ++ associated (own .edition) digest (own .job) ++ field cipherTag cipher) sealTag seal []
+      (sealAt (own .edition) (length cipher)) sealLength (omega (arith, nac-is)) (z .seal-is))
 
 -- in edition two
 pub job-at : (nonce job digest cipher seal : List ℕ) → Sized (ownOf Two nonce job) digest cipher seal
@@ -100,5 +106,12 @@ unfolding body associated jobField
 job-at nonce job digest cipher seal z =
     simp append-assoc
     (rw append-assoc at (value-at (field nonceTag nonce ++ field digestTag digest) jobTag job (field cipherTag cipher ++ field sealTag seal) jobAt jobLength
-    (omega (arith, length-append (field nonceTag nonce) (field digestTag digest), length-field nonceTag nonce, length-field digestTag digest, z .nonce-is, z .digest-is))
+    (omega (
+      arith,
+      length-append (field nonceTag nonce) (field digestTag digest),
+      length-field nonceTag nonce,
+      length-field digestTag digest,
+      z .nonce-is,
+      z .digest-is,
+    ))
     (z .job-is)))

@@ -50,11 +50,13 @@ knownTwo =
 
 -- compared byte by byte
 tested-one : same frameOne knownOne ≡ true
-unfolding same frameOf framed stuffed sealedBody sealedLine body associated jobField field encrypted sealOf finished encrypting begun absorbed absorbing associatedBlock started keyed lastXored block padded xored permute permuteBy turns leaders substitute cells bytes follow shuffle shuffledByte weighed tabled
+unfolding same frameOf framed stuffed sealedBody sealedLine body associated jobField field encrypted sealOf finished encrypting begun absorbed absorbing
+    associatedBlock started keyed lastXored block padded xored permute permuteBy turns leaders substitute cells bytes follow shuffle shuffledByte weighed tabled
 tested-one = refl
 
 tested-two : same frameTwo knownTwo ≡ true
-unfolding same frameOf framed stuffed sealedBody sealedLine body associated jobField field encrypted sealOf finished encrypting begun absorbed absorbing associatedBlock started keyed lastXored block padded xored permute permuteBy turns leaders substitute cells bytes follow shuffle shuffledByte weighed tabled
+unfolding same frameOf framed stuffed sealedBody sealedLine body associated jobField field encrypted sealOf finished encrypting begun absorbed absorbing
+    associatedBlock started keyed lastXored block padded xored permute permuteBy turns leaders substitute cells bytes follow shuffle shuffledByte weighed tabled
 tested-two = refl
 
 pub frame-one-known : frameOne ≡ knownOne

@@ -10,7 +10,8 @@ use Rattle.base_fields.specs.Laws.{length-field, put-fits}
 use Rattle.base_fields.specs.Laying.{Laid, Space, sets-more}
 use Rattle.frame_body.specs.declared.Edition.{Edition}
 use Rattle.frame_body.specs.declared.Edition.the-variants.{One, Two}
-use Rattle.frame_body.specs.Fields.{nonceTag, digestTag, cipherTag, sealTag, jobTag, nonceLength, digestLength, sealLength, jobLength, jobSize, Own, jobField, body, associated}
+use Rattle.frame_body.specs.Fields.{nonceTag, digestTag, cipherTag, sealTag, jobTag, nonceLength, digestLength}
+use Rattle.frame_body.specs.Fields.{sealLength, jobLength, jobSize, Own, jobField, body, associated}
 use Rattle.frame_body.specs.Lengths.{Sized, associatedLength, besideCipher, length-associated}
 use Rattle.frame_put.specs.Answers.{putAnswer, putOut, associatedAnswer, associatedOut}
 use Rattle.frame_put.specs.Outcomes.{put-done, associated-done}

@@ -9,7 +9,8 @@ use Rattle.base_lists.specs.Never.{never}
 use Rattle.frame_body.specs.declared.Edition.{Edition}
 use Rattle.frame_body.specs.declared.Edition.the-variants.{One, Two}
 use Rattle.frame_body.specs.Fields.{nonceTag, digestTag, cipherTag, sealTag, digestLength, jobSize, Own, takes}
-use Rattle.frame_body.specs.Lengths.{Sized, takes-nonce, takes-digest, takes-cipher, takes-seal, takes-job, nonce-taken, digest-taken, cipher-taken, seal-taken, job-taken}
+use Rattle.frame_body.specs.Lengths.{Sized, takes-nonce, takes-digest, takes-cipher, takes-seal, takes-job}
+use Rattle.frame_body.specs.Lengths.{nonce-taken, digest-taken, cipher-taken, seal-taken, job-taken}
 use Rattle.frame_put.specs.Answers.{jobFits, fittingAssociated, fitting}
 
 -- a job of its edition's length fits, and no other

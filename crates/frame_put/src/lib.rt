@@ -89,8 +89,10 @@ pub fn put_body(
     seal: &[u8],
     out: &mut [u8],
 ) -> Put
-    ensures { λ r. ⌜ r ≡ putAnswer (ownOf edition (now (nonce .entry)) (now (job .entry))) (now (digest .entry)) (now (cipher .entry)) (now (seal .entry)) (now (out .entry)) ⌝ }
-    ensures { λ _. ⌜ now (out .exit) ≡ putOut (ownOf edition (now (nonce .entry)) (now (job .entry))) (now (digest .entry)) (now (cipher .entry)) (now (seal .entry)) (now (out .entry)) ⌝ }
+    ensures { λ r. ⌜ r ≡ putAnswer (ownOf edition (now (nonce .entry)) (now (job .entry))) (now (digest .entry)) (now (cipher .entry)) (now (seal .entry))
+        (now (out .entry)) ⌝ }
+    ensures { λ _. ⌜ now (out .exit) ≡ putOut (ownOf edition (now (nonce .entry)) (now (job .entry))) (now (digest .entry)) (now (cipher .entry))
+        (now (seal .entry)) (now (out .entry)) ⌝ }
 {
     if !fit(edition, nonce, digest, job, cipher, seal) {
         return Put::Shape;

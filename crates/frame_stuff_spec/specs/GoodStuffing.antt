@@ -11,7 +11,8 @@ use lib.ListN.{length}
 use borrow.Author.Tests.{eqb-true, eqb-false, ne-eqb}
 use Rattle.frame_stuff_spec.specs.declared.Count.{Count}
 use Rattle.frame_stuff_spec.specs.declared.Count.the-variants.{Of, Bad}
-use Rattle.frame_stuff_spec.specs.Stuffing.{mark, escape, escapedMark, escapedEscape, stuffByte, stuffed, unstuffed, WellStuffed, none, plain, a-mark, an-escape}
+use Rattle.frame_stuff_spec.specs.Stuffing.{mark, escape, escapedMark, escapedEscape, stuffByte, stuffed}
+use Rattle.frame_stuff_spec.specs.Stuffing.{unstuffed, WellStuffed, none, plain, a-mark, an-escape}
 use Rattle.frame_stuff_spec.specs.Rules.{oneMore, lengthOutside, lengthInside}
 
 stuff-byte-well : (t u : Bool) (b : ℕ) (s : List ℕ) → eqb b mark ≡ t → eqb b escape ≡ u → WellStuffed s → WellStuffed (stuffByte b ++ s)

@@ -5,7 +5,8 @@ use mathlib.Core.Bool.{Bool, true, false}
 use Prim.Native.Nat.{ℕ}
 use lib.Dec.{eqb}
 use borrow.Author.Tests.{eqb-true, ne-eqb}
-use Rattle.frame_stuff_spec.specs.Stuffing.{mark, escape, escapedMark, escapedEscape, stuffByte, stuffed, unstuffed, WellStuffed, none, plain, a-mark, an-escape}
+use Rattle.frame_stuff_spec.specs.Stuffing.{mark, escape, escapedMark, escapedEscape, stuffByte, stuffed}
+use Rattle.frame_stuff_spec.specs.Stuffing.{unstuffed, WellStuffed, none, plain, a-mark, an-escape}
 
 -- one stuffed byte, read outside an escape
 one : (t u : Bool) (b : ℕ) (s : List ℕ) → eqb b mark ≡ t → eqb b escape ≡ u → unstuffed (stuffByte b ++ s) ≡ b ∷ unstuffed s

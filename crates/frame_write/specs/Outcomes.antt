@@ -122,7 +122,8 @@ done-accepts t own line o n calls =
     by-rule z line-is.Layout r e = absurd (let i : _≡_ {A = ℕ} 0 1 = cc e in omega arith)
 
     by-sizes : (x : Bool) → sizesRight t own ≡ x → (y : Bool) → lengthRight line ≡ y
-        → cond (not x) (refused Sizes o) (cond (not y) (refused TooLong o) (byRule (layoutRule (t .layout) line) (room (ltb (length o) (frameRoom (own .edition)))) o)) .answer
+        → cond (not x) (refused Sizes o) (cond (not y) (refused TooLong o) (byRule (layoutRule (t .layout) line)
+        (room (ltb (length o) (frameRoom (own .edition)))) o)) .answer
         ≡ Done n calls → Accepts t own line × (frameRoom (own .edition) ≤ length o)
     by-sizes true p true q e = by-rule (right-sealable t own line p q) (layoutRule (t .layout) line) refl e
     by-sizes true p false q e = absurd (let i : _≡_ {A = ℕ} 0 1 = cc e in omega arith)

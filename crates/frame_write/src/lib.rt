@@ -83,7 +83,8 @@ fn sealed_body(
     line: &[u8],
 ) -> [u8; frame_body::LONGEST_BODY]
     requires { ⌜ Sealable (told (now key) (now font) Neither) (ownOf edition (now nonce) (now job)) (now line) ⌝ }
-    ensures { λ r. ⌜ r ≡ over (sealedBody (told (now (key .entry)) (now (font .entry)) Neither) (ownOf edition (now (nonce .entry)) (now (job .entry))) (now (line .entry))) (replicate (longestBody Two) 0) ⌝ }
+    ensures { λ r. ⌜ r ≡ over (sealedBody (told (now (key .entry)) (now (font .entry)) Neither) (ownOf edition (now (nonce .entry)) (now (job .entry)))
+        (now (line .entry))) (replicate (longestBody Two) 0) ⌝ }
 {
     let mut assoc = [0u8; frame_body::LONGEST_ASSOCIATED];
     frame_put::put_associated(edition, font, job, &mut assoc);
@@ -139,8 +140,10 @@ pub fn write_edition(
     line: &[u8],
     frame: &mut [u8],
 ) -> Written
-    ensures { λ r. ⌜ r ≡ writeCall (told (now (key .entry)) (now (font .entry)) layout) (ownOf edition (now (nonce .entry)) (now (job .entry))) (now (line .entry)) (now (frame .entry)) .answer ⌝ }
-    ensures { λ _. ⌜ now (frame .exit) ≡ writeCall (told (now (key .entry)) (now (font .entry)) layout) (ownOf edition (now (nonce .entry)) (now (job .entry))) (now (line .entry)) (now (frame .entry)) .frame ⌝ }
+    ensures { λ r. ⌜ r ≡ writeCall (told (now (key .entry)) (now (font .entry)) layout) (ownOf edition (now (nonce .entry)) (now (job .entry)))
+        (now (line .entry)) (now (frame .entry)) .answer ⌝ }
+    ensures { λ _. ⌜ now (frame .exit) ≡ writeCall (told (now (key .entry)) (now (font .entry)) layout) (ownOf edition (now (nonce .entry)) (now (job .entry)))
+        (now (line .entry)) (now (frame .entry)) .frame ⌝ }
 {
     if !sizes_right(edition, key, nonce, font, job) {
         return Written::Sizes;
@@ -177,8 +180,10 @@ pub fn write(
     line: &[u8],
     frame: &mut [u8],
 ) -> Written
-    ensures { λ r. ⌜ r ≡ writeCall (told (now (key .entry)) (now (font .entry)) layout) (ownOf One (now (nonce .entry)) []) (now (line .entry)) (now (frame .entry)) .answer ⌝ }
-    ensures { λ _. ⌜ now (frame .exit) ≡ writeCall (told (now (key .entry)) (now (font .entry)) layout) (ownOf One (now (nonce .entry)) []) (now (line .entry)) (now (frame .entry)) .frame ⌝ }
+    ensures { λ r. ⌜ r ≡ writeCall (told (now (key .entry)) (now (font .entry)) layout) (ownOf One (now (nonce .entry)) []) (now (line .entry))
+        (now (frame .entry)) .answer ⌝ }
+    ensures { λ _. ⌜ now (frame .exit) ≡ writeCall (told (now (key .entry)) (now (font .entry)) layout) (ownOf One (now (nonce .entry)) []) (now (line .entry))
+        (now (frame .entry)) .frame ⌝ }
 {
     let none = [0u8; 0];
     write_edition(Edition::One, key, nonce, font, layout, &none, line, frame)
@@ -194,8 +199,10 @@ pub fn write_two(
     line: &[u8],
     frame: &mut [u8],
 ) -> Written
-    ensures { λ r. ⌜ r ≡ writeCall (told (now (key .entry)) (now (font .entry)) layout) (ownOf Two (now (nonce .entry)) (now (job .entry))) (now (line .entry)) (now (frame .entry)) .answer ⌝ }
-    ensures { λ _. ⌜ now (frame .exit) ≡ writeCall (told (now (key .entry)) (now (font .entry)) layout) (ownOf Two (now (nonce .entry)) (now (job .entry))) (now (line .entry)) (now (frame .entry)) .frame ⌝ }
+    ensures { λ r. ⌜ r ≡ writeCall (told (now (key .entry)) (now (font .entry)) layout) (ownOf Two (now (nonce .entry)) (now (job .entry))) (now (line .entry))
+        (now (frame .entry)) .answer ⌝ }
+    ensures { λ _. ⌜ now (frame .exit) ≡ writeCall (told (now (key .entry)) (now (font .entry)) layout) (ownOf Two (now (nonce .entry)) (now (job .entry)))
+        (now (line .entry)) (now (frame .entry)) .frame ⌝ }
 {
     write_edition(Edition::Two, key, nonce, font, layout, job, line, frame)
 }

@@ -28,7 +28,8 @@ module _ {t : List ℕ} (e : t ≡ leaders) where
 
 -- woven, permuted in planes, and told
 pub turned-is : (n k : ℕ) (s w : List ℕ) (t q : State) → judged n k ≡ Done → n ≤ ROOM → n ≤ length s → Below 256 s → t ≡ stateOf (take (n - 0) (drop 0 s))
-    → q ≡ permuted n k t → w ≡ over (told (min (length (take (n - 0) (drop 0 s))) ROOM) q) (take (n - 0) (drop 0 s)) → putMid 0 (n - 0) s w ≡ permute k (take n s) ++ drop n s
+    → q ≡ permuted n k t → w ≡ over (told (min (length (take (n - 0) (drop 0 s))) ROOM) q) (take (n - 0) (drop 0 s))
+    → putMid 0 (n - 0) s w ≡ permute k (take n s) ++ drop n s
 turned-is n k s w t q is room fits small a b c =
     let z : n - 0 ≡ n = omega arith in
     let long : length (take n s) ≡ n = length-take-le n s fits in

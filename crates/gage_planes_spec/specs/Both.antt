@@ -61,7 +61,8 @@ module _ (h m : ℕ) (wide : WORD ≤ h + h) (narrow : h ≤ 36) (e : m ≡ 2 ^ 
             rw (g, f) (drawn _ (permuteBy (take (i + 4) leaders) s) 36 (length-permuteBy (take (i + 4) leaders) s ∙ long) narrow four);
       }
 
-  pub onward-one : {j : ℕ} {q r t x : Windows} (l i : ℕ) → 1 ≤ i → i < MOST-ROUNDS → (l ≡ getD leaders i 0) × (l < 4) → t ≡ turnedBoth r h l → x ≡ drawnBoth t m h
+  pub onward-one : {j : ℕ} {q r t x : Windows} (l i : ℕ) → 1 ≤ i → i < MOST-ROUNDS → (l ≡ getD leaders i 0) × (l < 4) → t ≡ turnedBoth r h l
+      → x ≡ drawnBoth t m h
       → OnwardBoth h j q i r → OnwardBoth h j q (i + 1) x
   onward-one {r = r} l i some few led f g o = record {
     from = λ s long small held.
@@ -71,7 +72,8 @@ module _ (h m : ℕ) (wide : WORD ≤ h + h) (narrow : h ≤ 36) (e : m ≡ 2 ^ 
   }
 
   -- k rounds are all of them
-  pub both-all : {w p q r : Windows} (l i k : ℕ) → (l ≡ getD leaders 0 0) × (l < 4) → p ≡ drawnBoth w m h → q ≡ substitutedBoth p h l → OnwardBoth h 1 q i r → i ≡ k
+  pub both-all : {w p q r : Windows} (l i k : ℕ) → (l ≡ getD leaders 0 0) × (l < 4) → p ≡ drawnBoth w m h → q ≡ substitutedBoth p h l → OnwardBoth h 1 q i r
+      → i ≡ k
       → PermutedBoth h k w r
   unfolding permute
   both-all l i k led d f o is = record {

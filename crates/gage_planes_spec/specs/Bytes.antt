@@ -124,7 +124,8 @@ state-digit s i j h g = elim (decLt i LOW) [
       let t = take (ROOM - LOW) (drop LOW s) in
       let e : LOW + k ≡ i = omega (arith, p) in
       rw (le-ltb i LOW (omega (arith, p)))
-      (digit-joined (plane 0 t ∷ plane 1 t ∷ plane 2 t ∷ plane 3 t ∷ plane 4 t ∷ plane 5 t ∷ plane 6 t ∷ plane 7 t ∷ []) j k (omega (arith, p)) (omega (arith, p))
+      (digit-joined (plane 0 t ∷ plane 1 t ∷ plane 2 t ∷ plane 3 t ∷ plane 4 t ∷ plane 5 t ∷ plane 6 t ∷ plane 7 t ∷ []) j k (omega (arith, p))
+      (omega (arith, p))
       ∙ ap (λ (x : ℕ). digit x k) (rest-plane t j g) ∙ digit-plane j t k
       ∙ ap (λ (b : ℕ). digit b j) (getD-take (ROOM - LOW) (drop LOW s) k 0 (omega (arith, p)) ∙ getD-drop LOW s k 0 ∙ ap (λ (m : ℕ). getD s m 0) e))
 ]

@@ -21,7 +21,8 @@ use Rattle.gage_planes_spec.specs.Bytes.{Woven, digit-plane, plane-below
 
 -- planes and states are the same where their numbers are
 pub same-planes : {a b c d e f g h a′ b′ c′ d′ e′ f′ g′ h′ : ℕ} → a ≡ a′ → b ≡ b′ → c ≡ c′ → d ≡ d′ → e ≡ e′ → f ≡ f′ → g ≡ g′ → h ≡ h′
-    → _≡_ {A = Planes} (record { a = a; b = b; c = c; d = d; e = e; f = f; g = g; h = h }) (record { a = a′; b = b′; c = c′; d = d′; e = e′; f = f′; g = g′; h = h′ })
+    → _≡_ {A = Planes} (record { a = a; b = b; c = c; d = d; e = e; f = f; g = g; h = h })
+    (record { a = a′; b = b′; c = c′; d = d′; e = e′; f = f′; g = g′; h = h′ })
 same-planes ea eb ec ed ee ef eg eh = cc
 
 pub same-states : {p q : Planes} {x y : ℕ} → p ≡ q → x ≡ y → _≡_ {A = State} (record { low = p; rest = x }) (record { low = q; rest = y })
@@ -41,7 +42,8 @@ module _ (n : ℕ) (s : List ℕ) (long : length s ≡ n) where
       digits-same n (bitAnd x (2 ^ n - 1)) (plane (7 - b) s) (mask-lt x n) (rw long at (plane-below (7 - b) s))
       (λ i h.
       let z : 0 + i ≡ i = omega arith in
-      ap (λ (y : ℕ). digit y i) (and-mask x n) ∙ digit-mod x n i h ∙ a .digits i h ∙ ap (column b s) z ∙ column-digit b s i (omega arith) ∙ sym (digit-plane (7 - b) s i))
+      ap (λ (y : ℕ). digit y i) (and-mask x n) ∙ digit-mod x n i h ∙ a .digits i h ∙ ap (column b s) z ∙ column-digit b s i (omega arith) ∙ sym
+      (digit-plane (7 - b) s i))
 
   pub cut-exact : {p : Planes} → Holds 0 n p s → cut p (2 ^ n - 1) ≡ planesOf s
   cut-exact {p} a =

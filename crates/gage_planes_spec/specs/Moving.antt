@@ -37,7 +37,8 @@ module _ (s : List ℕ) (some : 0 < length s) where
     pub moved-holds : {p : Planes} → Holds o u p s → Holds o v (moved by p) (shuffle s)
     unfolding column
     moved-holds {p} a = record {
-      plane0 = held-same (held-fewer (a .plane7) v fewer) (λ i. column 0 (shuffle s) (o + i)) (λ i h. ap (column 7 s) (let e : o + i ≡ o + (0 + i) = omega arith in e) ∙ arrived o 0 i (omega arith));
+      plane0 = held-same (held-fewer (a .plane7) v fewer) (λ i. column 0 (shuffle s) (o + i))
+          (λ i h. ap (column 7 s) (let e : o + i ≡ o + (0 + i) = omega arith in e) ∙ arrived o 0 i (omega arith));
       plane1 = held-same (shifts (p .b) 6 1 (omega arith) (omega arith) (a .plane1)) (λ i. column 1 (shuffle s) (o + i)) (λ i h. arrived o 6 i (omega arith));
       plane2 = held-same (shifts (p .g) 1 6 (omega arith) (omega arith) (a .plane6)) (λ i. column 2 (shuffle s) (o + i)) (λ i h. arrived o 1 i (omega arith));
       plane3 = held-same (shifts (p .a) 7 0 (omega arith) (omega arith) (a .plane0)) (λ i. column 3 (shuffle s) (o + i)) (λ i h. arrived o 7 i (omega arith));

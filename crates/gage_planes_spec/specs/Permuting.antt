@@ -35,7 +35,8 @@ module _ (n k : ℕ) (t : State) (is : judged n k ≡ Done) where
       ∙ told-state n (permute k (told n t)) room (length-permute k (told n t) ∙ length-told n t) (permute-below k (told n t) (told-bytes n t))
 
   -- planes of one number
-  pub one-permuted : {r : Planes} {m : ℕ} → n ≤ LOW → m ≡ 2 ^ n - 1 → Permuted n k (t .low) r → _≡_ {A = State} (record { low = cut r m; rest = 0 }) (permuted n k t)
+  pub one-permuted : {r : Planes} {m : ℕ} → n ≤ LOW → m ≡ 2 ^ n - 1 → Permuted n k (t .low) r
+      → _≡_ {A = State} (record { low = cut r m; rest = 0 }) (permuted n k t)
   one-permuted {r} fits e a =
       rw e
       (state-exact n (permute k (told n t)) (length-permute k (told n t) ∙ length-told n t) fits
@@ -43,7 +44,8 @@ module _ (n k : ℕ) (t : State) (is : judged n k ≡ Done) where
       ∙ sym done)
 
   -- two windows
-  pub both-permuted : {w r : Windows} {m : ℕ} (h : ℕ) → n ≡ h + h → WORD ≤ h + h → h + h ≤ ROOM → m ≡ 2 ^ h - 1 → w ≡ record { first = t .low; second = secondOf t h }
+  pub both-permuted : {w r : Windows} {m : ℕ} (h : ℕ) → n ≡ h + h → WORD ≤ h + h → h + h ≤ ROOM → m ≡ 2 ^ h - 1
+      → w ≡ record { first = t .low; second = secondOf t h }
       → PermutedBoth h k w r → rejoined r m h ≡ permuted n k t
   both-permuted {w} {r} h twice wide room e f a =
       let long : length (told n t) ≡ h + h = length-told n t ∙ twice in
@@ -53,4 +55,5 @@ module _ (n k : ℕ) (t : State) (is : judged n k ≡ Done) where
         front = woven-holds (h + h) (told n t) long h t (omega arith) (omega arith) (rw twice (woven-told (h + h) t));
         back = second-holds h (told n t) t long wide room (rw twice (woven-told (h + h) t));
       }) in
-      rw e (rejoined-exact h (permute k (told n t)) r (length-permute k (told n t) ∙ long) wide room (omega arith) (a .each (told n t) long (told-bytes n t) held)) ∙ sym done
+      rw e (rejoined-exact h (permute k (told n t)) r (length-permute k (told n t) ∙ long) wide room (omega arith)
+      (a .each (told n t) long (told-bytes n t) held)) ∙ sym done

@@ -46,10 +46,12 @@ module _ (x y : ℕ) (h : x < 4) (g : y < 4) where
       rw (p, q) at t
 
   pub star-upper : star table x y / 2 ≡ upperBit (x / 2) (x % 2) (y / 2) (y % 2)
-  star-upper = eqb→eq (star table x y / 2) (upperBit (x / 2) (x % 2) (y / 2) (y % 2)) (both-left (eqb (star table x y / 2) (upperBit (x / 2) (x % 2) (y / 2) (y % 2))) (eqb (star table x y % 2) (lowerBit (x / 2) (x % 2) (y / 2) (y % 2))) passed)
+  star-upper = eqb→eq (star table x y / 2) (upperBit (x / 2) (x % 2) (y / 2) (y % 2)) (both-left (eqb (star table x y / 2)
+      (upperBit (x / 2) (x % 2) (y / 2) (y % 2))) (eqb (star table x y % 2) (lowerBit (x / 2) (x % 2) (y / 2) (y % 2))) passed)
 
   pub star-lower : star table x y % 2 ≡ lowerBit (x / 2) (x % 2) (y / 2) (y % 2)
-  star-lower = eqb→eq (star table x y % 2) (lowerBit (x / 2) (x % 2) (y / 2) (y % 2)) (both-right (eqb (star table x y / 2) (upperBit (x / 2) (x % 2) (y / 2) (y % 2))) (eqb (star table x y % 2) (lowerBit (x / 2) (x % 2) (y / 2) (y % 2))) passed)
+  star-lower = eqb→eq (star table x y % 2) (lowerBit (x / 2) (x % 2) (y / 2) (y % 2)) (both-right (eqb (star table x y / 2)
+      (upperBit (x / 2) (x % 2) (y / 2) (y % 2))) (eqb (star table x y % 2) (lowerBit (x / 2) (x % 2) (y / 2) (y % 2))) passed)
 
 -- four cells in a byte: their bits
 module _ (a b c d : ℕ) (ha : a < 4) (hb : b < 4) (hc : c < 4) (hd : d < 4) where
@@ -121,32 +123,40 @@ module _ (p b : ℕ) (hp : p < 4) (hb : b < 256) where
 
   pub byte0 : bit 0 (substitutedByte table p b) ≡ upperBit (p / 2) (p % 2) (bit 0 b) (bit 1 b)
   unfolding substitutedByte
-  byte0 = four0 _ _ _ _ (below p (b / 64)) (below (b / 64) (b / 16 % 4)) (below (b / 16 % 4) (b / 4 % 4)) (below (b / 4 % 4) (b % 4)) ∙ star-upper p (b / 64) hp cell0 ∙ ap₂ (upperBit (p / 2) (p % 2)) e0 e1
+  byte0 = four0 _ _ _ _ (below p (b / 64)) (below (b / 64) (b / 16 % 4)) (below (b / 16 % 4) (b / 4 % 4)) (below (b / 4 % 4) (b % 4)) ∙ star-upper p (b / 64)
+      hp cell0 ∙ ap₂ (upperBit (p / 2) (p % 2)) e0 e1
 
   pub byte1 : bit 1 (substitutedByte table p b) ≡ lowerBit (p / 2) (p % 2) (bit 0 b) (bit 1 b)
   unfolding substitutedByte
-  byte1 = four1 _ _ _ _ (below p (b / 64)) (below (b / 64) (b / 16 % 4)) (below (b / 16 % 4) (b / 4 % 4)) (below (b / 4 % 4) (b % 4)) ∙ star-lower p (b / 64) hp cell0 ∙ ap₂ (lowerBit (p / 2) (p % 2)) e0 e1
+  byte1 = four1 _ _ _ _ (below p (b / 64)) (below (b / 64) (b / 16 % 4)) (below (b / 16 % 4) (b / 4 % 4)) (below (b / 4 % 4) (b % 4)) ∙ star-lower p (b / 64)
+      hp cell0 ∙ ap₂ (lowerBit (p / 2) (p % 2)) e0 e1
 
   pub byte2 : bit 2 (substitutedByte table p b) ≡ upperBit (bit 0 b) (bit 1 b) (bit 2 b) (bit 3 b)
   unfolding substitutedByte
-  byte2 = four2 _ _ _ _ (below p (b / 64)) (below (b / 64) (b / 16 % 4)) (below (b / 16 % 4) (b / 4 % 4)) (below (b / 4 % 4) (b % 4)) ∙ star-upper (b / 64) (b / 16 % 4) cell0 cell1 ∙ rw (e0, e1, e2, e3)
+  byte2 = four2 _ _ _ _ (below p (b / 64)) (below (b / 64) (b / 16 % 4)) (below (b / 16 % 4) (b / 4 % 4)) (below (b / 4 % 4) (b % 4)) ∙ star-upper (b / 64)
+      (b / 16 % 4) cell0 cell1 ∙ rw (e0, e1, e2, e3)
 
   pub byte3 : bit 3 (substitutedByte table p b) ≡ lowerBit (bit 0 b) (bit 1 b) (bit 2 b) (bit 3 b)
   unfolding substitutedByte
-  byte3 = four3 _ _ _ _ (below p (b / 64)) (below (b / 64) (b / 16 % 4)) (below (b / 16 % 4) (b / 4 % 4)) (below (b / 4 % 4) (b % 4)) ∙ star-lower (b / 64) (b / 16 % 4) cell0 cell1 ∙ rw (e0, e1, e2, e3)
+  byte3 = four3 _ _ _ _ (below p (b / 64)) (below (b / 64) (b / 16 % 4)) (below (b / 16 % 4) (b / 4 % 4)) (below (b / 4 % 4) (b % 4)) ∙ star-lower (b / 64)
+      (b / 16 % 4) cell0 cell1 ∙ rw (e0, e1, e2, e3)
 
   pub byte4 : bit 4 (substitutedByte table p b) ≡ upperBit (bit 2 b) (bit 3 b) (bit 4 b) (bit 5 b)
   unfolding substitutedByte
-  byte4 = four4 _ _ _ _ (below p (b / 64)) (below (b / 64) (b / 16 % 4)) (below (b / 16 % 4) (b / 4 % 4)) (below (b / 4 % 4) (b % 4)) ∙ star-upper (b / 16 % 4) (b / 4 % 4) cell1 cell2 ∙ rw (e2, e3, e4, e5)
+  byte4 = four4 _ _ _ _ (below p (b / 64)) (below (b / 64) (b / 16 % 4)) (below (b / 16 % 4) (b / 4 % 4)) (below (b / 4 % 4) (b % 4)) ∙ star-upper (b / 16 % 4)
+      (b / 4 % 4) cell1 cell2 ∙ rw (e2, e3, e4, e5)
 
   pub byte5 : bit 5 (substitutedByte table p b) ≡ lowerBit (bit 2 b) (bit 3 b) (bit 4 b) (bit 5 b)
   unfolding substitutedByte
-  byte5 = four5 _ _ _ _ (below p (b / 64)) (below (b / 64) (b / 16 % 4)) (below (b / 16 % 4) (b / 4 % 4)) (below (b / 4 % 4) (b % 4)) ∙ star-lower (b / 16 % 4) (b / 4 % 4) cell1 cell2 ∙ rw (e2, e3, e4, e5)
+  byte5 = four5 _ _ _ _ (below p (b / 64)) (below (b / 64) (b / 16 % 4)) (below (b / 16 % 4) (b / 4 % 4)) (below (b / 4 % 4) (b % 4)) ∙ star-lower (b / 16 % 4)
+      (b / 4 % 4) cell1 cell2 ∙ rw (e2, e3, e4, e5)
 
   pub byte6 : bit 6 (substitutedByte table p b) ≡ upperBit (bit 4 b) (bit 5 b) (bit 6 b) (bit 7 b)
   unfolding substitutedByte
-  byte6 = four6 _ _ _ _ (below p (b / 64)) (below (b / 64) (b / 16 % 4)) (below (b / 16 % 4) (b / 4 % 4)) (below (b / 4 % 4) (b % 4)) ∙ star-upper (b / 4 % 4) (b % 4) cell2 cell3 ∙ rw (e4, e5, e6, e7)
+  byte6 = four6 _ _ _ _ (below p (b / 64)) (below (b / 64) (b / 16 % 4)) (below (b / 16 % 4) (b / 4 % 4)) (below (b / 4 % 4) (b % 4)) ∙ star-upper (b / 4 % 4)
+      (b % 4) cell2 cell3 ∙ rw (e4, e5, e6, e7)
 
   pub byte7 : bit 7 (substitutedByte table p b) ≡ lowerBit (bit 4 b) (bit 5 b) (bit 6 b) (bit 7 b)
   unfolding substitutedByte
-  byte7 = four7 _ _ _ _ (below p (b / 64)) (below (b / 64) (b / 16 % 4)) (below (b / 16 % 4) (b / 4 % 4)) (below (b / 4 % 4) (b % 4)) ∙ star-lower (b / 4 % 4) (b % 4) cell2 cell3 ∙ rw (e4, e5, e6, e7)
+  byte7 = four7 _ _ _ _ (below p (b / 64)) (below (b / 64) (b / 16 % 4)) (below (b / 16 % 4) (b / 4 % 4)) (below (b / 4 % 4) (b % 4)) ∙ star-lower (b / 4 % 4)
+      (b % 4) cell2 cell3 ∙ rw (e4, e5, e6, e7)

@@ -134,7 +134,8 @@ module _ (n starts m most : ℕ) (some : 0 < n) (begins : starts ≡ bitXor (1 *
       record {
         from = λ y z.
             kept-again n starts some begins (i + 4) most m e few fits (omega arith) e′
-            (rw i4 at (kept-pair n starts some begins (most - 2) c d (i + 2) (omega arith) (omega arith) (omega arith) (omega arith) (omega arith) lc (rw i3 ld) p′
+            (rw i4 at (kept-pair n starts some begins (most - 2) c d (i + 2) (omega arith) (omega arith) (omega arith) (omega arith) (omega arith) lc
+            (rw i3 ld) p′
             (kept-pair n starts some begins most a b i enough few fits h (omega arith) la lb p (o .from y z))));
       }
 

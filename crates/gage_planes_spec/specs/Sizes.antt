@@ -1,4 +1,5 @@
--- The sizes that are permitted, by the form of their planes: at most 50 bytes, 64, or twice 34 to 36; and what is made of another size or count. Assumes nothing.
+-- The sizes that are permitted, by the form of their planes: at most 50 bytes, 64, or twice 34 to 36; and what is made of another size or count. Assumes
+-- nothing.
 use mathlib.Core.Path.{_≡_, refl, sym, ap, _∙_}
 use mathlib.Core.Bool.{Bool, true, false, cond, _&&_}
 use mathlib.Core.List.{List, [], _∷_}

@@ -61,14 +61,22 @@ module _ (o v l y z : ℕ) (p : Planes) (s : List ℕ) (some : 0 < length s) (fi
   pub products-hold : Holds o v (products y z p) (substitute table l s)
   unfolding column
   products-hold = record {
-    plane0 = held-same (upper-held y-held z-held (a .plane0) (a .plane1)) (λ i. column 0 (substitute table l s) (o + i)) (λ i h. sym (new 0 (o + i) ∙ byte0 (prior l s (o + i)) _ (cell-before (o + i)) (byte (o + i))));
-    plane1 = held-same (lower-held y-held z-held (a .plane0) (a .plane1) fits) (λ i. column 1 (substitute table l s) (o + i)) (λ i h. sym (new 1 (o + i) ∙ byte1 (prior l s (o + i)) _ (cell-before (o + i)) (byte (o + i))));
-    plane2 = held-same (upper-held (a .plane0) (a .plane1) (a .plane2) (a .plane3)) (λ i. column 2 (substitute table l s) (o + i)) (λ i h. sym (new 2 (o + i) ∙ byte2 (prior l s (o + i)) _ (cell-before (o + i)) (byte (o + i))));
-    plane3 = held-same (lower-held (a .plane0) (a .plane1) (a .plane2) (a .plane3) fits) (λ i. column 3 (substitute table l s) (o + i)) (λ i h. sym (new 3 (o + i) ∙ byte3 (prior l s (o + i)) _ (cell-before (o + i)) (byte (o + i))));
-    plane4 = held-same (upper-held (a .plane2) (a .plane3) (a .plane4) (a .plane5)) (λ i. column 4 (substitute table l s) (o + i)) (λ i h. sym (new 4 (o + i) ∙ byte4 (prior l s (o + i)) _ (cell-before (o + i)) (byte (o + i))));
-    plane5 = held-same (lower-held (a .plane2) (a .plane3) (a .plane4) (a .plane5) fits) (λ i. column 5 (substitute table l s) (o + i)) (λ i h. sym (new 5 (o + i) ∙ byte5 (prior l s (o + i)) _ (cell-before (o + i)) (byte (o + i))));
-    plane6 = held-same (upper-held (a .plane4) (a .plane5) (a .plane6) (a .plane7)) (λ i. column 6 (substitute table l s) (o + i)) (λ i h. sym (new 6 (o + i) ∙ byte6 (prior l s (o + i)) _ (cell-before (o + i)) (byte (o + i))));
-    plane7 = held-same (lower-held (a .plane4) (a .plane5) (a .plane6) (a .plane7) fits) (λ i. column 7 (substitute table l s) (o + i)) (λ i h. sym (new 7 (o + i) ∙ byte7 (prior l s (o + i)) _ (cell-before (o + i)) (byte (o + i))));
+    plane0 = held-same (upper-held y-held z-held (a .plane0) (a .plane1)) (λ i. column 0 (substitute table l s) (o + i))
+        (λ i h. sym (new 0 (o + i) ∙ byte0 (prior l s (o + i)) _ (cell-before (o + i)) (byte (o + i))));
+    plane1 = held-same (lower-held y-held z-held (a .plane0) (a .plane1) fits) (λ i. column 1 (substitute table l s) (o + i))
+        (λ i h. sym (new 1 (o + i) ∙ byte1 (prior l s (o + i)) _ (cell-before (o + i)) (byte (o + i))));
+    plane2 = held-same (upper-held (a .plane0) (a .plane1) (a .plane2) (a .plane3)) (λ i. column 2 (substitute table l s) (o + i))
+        (λ i h. sym (new 2 (o + i) ∙ byte2 (prior l s (o + i)) _ (cell-before (o + i)) (byte (o + i))));
+    plane3 = held-same (lower-held (a .plane0) (a .plane1) (a .plane2) (a .plane3) fits) (λ i. column 3 (substitute table l s) (o + i))
+        (λ i h. sym (new 3 (o + i) ∙ byte3 (prior l s (o + i)) _ (cell-before (o + i)) (byte (o + i))));
+    plane4 = held-same (upper-held (a .plane2) (a .plane3) (a .plane4) (a .plane5)) (λ i. column 4 (substitute table l s) (o + i))
+        (λ i h. sym (new 4 (o + i) ∙ byte4 (prior l s (o + i)) _ (cell-before (o + i)) (byte (o + i))));
+    plane5 = held-same (lower-held (a .plane2) (a .plane3) (a .plane4) (a .plane5) fits) (λ i. column 5 (substitute table l s) (o + i))
+        (λ i h. sym (new 5 (o + i) ∙ byte5 (prior l s (o + i)) _ (cell-before (o + i)) (byte (o + i))));
+    plane6 = held-same (upper-held (a .plane4) (a .plane5) (a .plane6) (a .plane7)) (λ i. column 6 (substitute table l s) (o + i))
+        (λ i h. sym (new 6 (o + i) ∙ byte6 (prior l s (o + i)) _ (cell-before (o + i)) (byte (o + i))));
+    plane7 = held-same (lower-held (a .plane4) (a .plane5) (a .plane6) (a .plane7) fits) (λ i. column 7 (substitute table l s) (o + i))
+        (λ i h. sym (new 7 (o + i) ∙ byte7 (prior l s (o + i)) _ (cell-before (o + i)) (byte (o + i))));
   }
 
 -- planes that begin where a state does
@@ -101,4 +109,5 @@ pub around-holds : (s : List ℕ) → length s ≡ WORD → (l : ℕ) (p : Plane
     → Holds 0 WORD (turnedAround p l) (substitute table l (shuffle s))
 around-holds s long l p cell a =
     let same : length (shuffle s) ≡ WORD = length-shuffle s ∙ long in
-    substituted-holds WORD 1 l (rolledAll p) (shuffle s) (omega arith) (omega arith) cell (shuffle-below s) (rw same (one-held WORD WORD (omega arith))) (rolled-holds s long a)
+    substituted-holds WORD 1 l (rolledAll p) (shuffle s) (omega arith) (omega arith) cell (shuffle-below s) (rw same (one-held WORD WORD (omega arith)))
+    (rolled-holds s long a)

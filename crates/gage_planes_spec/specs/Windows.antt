@@ -16,12 +16,14 @@ use Rattle.gage_cells.specs.Cells.{table, substitute}
 use Rattle.gage_cells.specs.States.{length-substitute}
 use Rattle.gage_shuffle.specs.Shuffling.{bit, shuffle}
 use Rattle.gage_shuffle.specs.States.{length-shuffle, shuffle-below}
-use Rattle.base_digits.specs.Digits.{digit, differ-none, digit-below, digit-xor, digit-and, digit-shr, digit-mod, digit-high, digit-shl-low, digit-shl-high, digits-same}
+use Rattle.base_digits.specs.Digits.{digit, differ-none, digit-below, digit-xor, digit-and, digit-shr}
+use Rattle.base_digits.specs.Digits.{digit-mod, digit-high, digit-shl-low, digit-shl-high, digits-same}
 use Rattle.base_digits.specs.Held.{Held, WORD, ONES, ones-digit, held-same, held-fewer}
 use Rattle.gage_planes_spec.specs.declared.Planes.{Planes}
 use Rattle.gage_planes_spec.specs.declared.State.{State}
 use Rattle.gage_planes_spec.specs.declared.Windows.{Windows}
-use Rattle.gage_planes_spec.specs.Planes.{led, products, slid, beside, drawnOut, cut, ledFrom, substitutedBoth, turnedBoth, drawnBoth, behind, secondOf, taken, rejoined}
+use Rattle.gage_planes_spec.specs.Planes.{led, products, slid, beside, drawnOut, cut, ledFrom}
+use Rattle.gage_planes_spec.specs.Planes.{substitutedBoth, turnedBoth, drawnBoth, behind, secondOf, taken, rejoined}
 use Rattle.gage_planes_spec.specs.Columns.{column, column-around, Holds, holds-fewer, drawn-out-holds}
 use Rattle.gage_planes_spec.specs.Leading.{first, ahead, digit-one, one-held, carried-held}
 use Rattle.gage_planes_spec.specs.Moving.{slid-holds}
@@ -75,7 +77,8 @@ module _ (h : ℕ) (s : List ℕ) (long : length s ≡ h + h) (some : 0 < h) (wi
     both-substituted l w cell small a = record {
       front = substituted-holds v 1 l (w .first) s (omega arith) fits cell small (one-held (length s) v (omega arith)) (a .front);
       back =
-          products-hold h v l (ledFrom (w .second .g) (w .first .g) h (l / 2 % 2)) (ledFrom (w .second .h) (w .first .h) h (l % 2)) (w .second) s (omega arith) fits cell small
+          products-hold h v l (ledFrom (w .second .g) (w .first .g) h (l / 2 % 2)) (ledFrom (w .second .h) (w .first .h) h (l % 2)) (w .second) s (omega arith)
+          fits cell small
           (held-same (second-led (l / 2 % 2) 6 (w .first .g) (w .second .g) (omega arith) (a .front .plane6) (a .back .plane6)) (λ i. prior l s (h + i) / 2)
           (λ i g. ahead-upper l (λ k. getD s k 0) ((h + i) % length s) cell))
           (held-same (second-led (l % 2) 7 (w .first .h) (w .second .h) (omega arith) (a .front .plane7) (a .back .plane7)) (λ i. prior l s (h + i) % 2)
@@ -96,7 +99,8 @@ module _ (h : ℕ) (s : List ℕ) (long : length s ≡ h + h) (some : 0 < h) (wi
 pub both-turned : (h v l : ℕ) (w : Windows) (s : List ℕ) → length s ≡ h + h → 0 < h → WORD ≤ h + h → 7 + v ≤ WORD → h ≤ v → l < 4
     → HoldBoth h (7 + v) w s → HoldBoth h v (turnedBoth w h l) (substitute table l (shuffle s))
 both-turned h v l w s long some wide fits enough cell a =
-    both-substituted h (shuffle s) (length-shuffle s ∙ long) some wide v (omega arith) enough l (record { first = slid (w .first); second = slid (w .second) }) cell (shuffle-below s)
+    both-substituted h (shuffle s) (length-shuffle s ∙ long) some wide v (omega arith) enough l (record { first = slid (w .first); second = slid (w .second) })
+    cell (shuffle-below s)
     (record { front = slid-holds s (omega arith) 0 v (a .front); back = slid-holds s (omega arith) h v (a .back) })
 
 -- the windows of a state in planes
@@ -108,9 +112,11 @@ module _ (h : ℕ) (s : List ℕ) (t : State) (long : length s ≡ h + h) (wide 
   behind-held j x y few low high = record {
     digits = λ i g.
         let e : 7 - (7 - j) ≡ j = omega arith in
-        let there : digit (getD s (h + i) 0) j ≡ column (7 - j) s (h + i) = sym (column-digit (7 - j) s (h + i) (omega arith) ∙ ap (digit (getD s (h + i) 0)) e) in
+        let there : digit (getD s (h + i) 0) j ≡ column (7 - j) s (h + i) = sym (column-digit (7 - j) s (h + i) (omega arith) ∙ ap (digit (getD s (h + i) 0))
+        e) in
         digit-xor (bitAnd (x / 2 ^ h) (ONES / 2 ^ h)) (y % 256 * 2 ^ (64 - h) % 2 ^ 64) i
-        ∙ ap₂ differ (digit-and (x / 2 ^ h) (ONES / 2 ^ h) i ∙ ap₂ min (digit-shr x h i) (digit-shr ONES h i)) (digit-mod (y % 256 * 2 ^ (64 - h)) WORD i (omega arith))
+        ∙ ap₂ differ (digit-and (x / 2 ^ h) (ONES / 2 ^ h) i ∙ ap₂ min (digit-shr x h i) (digit-shr ONES h i))
+        (digit-mod (y % 256 * 2 ^ (64 - h)) WORD i (omega arith))
         ∙ elim (decLt (h + i) WORD) [
           | yes p ↦
               let bit : digit x (h + i) ≤ 1 = omega (arith, digit-below x (h + i)) in
@@ -150,11 +156,13 @@ module _ (h : ℕ) (s : List ℕ) (t : State) (long : length s ≡ h + h) (wide 
   }
 
 -- the state in planes that two windows hold
-module _ (h : ℕ) (s : List ℕ) (w : Windows) (long : length s ≡ h + h) (wide : WORD ≤ h + h) (room : h + h ≤ ROOM) (narrow : h < WORD) (a : HoldBoth h h w s) where
+module _ (h : ℕ) (s : List ℕ) (w : Windows) (long : length s ≡ h + h) (wide : WORD ≤ h + h) (room : h + h ≤ ROOM) (narrow : h < WORD)
+    (a : HoldBoth h h w s) where
   low-held : Holds 0 WORD (drawnOut (w .first) (w .second) (2 ^ h - 1) h) s
   low-held =
       let e : h + (WORD - h) ≡ WORD = omega arith in
-      rw e at (drawn-out-holds h (WORD - h) 0 h (omega arith) (omega arith) (λ b i. ap (column b s) (let e : 0 + (h + i) ≡ h + i = omega arith in e)) (a .front) (a .back))
+      rw e at (drawn-out-holds h (WORD - h) 0 h (omega arith) (omega arith) (λ b i. ap (column b s) (let e : 0 + (h + i) ≡ h + i = omega arith in e))
+      (a .front) (a .back))
 
   beside-below : (x y : ℕ) → beside x y (2 ^ h - 1) h < 2 ^ WORD
   unfolding beside

@@ -23,13 +23,15 @@ from-right a b c d e f g h = omega arith
 
 -- the sums of the code are the definition's
 pub gathered-left : (a b c d e f g h : ℕ)
-    → a % 2 * getD weights 0 0 + b / 2 % 2 * getD weights 1 0 + c / 4 % 2 * getD weights 2 0 + d / 8 % 2 * getD weights 3 0 + e / 16 % 2 * getD weights 4 0 + f / 32 % 2 * getD weights 5 0 + g / 64 % 2 * getD weights 6 0 + h / 128 % 2 * getD weights 7 0
+    → a % 2 * getD weights 0 0 + b / 2 % 2 * getD weights 1 0 + c / 4 % 2 * getD weights 2 0 + d / 8 % 2 * getD weights 3 0 + e / 16 % 2 * getD weights 4 0 + f
+    / 32 % 2 * getD weights 5 0 + g / 64 % 2 * getD weights 6 0 + h / 128 % 2 * getD weights 7 0
     ≡ gathered (a ∷ b ∷ c ∷ d ∷ e ∷ f ∷ g ∷ h ∷ [])
 unfolding gathered weighed
 gathered-left a b c d e f g h = rw (div-one a) (from-right _ _ _ _ _ _ _ _)
 
 pub returned-left : (a b c d e f g h : ℕ)
-    → a / getD weights 0 1 % 2 + b / getD weights 1 1 % 2 * 2 + c / getD weights 2 1 % 2 * 4 + d / getD weights 3 1 % 2 * 8 + e / getD weights 4 1 % 2 * 16 + f / getD weights 5 1 % 2 * 32 + g / getD weights 6 1 % 2 * 64 + h / getD weights 7 1 % 2 * 128
+    → a / getD weights 0 1 % 2 + b / getD weights 1 1 % 2 * 2 + c / getD weights 2 1 % 2 * 4 + d / getD weights 3 1 % 2 * 8 + e / getD weights 4 1 % 2 * 16 + f
+    / getD weights 5 1 % 2 * 32 + g / getD weights 6 1 % 2 * 64 + h / getD weights 7 1 % 2 * 128
     ≡ returned (a ∷ b ∷ c ∷ d ∷ e ∷ f ∷ g ∷ h ∷ [])
 unfolding returned weighed
 returned-left a b c d e f g h = from-right _ _ _ _ _ _ _ _ ∙ rw mul-one

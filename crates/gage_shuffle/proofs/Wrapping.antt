@@ -111,14 +111,17 @@ module _ (s : List ℕ) (n : ℕ) (fits : n ≤ length s) (wide : SMALLEST ≤ n
   -- one byte more
   pub unshuffle-more : (e out : List ℕ) (i v : ℕ) → Upto (λ k. getD s ((k + (n - 7)) % n) 0) e (n + 7)
       → Filled (unshuffle (take n s)) s out i → i < n
-      → v ≡ returned (getD e (i + 7) 0 ∷ getD e (i + 6) 0 ∷ getD e (i + 5) 0 ∷ getD e (i + 4) 0 ∷ getD e (i + 3) 0 ∷ getD e (i + 2) 0 ∷ getD e (i + 1) 0 ∷ getD e i 0 ∷ [])
+      → v ≡ returned (getD e (i + 7) 0 ∷ getD e (i + 6) 0 ∷ getD e (i + 5) 0 ∷ getD e (i + 4) 0 ∷ getD e (i + 3) 0 ∷ getD e (i + 2) 0 ∷ getD e (i + 1) 0 ∷ getD
+      e i 0 ∷ [])
       → Filled (unshuffle (take n s)) s (set out i v) (i + 1)
   unshuffle-more e out i v u f h w =
       filled-more v f (rw unshuffle-long h)
       (w
-      ∙ returned-is e i u h (getD e (i + 7) 0 ∷ getD e (i + 6) 0 ∷ getD e (i + 5) 0 ∷ getD e (i + 4) 0 ∷ getD e (i + 3) 0 ∷ getD e (i + 2) 0 ∷ getD e (i + 1) 0 ∷ getD e i 0 ∷ [])
+      ∙ returned-is e i u h (getD e (i + 7) 0 ∷ getD e (i + 6) 0 ∷ getD e (i + 5) 0 ∷ getD e (i + 4) 0 ∷ getD e (i + 3) 0 ∷ getD e (i + 2) 0 ∷ getD e (i + 1) 0
+      ∷ getD e i 0 ∷ [])
       (eight
-      (λ j. getD (getD e (i + 7) 0 ∷ getD e (i + 6) 0 ∷ getD e (i + 5) 0 ∷ getD e (i + 4) 0 ∷ getD e (i + 3) 0 ∷ getD e (i + 2) 0 ∷ getD e (i + 1) 0 ∷ getD e i 0 ∷ []) j 0 ≡ getD e (i + (7 - j)) 0)
+      (λ j. getD (getD e (i + 7) 0 ∷ getD e (i + 6) 0 ∷ getD e (i + 5) 0 ∷ getD e (i + 4) 0 ∷ getD e (i + 3) 0 ∷ getD e (i + 2) 0 ∷ getD e (i + 1) 0 ∷ getD e i
+      0 ∷ []) j 0 ≡ getD e (i + (7 - j)) 0)
       refl refl refl refl refl refl refl (rw add-zero)))
 
   pub unshuffle-all : (out : List ℕ) (i : ℕ) → Filled (unshuffle (take n s)) s out i → n ≤ i → out ≡ unshuffle (take n s) ++ drop n s

@@ -19,7 +19,8 @@ wrapped n e = take n e ++ (take SMALLEST e ++ drop (n + SMALLEST) e)
 -- the byte gathered from the eight from place i on
 unfoldable pub gatheredAt : List ℕ → ℕ → ℕ
 gatheredAt e i =
-    gathered (getD e i 0 ∷ getD e (i + 1) 0 ∷ getD e (i + 2) 0 ∷ getD e (i + 3) 0 ∷ getD e (i + 4) 0 ∷ getD e (i + 5) 0 ∷ getD e (i + 6) 0 ∷ getD e (i + 7) 0 ∷ [])
+    gathered (getD e i 0 ∷ getD e (i + 1) 0 ∷ getD e (i + 2) 0 ∷ getD e (i + 3) 0 ∷ getD e (i + 4) 0 ∷ getD e (i + 5) 0 ∷ getD e (i + 6) 0 ∷ getD e (i + 7) 0 ∷
+    [])
 
 tabled-by : (f g : ℕ → ℕ) (i n : ℕ) → ((k : ℕ) → k < n → f (i + k) ≡ g (i + k)) → tabled f i n ≡ tabled g i n
 unfolding tabled
@@ -56,7 +57,8 @@ module _ (n : ℕ) (e : List ℕ) (wide : SMALLEST ≤ n) (fits : n + SMALLEST �
   unfolding gatheredAt gathered shuffledByte
   gathered-shuffled i h =
       let w = wrapped n e in
-      let xs : List ℕ = getD w i 0 ∷ getD w (i + 1) 0 ∷ getD w (i + 2) 0 ∷ getD w (i + 3) 0 ∷ getD w (i + 4) 0 ∷ getD w (i + 5) 0 ∷ getD w (i + 6) 0 ∷ getD w (i + 7) 0 ∷ [] in
+      let xs : List ℕ = getD w i 0 ∷ getD w (i + 1) 0 ∷ getD w (i + 2) 0 ∷ getD w (i + 3) 0 ∷ getD w (i + 4) 0 ∷ getD w (i + 5) 0 ∷ getD w (i + 6) 0 ∷ getD w
+      (i + 7) 0 ∷ [] in
       let each : (j : ℕ) → j < 8 → getD xs j 0 ≡ getD w (i + j) 0 =
       eight (λ j. getD xs j 0 ≡ getD w (i + j) 0) (rw add-zero) refl refl refl refl refl refl refl in
       weighed-by (λ j. bit (7 - j) (getD xs j 0)) (element (take n e) i) 0 weights

@@ -1,4 +1,5 @@
--- The promises of `slid`, `led`, `products`, `substituted`, `turned`, `turned_around`, `drawn_out`, `cut`, `grown` and `taken`, as the check reads them (`Post`), admit a single answer. Assumes nothing.
+-- The promises of `slid`, `led`, `products`, `substituted`, `turned`, `turned_around`, `drawn_out`, `cut`, `grown` and `taken`, as the check reads them
+-- (`Post`), admit a single answer. Assumes nothing.
 use mathlib.Core.Path.{_≡_, sym, _∙_}
 use Prim.Native.Nat.{ℕ}
 use Rattle.gage_planes_spec.specs.declared.Planes.{Planes}
@@ -38,7 +39,8 @@ pub products-single : (κs : Lfts 0) (a : Dens κs products-kinds.ps) (r r′ : 
     → products-reads.Post κs a r x → products-reads.Post κs a r′ x′ → r ≡ r′
 products-single κs a r r′ x x′ p q = p ∙ sym q
 
-pub substituted-single : (κs : Lfts 0) (a : Dens κs substituted-kinds.ps) (r r′ : Planes) (x x′ : AtExit (endedOf 0 substituted-kinds.ps substituted-kinds.r) κs)
+pub substituted-single : (κs : Lfts 0) (a : Dens κs substituted-kinds.ps) (r r′ : Planes)
+    (x x′ : AtExit (endedOf 0 substituted-kinds.ps substituted-kinds.r) κs)
     → substituted-reads.Post κs a r x → substituted-reads.Post κs a r′ x′ → r ≡ r′
 substituted-single κs a r r′ x x′ p q = p ∙ sym q
 
@@ -46,7 +48,8 @@ pub turned-single : (κs : Lfts 0) (a : Dens κs turned-kinds.ps) (r r′ : Plan
     → turned-reads.Post κs a r x → turned-reads.Post κs a r′ x′ → r ≡ r′
 turned-single κs a r r′ x x′ p q = p ∙ sym q
 
-pub turned-around-single : (κs : Lfts 0) (a : Dens κs turned-around-kinds.ps) (r r′ : Planes) (x x′ : AtExit (endedOf 0 turned-around-kinds.ps turned-around-kinds.r) κs)
+pub turned-around-single : (κs : Lfts 0) (a : Dens κs turned-around-kinds.ps) (r r′ : Planes)
+    (x x′ : AtExit (endedOf 0 turned-around-kinds.ps turned-around-kinds.r) κs)
     → turned-around-reads.Post κs a r x → turned-around-reads.Post κs a r′ x′ → r ≡ r′
 turned-around-single κs a r r′ x x′ p q = p ∙ sym q
 

@@ -138,7 +138,8 @@ exchanged-below x j m h g =
 woven-below : (x : ℕ) → x < 2 ^ 64 → woven x < 2 ^ 64
 woven-below x h =
     exchanged-below (exchanged (exchanged x 7 0x00AA00AA00AA00AA) 14 0x0000CCCC0000CCCC) 28 0x00000000F0F0F0F0
-    (exchanged-below (exchanged x 7 0x00AA00AA00AA00AA) 14 0x0000CCCC0000CCCC (exchanged-below x 7 0x00AA00AA00AA00AA h (omega arith)) (omega arith)) (omega arith)
+    (exchanged-below (exchanged x 7 0x00AA00AA00AA00AA) 14 0x0000CCCC0000CCCC (exchanged-below x 7 0x00AA00AA00AA00AA h (omega arith)) (omega arith))
+    (omega arith)
 
 pub rest-woven : (t : List ℕ) → woven (joined t) ≡ restOf t
 unfolding restOf

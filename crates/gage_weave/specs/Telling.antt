@@ -39,7 +39,8 @@ unfolding eightOf digitAt
 eight-digit t i c k whole room h g = elim (decLt i LOW) [
   | yes p ↦
       rw (lt-ltb i LOW p, lt-ltb (i + k) LOW (omega (arith, p)))
-      (digit-joined (shifted (t .low) i) c k g (omega arith) ∙ ap (λ (x : ℕ). digit x k) (shifted-worth (t .low) i c h) ∙ digit-shr (getD (worth (t .low)) c 0) i k)
+      (digit-joined (shifted (t .low) i) c k g (omega arith) ∙ ap (λ (x : ℕ). digit x k) (shifted-worth (t .low) i c h) ∙ digit-shr (getD (worth (t .low)) c 0)
+      i k)
   | no p ↦
       let e : k ≡ i + k - LOW = omega (arith, p) in
       rw (le-ltb i LOW (omega (arith, p)), le-ltb (i + k) LOW (omega (arith, p))) (ap (λ (m : ℕ). digit (t .rest) (8 * c + m)) e)
@@ -75,7 +76,8 @@ unfolding told
 told-add i m t = tabled-add (byteAt t) 0 i m ∙ rw (zero-add i)
 
 -- bytes from `from` to `to` put into a buffer whose first bytes are told
-module _ (t : State) (o out w : List ℕ) (from to x : ℕ) (whole : from % 8 ≡ 0) (order : from ≤ to) (room : to ≤ ROOM) (few : to ≤ from + 8) (fits : to ≤ length o)
+module _ (t : State) (o out w : List ℕ) (from to x : ℕ) (whole : from % 8 ≡ 0) (order : from ≤ to) (room : to ≤ ROOM) (few : to ≤ from + 8)
+    (fits : to ≤ length o)
     (e : x ≡ woven (eightOf t from)) (f : w ≡ bytesOf x (length (take (to - from) (drop from out)))) (g : out ≡ over (told from t) o) where
   part-long : length (take (to - from) (drop from out)) ≡ to - from
   part-long =
@@ -90,7 +92,8 @@ module _ (t : State) (o out w : List ℕ) (from to x : ℕ) (whole : from % 8 �
       let z : from + (to - from) ≡ to = omega arith in
       let lt = length-told from t in
       let long : length w ≡ to - from = ap length bytes-are ∙ length-tabled (byteAt t) from (to - from) in
-      let next : told to t ≡ told from t ++ w = ap (λ (n : ℕ). told n t) (sym z) ∙ told-add from (to - from) t ∙ ap (λ (l : List ℕ). told from t ++ l) (sym bytes-are) in
+      let next : told to t ≡ told from t ++ w = ap (λ (n : ℕ). told n t) (sym z) ∙ told-add from (to - from) t ∙ ap (λ (l : List ℕ). told from t ++ l)
+      (sym bytes-are) in
       let all : length (told from t ++ w) ≡ to = length-append (told from t) w ∙ rw (lt, long) z in
       rw (g, next)
       (ap₂ (λ (u v : List ℕ). u ++ (w ++ drop (to - from) v)) (take-at (told from t) (drop (length (told from t)) o) from lt)

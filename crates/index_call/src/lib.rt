@@ -82,7 +82,8 @@ fn add(
 )
     requires { ⌜ Adding (told (now key) (now font) layout) editions (now stream) from n ⌝ }
     requires { ⌜ count + n ≤ length (now table) ⌝ }
-    ensures { λ _. ⌜ now (table .exit) ≡ sets (now (table .entry)) count (entriesFrom (judgedAll (told (now (key .entry)) (now (font .entry)) layout) editions) (now (stream .entry)) from) ⌝ }
+    ensures { λ _. ⌜ now (table .exit) ≡ sets (now (table .entry)) count (entriesFrom (judgedAll (told (now (key .entry)) (now (font .entry)) layout) editions)
+        (now (stream .entry)) from) ⌝ }
 {
     let mut at = from;
     let mut i = 0;
@@ -112,7 +113,8 @@ pub fn update(
     count: usize,
 ) -> Updated
     ensures { λ r. ⌜ r ≡ updated (told (now (key .entry)) (now (font .entry)) layout) editions (now (stream .entry)) (now (table .entry)) count ⌝ }
-    ensures { λ _. ⌜ now (table .exit) ≡ updatedTable (told (now (key .entry)) (now (font .entry)) layout) editions (now (stream .entry)) (now (table .entry)) count ⌝ }
+    ensures { λ _. ⌜ now (table .exit) ≡ updatedTable (told (now (key .entry)) (now (font .entry)) layout) editions (now (stream .entry)) (now (table .entry))
+        count ⌝ }
 {
     if key.len() != KEY_LENGTH {
         return refused(Answer::Sizes, count);

@@ -18,7 +18,8 @@ module _ (s : List ℕ) where
       let none : readings unjudged s from ≡ [] = readings-step unjudged s from ∙ rw (eq-eqb (nextSpan s from .first) (nextSpan s from .closing) e) in
       ap length none
 
-  pub one-counted : (from : ℕ) → (nextSpan s from .first ≡ nextSpan s from .closing → ⊥) → stretchesFrom s from ≡ suc (stretchesFrom s (nextSpan s from .closing))
+  pub one-counted : (from : ℕ) → (nextSpan s from .first ≡ nextSpan s from .closing → ⊥) → stretchesFrom s from
+      ≡ suc (stretchesFrom s (nextSpan s from .closing))
   unfolding stretchesFrom
   one-counted from d =
       let one : readings unjudged s from ≡ reading (nextSpan s from) (unjudged (nextStretch s from)) ∷ readings unjudged s (nextSpan s from .closing) =

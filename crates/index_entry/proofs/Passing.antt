@@ -54,7 +54,8 @@ module _ (table : List ℕ) (count : ℕ) where
       let e : suc k - 1 ≡ k = omega arith in
       record { turns = omega arith; same = ap (λ (n : ℕ). lineFrom 0 n (lookedAt table count)) e }
 
-  one-less : (i left : ℕ) (here goal : Line) (l : List ℕ) → 0 < left → orLater left here (λ n. lineFrom (i + 1) n l) ≡ goal → lineFrom (i + 1) (left - 1) l ≡ goal
+  one-less : (i left : ℕ) (here goal : Line) (l : List ℕ) → 0 < left → orLater left here (λ n. lineFrom (i + 1) n l) ≡ goal
+      → lineFrom (i + 1) (left - 1) l ≡ goal
   unfolding orLater
   one-less i zero here goal l g x = absurd (omega arith)
   one-less i (suc m) here goal l g x = let q : suc m - 1 ≡ m = omega arith in ap (λ (n : ℕ). lineFrom (i + 1) n l) q ∙ x

@@ -47,7 +47,8 @@ pub data AllAfter (key font : List ℕ) (editions a : ℕ) (lay : Layout) (s : L
   one-more : {from : ℕ} (e : ℕ) {rest : List ℕ} → After key font editions a lay s from (entryPlace e) (entryNumber e)
       → AllAfter key font editions a lay s (entryPlace e) rest → AllAfter key font editions a lay s from (e ∷ rest)
 
-module _ (key font : List ℕ) (editions a : ℕ) (lay : Layout) (s : List ℕ) (z : Sizes (told key font lay)) (h : length s ≤ reader.longestStream) (bytes : Below 256 s) (all : allWork ≤ a) where
+module _ (key font : List ℕ) (editions a : ℕ) (lay : Layout) (s : List ℕ) (z : Sizes (told key font lay)) (h : length s ≤ reader.longestStream)
+    (bytes : Below 256 s) (all : allWork ≤ a) where
   abbrev t : Told
   t = told key font lay
 
@@ -68,7 +69,8 @@ module _ (key font : List ℕ) (editions a : ℕ) (lay : Layout) (s : List ℕ) 
       })
 
   on : (from : ℕ) → from ≤ length s → Next s from (nextSpan s from)
-      → (Found s from (nextSpan s from) → AllAfter key font editions a lay s (nextSpan s from .first) (map recorded (readings (judgedAll t editions) s (nextSpan s from .first))))
+      → (Found s from (nextSpan s from) → AllAfter key font editions a lay s (nextSpan s from .first)
+      (map recorded (readings (judgedAll t editions) s (nextSpan s from .first))))
       → AllAfter key font editions a lay s from (map recorded (readings (judgedAll t editions) s from))
   on from i (nothing e n) k =
       let none : readings (judgedAll t editions) s from ≡ [] = readings-step (judgedAll t editions) s from ∙ rw (e, eq-eqb (length s) (length s) refl) in
@@ -97,7 +99,8 @@ pub record KeptAndAdded (key font : List ℕ) (editions a : ℕ) (lay : Layout) 
   pub table-is : table′ ≡ (take count table ++ new) ++ drop (r .count) table
   pub after-last : AllAfter key font editions a lay s (lastPlace table count) new
 
-pub kept-and-added : (key font : List ℕ) (editions a : ℕ) (lay : Layout) (s table : List ℕ) (count : ℕ) (r : Updated) (table′ : List ℕ) → Below 256 s → allWork ≤ a
+pub kept-and-added : (key font : List ℕ) (editions a : ℕ) (lay : Layout) (s table : List ℕ) (count : ℕ) (r : Updated) (table′ : List ℕ) → Below 256 s
+    → allWork ≤ a
     → Updates key font editions lay s table count r table′ → Done r → KeptAndAdded key font editions a lay s table count r table′
 unfolding added
 kept-and-added key font editions a lay s table count r table′ bytes all p h =

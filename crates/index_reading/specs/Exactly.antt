@@ -28,12 +28,14 @@ use Rattle.index_reading.specs.Promises.{Updates, asking, stretchesSeen}
 use Rattle.index_reading.specs.Runs.{seenOf, run-readings}
 
 -- the stretches from a place on are as many as a run of `read` from there sees
-pub stretches-seen : (key font : List ℕ) (editions a : ℕ) (lay : Layout) (s : List ℕ) → Sizes (told key font lay) → length s ≤ longestStream → Below 256 s → allWork ≤ a
+pub stretches-seen : (key font : List ℕ) (editions a : ℕ) (lay : Layout) (s : List ℕ) → Sizes (told key font lay) → length s ≤ longestStream → Below 256 s
+    → allWork ≤ a
     → (from : ℕ) {seen : List Seen} → from ≤ length s → Run key font (asking editions a lay) s 0 from seen → Ended seen
     → length (stretchesSeen seen) ≡ stretchesFrom s from
 stretches-seen key font editions a lay s z h bytes all from i q e =
     let l = readings (judgedAll (told key font lay) editions) s from in
-    ap length (run-readings key font editions a lay s z h bytes all from i q e) ∙ length-map l seenOf ∙ counted-alike (judgedAll (told key font lay) editions) s from
+    ap length (run-readings key font editions a lay s z h bytes all from i q e) ∙ length-map l seenOf ∙ counted-alike (judgedAll (told key font lay) editions)
+    s from
 
 -- the last entry's place is beyond the stream
 pub record TenWhen (t : Told) (s table : List ℕ) (count : ℕ) : Type 0 where
@@ -64,7 +66,8 @@ unfolding lastPlace
 beyond-last s table zero g h = absurd (omega arith)
 beyond-last s table (suc n) g h = let e : suc n - 1 ≡ n = omega arith in rw e at h
 
-module _ (key font : List ℕ) (editions : ℕ) (lay : Layout) (s table : List ℕ) (count : ℕ) (r : Updated) (table′ : List ℕ) (p : Updates key font editions lay s table count r table′) where
+module _ (key font : List ℕ) (editions : ℕ) (lay : Layout) (s table : List ℕ) (count : ℕ) (r : Updated) (table′ : List ℕ)
+    (p : Updates key font editions lay s table count r table′) where
   abbrev t : Told
   t = told key font lay
 

@@ -125,7 +125,8 @@ module _ (key font : List ℕ) (editions : ℕ) (lay : Layout) where
       (p .1 ∙ k .0, ap (λ (x : Updated). x .count) (p .0) ∙ k .1)
 
   -- entries below the count handed in are kept
-  pub kept-below : (s table : List ℕ) (count : ℕ) (r : Updated) (table′ : List ℕ) → WasDone t editions s table count r table′ → take count table′ ≡ take count table
+  pub kept-below : (s table : List ℕ) (count : ℕ) (r : Updated) (table′ : List ℕ) → WasDone t editions s table count r table′
+      → take count table′ ≡ take count table
   kept-below s table count r table′ k =
       let w = added t editions s table count in
       let f : count + length w ≤ length table = omega (arith, k .fits, k .takes .room) in
@@ -135,14 +136,22 @@ module _ (key font : List ℕ) (editions : ℕ) (lay : Layout) where
   many : (s more table : List ℕ) (count : ℕ) (c : Current s table count)
       → count + length (added t editions (s ++ more) table count) ≡ length (reads (s ++ more) 0)
   many s more table count c =
-      omega (arith, c .many, added-many (s ++ more) table count, ap length (more-read s more table count c), length-append (reads s 0) (reads (s ++ more) (lastPlace table count)))
+      omega (
+        arith,
+        c .many,
+        added-many (s ++ more) table count,
+        ap length (more-read s more table count c),
+        length-append (reads s 0)
+            (reads (s ++ more) (lastPlace table count)),
+      )
 
   fresh-many : (s o : List ℕ) → 0 + length (added t editions s o 0) ≡ length (reads s 0)
   unfolding lastPlace
   fresh-many s o = omega (arith, added-many s o 0)
 
   after-grown : (s table : List ℕ) (count : ℕ) → Built key font editions lay s table count
-      → (more : List ℕ) (r : Updated) (table′ : List ℕ) → Updates key font editions lay (s ++ more) table count r table′ → Done r → Current (s ++ more) table′ (r .count)
+      → (more : List ℕ) (r : Updated) (table′ : List ℕ) → Updates key font editions lay (s ++ more) table count r table′ → Done r
+      → Current (s ++ more) table′ (r .count)
   after-grown s table count b more r table′ p h = built-current (promises.grown b more r table′ p h)
 
   after-fresh : (s o : List ℕ) (f : Updated) (o′ : List ℕ) → Updates key font editions lay s o 0 f o′ → Done f → Current s o′ (f .count)
@@ -184,9 +193,14 @@ module _ (key font : List ℕ) (editions : ℕ) (lay : Layout) where
       let l = reads s (lastPlace table count) in
       let n : r .count ≡ count + length (added t editions s table count) = ap (λ (x : Updated). x .count) (k .answer-is) in
       let last : lastPlace table′ (r .count) ≡ lastFirst (lastPlace table count) l = last-added s table count r table′ k in
-      let none : added t editions s table′ (r .count) ≡ [] = none-added s table′ (r .count) (ap (reads s) last ∙ last-none (judgedAll t editions) s (lastPlace table count)) in
+      let none : added t editions s table′ (r .count) ≡ [] = none-added s table′ (r .count)
+      (ap (reads s) last ∙ last-none (judgedAll t editions) s (lastPlace table count)) in
       let answer : updateAnswer t editions s table′ (r .count) ≡ answer-is.Done =
-      left-answer t editions s table′ (r .count) (r .count) (omega (arith, ap length (k .table-is) ∙ length-sets table count (added t editions s table count), k .takes .room))
+      left-answer t editions s table′ (r .count) (r .count) (omega (
+        arith,
+        ap length (k .table-is) ∙ length-sets table count (added t editions s table count),
+        k .takes .room,
+      ))
       (omega (arith, n, k .fits)) (omega (arith, last, last-inside (judgedAll t editions) s (lastPlace table count) (k .inside)))
       (omega (arith, ap length none))
       ∙ rw (told-sized t (k .takes .sizes), le-ltb longestStream (length s) (k .takes .short), le-ltb mostEntries (r .count) (omega (arith, n, k .fits))) in

@@ -45,7 +45,8 @@ module _ (judge : List ℕ → Judged) (s : List ℕ) where
       inside-on from d h (next-cases s from) (λ f. absurd (omega (arith, f .later, f .stretch .some, f .stretch .ends)))
   inside-in (suc n) from d g h =
       inside-on from d h (next-cases s from)
-      (λ f. inside-in n (nextSpan s from .closing) (nextSpan s from .first) (omega (arith, f .later, f .stretch .some)) (omega (arith, f .stretch .some, f .stretch .ends)))
+      (λ f. inside-in n (nextSpan s from .closing) (nextSpan s from .first) (omega (arith, f .later, f .stretch .some))
+      (omega (arith, f .stretch .some, f .stretch .ends)))
 
   -- within the stream
   pub last-inside : (from : ℕ) → from ≤ length s → lastFirst from (readings judge s from) ≤ length s

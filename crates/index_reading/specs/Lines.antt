@@ -68,7 +68,8 @@ unfolding lineFrom
 line-from [] i left = no-places left
 line-from (r ∷ l) i left = rw (recorded-number r) (go (eqb (numberIn (r .judged)) 0) (λ n. line-from l (i + 1) n))
   where
-    go : (b : Bool) → ((n : ℕ) → LineOf (linePlaces l) n (lineFrom (i + 1) n (map recorded l))) → LineOf (cond b (r .place .first ∷ linePlaces l) (linePlaces l)) left
+    go : (b : Bool) → ((n : ℕ) → LineOf (linePlaces l) n (lineFrom (i + 1) n (map recorded l)))
+        → LineOf (cond b (r .place .first ∷ linePlaces l) (linePlaces l)) left
         (cond b (orLater left (lineIs i (recorded r)) (λ n. lineFrom (i + 1) n (map recorded l))) (lineFrom (i + 1) left (map recorded l)))
     go true k = first-line (r .place .first) (linePlaces l) left i (recorded r) (λ n. lineFrom (i + 1) n (map recorded l)) (recorded-place r) k
     go false k = k left
@@ -88,7 +89,8 @@ kth l seen e table count d (suc k) r p =
     let f = line-from l 0 k in
     let places : map (λ (v : Seen). v .first) (linesSeen (stretchesSeen seen)) ≡ linePlaces l =
     ap (λ (x : List Seen). map (λ (v : Seen). v .first) (linesSeen x)) e ∙ seen-lines l in
-    let many : length (linesSeen (stretchesSeen seen)) ≡ length (linePlaces l) = sym (length-map (linesSeen (stretchesSeen seen)) (λ (v : Seen). v .first)) ∙ ap length places in
+    let many : length (linesSeen (stretchesSeen seen)) ≡ length (linePlaces l) = sym (length-map (linesSeen (stretchesSeen seen)) (λ (v : Seen). v .first)) ∙
+    ap length places in
     let is : r ≡ lineFrom 0 k (map recorded l) = p ∙ ap (lineFrom 0 k) d in
     let one : suc k - 1 ≡ k = omega arith in
     record {

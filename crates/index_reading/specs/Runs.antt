@@ -59,7 +59,8 @@ pub recorded-seen : (l : List Reading) → map entrySeen (map seenOf l) ≡ map 
 recorded-seen [] = refl
 recorded-seen (r ∷ l) = ap (λ (x : List ℕ). recorded r ∷ x) (recorded-seen l)
 
-module _ (key font : List ℕ) (editions a : ℕ) (lay : Layout) (s : List ℕ) (z : Sizes (told key font lay)) (h : length s ≤ longestStream) (bytes : Below 256 s) (all : allWork ≤ a) where
+module _ (key font : List ℕ) (editions a : ℕ) (lay : Layout) (s : List ℕ) (z : Sizes (told key font lay)) (h : length s ≤ longestStream) (bytes : Below 256 s)
+    (all : allWork ≤ a) where
   abbrev t : Told
   t = told key font lay
 

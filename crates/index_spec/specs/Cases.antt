@@ -68,8 +68,10 @@ module _ (t : Told) (editions : ℕ) (s table : List ℕ) (count : ℕ) where
           → ltb mostEntries (count + length (added t editions s table count)) ≡ f
           → Case t editions s table count (cond e answer-is.Beyond (cond f answer-is.Full answer-is.Done))
       by-end k true f p q = beyond k (ltb-true (length s) (lastPlace table count) p)
-      by-end k false true p q = full k (ltb-false (length s) (lastPlace table count) p) (ltb-true mostEntries (count + length (added t editions s table count)) q)
-      by-end k false false p q = done k (ltb-false (length s) (lastPlace table count) p) (ltb-false mostEntries (count + length (added t editions s table count)) q)
+      by-end k false true p q = full k (ltb-false (length s) (lastPlace table count) p) (ltb-true mostEntries (count + length (added t editions s table count))
+          q)
+      by-end k false false p q = done k (ltb-false (length s) (lastPlace table count) p) (ltb-false mostEntries
+          (count + length (added t editions s table count)) q)
 
       by-rooms : Sizes t → (b c d : Bool) → ltb longestStream (length s) ≡ b → ltb (length table) mostEntries ≡ c → ltb mostEntries count ≡ d
           → Case t editions s table count

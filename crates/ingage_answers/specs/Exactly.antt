@@ -21,7 +21,8 @@ use Rattle.ingage_spec.specs.Instances.{Fitting}
 use Rattle.ingage_spec.specs.Cipher.{Work, encrypted, decrypted, accepted}
 use Rattle.ingage_spec.specs.RoundTrip.{seal-open, exactly, accepted-refl, accepted-eq}
 use Rattle.ingage_spec.specs.Results.{seal-calls, open-calls, length-encrypted, length-decrypted, decrypted-below}
-use Rattle.ingage_answers.specs.Answers.{sealCount, openCount, LONGEST-ASSOCIATED, LONGEST-TEXT, sized, tooLong, callsOf, SealCall, sealCall, OpenCall, openCall}
+use Rattle.ingage_answers.specs.Answers.{sealCount, openCount, LONGEST-ASSOCIATED, LONGEST-TEXT, sized, tooLong}
+use Rattle.ingage_answers.specs.Answers.{callsOf, SealCall, sealCall, OpenCall, openCall}
 
 -- seal makes C and T of P, in any buffers of just their lengths
 abbrev pub Makes : Instance → List ℕ → List ℕ → List ℕ → List ℕ → List ℕ → List ℕ → ℕ → Type 0
@@ -150,8 +151,13 @@ module _ (z : Instance) (fits : Fitting z) (key nonce A C T out : List ℕ) (w :
           let P : List ℕ = decrypted z key nonce A C .text in
           let l = length-decrypted z fits key nonce A (w .key-size) (w .nonce-size) C in
           let bytes = decrypted-below z key nonce A (b .key-bytes) (b .nonce-bytes) (b .associated-bytes) C (b .cipher-bytes) in
-          let calls : decrypted z key nonce A C .calls ≡ n = ap openCount d in
-          (P, bytes, l, makes P n l (seal-open z fits key nonce A (w .key-size) (w .nonce-size) C ∙ rw (accepted-eq (decrypted z key nonce A C .seal) T s, calls) refl))
+          let calls : decrypted z key nonce A C .calls ≡ n = ap openCount d in (
+            P,
+            bytes,
+            l,
+            makes P n l (seal-open z fits key nonce A (w .key-size) (w .nonce-size) C ∙ rw
+                (accepted-eq (decrypted z key nonce A C .seal) T s, calls) refl),
+          )
       by-seal false s d = absurd (let i : _≡_ {A = ℕ} 0 1 = cc d in omega arith)
 
   pub open-exactly : ((n : ℕ) × (openCall z key nonce A C T out .answer ≡ opened.Done n))

@@ -95,7 +95,8 @@ pub held-in : (z : Instance) (f : List ℕ) → Fitting z → length f ≡ LARGE
 held-in z f fits l = let h = fits .held in omega arith
 
 -- the seal's place in the state
-pub seal-place : (z : Instance) (f : List ℕ) → Fitting z → z .state ≤ length f → take (z .rate + z .seal - z .rate) (drop (z .rate) f) ≡ sealOf z (take (z .state) f)
+pub seal-place : (z : Instance) (f : List ℕ) → Fitting z → z .state ≤ length f → take (z .rate + z .seal - z .rate) (drop (z .rate) f)
+    ≡ sealOf z (take (z .state) f)
 unfolding sealOf
 seal-place z f fits l =
     let d = fits .ends in
@@ -115,7 +116,8 @@ pub cleared-over : (w o : List ℕ) (k : ℕ) → length w ≡ k → k ≤ lengt
 cleared-over w o k l h =
     rw (over-length w o (omega arith), min-eq-left h, length-replicate, drop-at w (drop (length w) o) k l, l)
 
-module _ (z : Instance) (fits : Fitting z) (key nonce A text seal out : List ℕ) (w : Within z key nonce A text seal out) (s : State) (begins : told (z .state) s ≡ begun z key nonce A .state) where
+module _ (z : Instance) (fits : Fitting z) (key nonce A text seal out : List ℕ) (w : Within z key nonce A text seal out) (s : State)
+    (begins : told (z .state) s ≡ begun z key nonce A .state) where
   abbrev R : ℕ
   R = z .rate
 
@@ -140,7 +142,8 @@ module _ (z : Instance) (fits : Fitting z) (key nonce A text seal out : List ℕ
       let t : out′ ≡ over (encrypted z key nonce A text .text) out = write ∙ rw (begins, same .1) in
       let tag : T ≡ encrypted z key nonce A text .seal = place ∙ ap (sealOf z) (done ∙ rw last) in
       let p : seal′ ≡ encrypted z key nonce A text .seal =
-      put ∙ rw tag (filled (encrypted z key nonce A text .seal) seal (length-seal z fits key nonce A (w .key-size) (w .nonce-size) text ∙ sym (w .seal-size))) in
+      put ∙ rw tag (filled (encrypted z key nonce A text .seal) seal (length-seal z fits key nonce A (w .key-size) (w .nonce-size) text ∙ sym
+      (w .seal-size))) in
       let c : count ≡ encrypted z key nonce A text .calls = calls ∙ seal-counted z key nonce A text seal out w (fits .moves) in
       sealed-within z key nonce A text seal out w ∙ rw (c, t, p)
 

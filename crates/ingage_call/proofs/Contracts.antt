@@ -25,13 +25,15 @@ Opens c r out = (r ≡ c .answer) × (out ≡ c .out)
 -- the arguments are instance, key, nonce, associated data, message, buffer and seal buffer
 pub seal-promises : (κs : Lfts 6) (a : Dens κs seal-kinds.ps) (r : Sealed) (x : AtExit (endedOf 6 seal-kinds.ps seal-kinds.r) κs)
     → seal-reads.Post κs a r x
-    → Seals (sealNamed (named (a .0)) (a .1 .0 .now) (a .1 .1 .0 .now) (a .1 .1 .1 .0 .now) (a .1 .1 .1 .1 .0 .now) (a .1 .1 .1 .1 .1 .0 .now) (a .1 .1 .1 .1 .1 .1 .0 .now))
+    → Seals (sealNamed (named (a .0)) (a .1 .0 .now) (a .1 .1 .0 .now) (a .1 .1 .1 .0 .now) (a .1 .1 .1 .1 .0 .now) (a .1 .1 .1 .1 .1 .0 .now)
+    (a .1 .1 .1 .1 .1 .1 .0 .now))
     r (x .1 .1 .1 .1 .1 .0 .now) (x .1 .1 .1 .1 .1 .1 .0 .now)
 seal-promises κs a r x p = p
 
 -- the arguments are instance, key, nonce, associated data, ciphertext, seal and buffer
 pub open-promises : (κs : Lfts 6) (a : Dens κs open-kinds.ps) (r : Opened) (x : AtExit (endedOf 6 open-kinds.ps open-kinds.r) κs)
     → open-reads.Post κs a r x
-    → Opens (openNamed (named (a .0)) (a .1 .0 .now) (a .1 .1 .0 .now) (a .1 .1 .1 .0 .now) (a .1 .1 .1 .1 .0 .now) (a .1 .1 .1 .1 .1 .0 .now) (a .1 .1 .1 .1 .1 .1 .0 .now))
+    → Opens (openNamed (named (a .0)) (a .1 .0 .now) (a .1 .1 .0 .now) (a .1 .1 .1 .0 .now) (a .1 .1 .1 .1 .0 .now) (a .1 .1 .1 .1 .1 .0 .now)
+    (a .1 .1 .1 .1 .1 .1 .0 .now))
     r (x .1 .1 .1 .1 .1 .1 .0 .now)
 open-promises κs a r x p = p

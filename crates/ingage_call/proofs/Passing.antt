@@ -48,12 +48,14 @@ module _ (z : Instance) (fits : Fitting z) (p : List ℕ) (s : State) (short : l
   counterpart = masked p (told (z .state) s)
 
   -- the first bytes of y were told there
-  filled-by : (y : State) (c : List ℕ) → told (z .state) y ≡ c → take (length p) c ≡ counterpart → part ≡ over (told (min (length o) ROOM) y) o → part ≡ counterpart
+  filled-by : (y : State) (c : List ℕ) → told (z .state) y ≡ c → take (length p) c ≡ counterpart → part ≡ over (told (min (length o) ROOM) y) o
+      → part ≡ counterpart
   filled-by y c e f g =
       let d = fits .ends in
       let h = fits .held in
       let m : min (length o) ROOM ≡ length p = omega arith in
-      g ∙ rw m (over-whole (told (length p) y) o (omega (arith, length-told (length p) y))) ∙ sym (take-told (length p) (z .state) y (omega arith)) ∙ ap (take (length p)) e ∙ f
+      g ∙ rw m (over-whole (told (length p) y) o (omega (arith, length-told (length p) y))) ∙ sym (take-told (length p) (z .state) y (omega arith)) ∙ ap
+      (take (length p)) e ∙ f
 
   pub piece-sealed : (b : List ℕ) (x : State) → b ≡ lastBlock p → MixedIn (take (z .rate) b) s x → part ≡ over (told (min (length o) ROOM) x) o
       → (told (z .state) x ≡ xored (take (z .rate) (lastBlock p)) (told (z .state) s)) × (part ≡ counterpart)
@@ -69,7 +71,8 @@ module _ (z : Instance) (fits : Fitting z) (p : List ℕ) (s : State) (short : l
             (masked-take (length p) (take (z .rate) b) (told (z .state) s) (omega arith) ∙ ap (λ (c : List ℕ). masked c (told (z .state) s)) front) g,
       )
 
-  pub piece-opened : (b : List ℕ) (m x : State) → MixedIn p s m → part ≡ over (told (min (length o) ROOM) m) o → b ≡ lastBlock part → MixedIn (take (z .rate) b) s x
+  pub piece-opened : (b : List ℕ) (m x : State) → MixedIn p s m → part ≡ over (told (min (length o) ROOM) m) o → b ≡ lastBlock part
+      → MixedIn (take (z .rate) b) s x
       → (told (z .state) x ≡ xored (take (z .rate) (lastBlock counterpart)) (told (z .state) s)) × (part ≡ counterpart)
   unfolding masked
   piece-opened b m x f g e y =
@@ -216,7 +219,8 @@ module _ (z : Instance) (fits : Fitting z) (P : List ℕ) (s : State) (o : List 
       ap length (p .text) ∙ over-length (flow w z (from (told n s)) P i .text) o (le-trans (given-long w i) room)
 
 -- after the last block
-pub passing-all : {w : Way} {z : Instance} {T : List ℕ} {s : State} {o : List ℕ} {r : State} {out : List ℕ} {i : ℕ} → blockCount (z .rate) T ≤ i → Passing w z T s o r out i
+pub passing-all : {w : Way} {z : Instance} {T : List ℕ} {s : State} {o : List ℕ} {r : State} {out : List ℕ} {i : ℕ} → blockCount (z .rate) T ≤ i
+    → Passing w z T s o r out i
     → Passing w z T s o r out (blockCount (z .rate) T)
 passing-all {w} {z} {T} {s} {o} {r} {out} {i} h p = let t = p .turns in let e : i ≡ blockCount (z .rate) T = omega arith in rw e at p
 

@@ -10,7 +10,8 @@ use Rattle.base_lists.specs.Buffers.{over}
 -- one piece x more, behind what was written
 over-split : (w x o : List ℕ) → over (w ++ x) o ≡ w ++ (x ++ drop (length x) (drop (length w) o))
 over-split w x o =
-    ap (λ (l : List ℕ). (w ++ x) ++ l) (rw (length-append w x, sym (drop-drop (length x) (length w) o))) ∙ append-assoc w x (drop (length x) (drop (length w) o))
+    ap (λ (l : List ℕ). (w ++ x) ++ l) (rw (length-append w x, sym (drop-drop (length x) (length w) o))) ∙ append-assoc w x
+    (drop (length x) (drop (length w) o))
 
 -- the buffer with a piece x put in its part, at the place where the text so far ends
 pub written : (w x o out : List ℕ) (at end : ℕ) → out ≡ over w o → length w ≡ at → at + length x ≡ end

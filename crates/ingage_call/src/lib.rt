@@ -37,9 +37,12 @@ pub fn seal(
     out: &mut [u8],
     seal: &mut [u8],
 ) -> Sealed
-    ensures answer { λ r. ⌜ r ≡ sealNamed (named instance) (now (key .entry)) (now (nonce .entry)) (now (assoc .entry)) (now (message .entry)) (now (out .entry)) (now (seal .entry)) .answer ⌝ }
-    ensures ciphertext { λ _. ⌜ now (out .exit) ≡ sealNamed (named instance) (now (key .entry)) (now (nonce .entry)) (now (assoc .entry)) (now (message .entry)) (now (out .entry)) (now (seal .entry)) .out ⌝ }
-    ensures seal { λ _. ⌜ now (seal .exit) ≡ sealNamed (named instance) (now (key .entry)) (now (nonce .entry)) (now (assoc .entry)) (now (message .entry)) (now (out .entry)) (now (seal .entry)) .seal ⌝ }
+    ensures answer { λ r. ⌜ r ≡ sealNamed (named instance) (now (key .entry)) (now (nonce .entry)) (now (assoc .entry)) (now (message .entry))
+        (now (out .entry)) (now (seal .entry)) .answer ⌝ }
+    ensures ciphertext { λ _. ⌜ now (out .exit) ≡ sealNamed (named instance) (now (key .entry)) (now (nonce .entry)) (now (assoc .entry))
+        (now (message .entry)) (now (out .entry)) (now (seal .entry)) .out ⌝ }
+    ensures seal { λ _. ⌜ now (seal .exit) ≡ sealNamed (named instance) (now (key .entry)) (now (nonce .entry)) (now (assoc .entry)) (now (message .entry))
+        (now (out .entry)) (now (seal .entry)) .seal ⌝ }
 {
     let Named::Known(z) = ingage_table::sizes_of(instance) else {
         return Sealed::Instance;
@@ -71,8 +74,10 @@ pub fn open(
     seal: &[u8],
     out: &mut [u8],
 ) -> Opened
-    ensures answer { λ r. ⌜ r ≡ openNamed (named instance) (now (key .entry)) (now (nonce .entry)) (now (assoc .entry)) (now (cipher .entry)) (now (seal .entry)) (now (out .entry)) .answer ⌝ }
-    ensures message { λ _. ⌜ now (out .exit) ≡ openNamed (named instance) (now (key .entry)) (now (nonce .entry)) (now (assoc .entry)) (now (cipher .entry)) (now (seal .entry)) (now (out .entry)) .out ⌝ }
+    ensures answer { λ r. ⌜ r ≡ openNamed (named instance) (now (key .entry)) (now (nonce .entry)) (now (assoc .entry)) (now (cipher .entry))
+        (now (seal .entry)) (now (out .entry)) .answer ⌝ }
+    ensures message { λ _. ⌜ now (out .exit) ≡ openNamed (named instance) (now (key .entry)) (now (nonce .entry)) (now (assoc .entry)) (now (cipher .entry))
+        (now (seal .entry)) (now (out .entry)) .out ⌝ }
 {
     let Named::Known(z) = ingage_table::sizes_of(instance) else {
         return Opened::Instance;

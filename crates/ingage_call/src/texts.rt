@@ -123,8 +123,10 @@ fn given(way: Way, at: usize) -> usize
 // A text passed block by block, the associated data, a message or a ciphertext: what is given out goes over the start of out.
 pub fn pass(z: Instance, s: State, way: Way, text: &[u8], out: &mut [u8]) -> State
     requires { ⌜ Fitting z × (given way (length (now text)) ≤ length (now out)) ⌝ }
-    ensures state { λ r. ⌜ told (z .state) r ≡ flow way z (from (told (z .state) s)) (now (text .entry)) (blockCount (z .rate) (now (text .entry))) .run .state ⌝ }
-    ensures text { λ _. ⌜ now (out .exit) ≡ over (flow way z (from (told (z .state) s)) (now (text .entry)) (blockCount (z .rate) (now (text .entry))) .text) (now (out .entry)) ⌝ }
+    ensures state { λ r. ⌜ told (z .state) r ≡ flow way z (from (told (z .state) s)) (now (text .entry))
+        (blockCount (z .rate) (now (text .entry))) .run .state ⌝ }
+    ensures text { λ _. ⌜ now (out .exit) ≡ over (flow way z (from (told (z .state) s)) (now (text .entry)) (blockCount (z .rate) (now (text .entry))) .text)
+        (now (out .entry)) ⌝ }
 {
     let rate = z.rate;
     let count = text.len() / rate + 1;

@@ -15,7 +15,8 @@ use Rattle.gage_sponge.specs.Absorbing.{xored, Run}
 use Rattle.gage_sponge.specs.Xor.{length-xored}
 use Rattle.ingage_spec.specs.Cipher.{passed, encrypting, piece, masked, decrypting}
 use Rattle.ingage_spec.specs.Masking.{masked-take, length-masked, masked-back}
-use Rattle.ingage_spec.specs.Pieces.{piece-starts, pieces-reach, take-piece, length-piece, take-both, block-piece, same-pieces, Growing, grown, grown-piece}
+use Rattle.ingage_spec.specs.Pieces.{piece-starts, pieces-reach, take-piece, length-piece, take-both}
+use Rattle.ingage_spec.specs.Pieces.{block-piece, same-pieces, Growing, grown, grown-piece}
 use Rattle.ingage_spec.specs.Runs.{length-encrypting, length-decrypting}
 
 module _ (R : ℕ) (pos : 0 < R) (r : Run) (wide : R ≤ length (r .state)) (P : List ℕ) where

@@ -13,7 +13,8 @@ use Rattle.gage_spec.specs.Permutation.{leaders, turns, permuteBy, permute}
 use Rattle.gage_sponge.specs.Padding.{padded, block}
 use Rattle.gage_sponge.specs.Absorbing.{xored}
 use Rattle.ingage_spec.specs.Instances.{instanceOf}
-use Rattle.ingage_spec.specs.Cipher.{Work, lastXored, keyed, started, associatedBlock, absorbing, absorbed, begun, encrypting, finished, sealOf, encrypted}
+use Rattle.ingage_spec.specs.Cipher.{Work, lastXored, keyed, started, associatedBlock, absorbing}
+use Rattle.ingage_spec.specs.Cipher.{absorbed, begun, encrypting, finished, sealOf, encrypted}
 
 -- at the fourth instance, of a longer nonce and a larger state than the first and a rate of eight bytes, eight bytes of associated data and eight
 -- of message: each is a whole block and is followed by one more
@@ -36,7 +37,8 @@ longKnown =
 
 -- compared byte by byte, so that a wrong definition is found out at its first wrong byte
 long-tested : same (longAnswer .text ++ longAnswer .seal) longKnown ≡ true
-unfolding same encrypted sealOf finished encrypting begun absorbed absorbing associatedBlock started keyed lastXored block padded xored permute permuteBy turns leaders substitute cells bytes follow shuffle shuffledByte weighed tabled instanceOf
+unfolding same encrypted sealOf finished encrypting begun absorbed absorbing associatedBlock started keyed lastXored block padded xored permute permuteBy turns
+    leaders substitute cells bytes follow shuffle shuffledByte weighed tabled instanceOf
 long-tested = refl
 
 -- the ciphertext and the seal behind it

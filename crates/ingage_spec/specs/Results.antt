@@ -17,7 +17,8 @@ use Rattle.gage_sponge.specs.Absorbing.{xored, Run}
 use Rattle.gage_sponge.specs.Xor.{xored-below}
 use Rattle.ingage_spec.specs.declared.Instance.{Instance}
 use Rattle.ingage_spec.specs.Instances.{Fitting, first}
-use Rattle.ingage_spec.specs.Cipher.{passed, lastXored, LAST-BLOCK, AFTER-ASSOCIATED, AFTER-MESSAGE, keyed, started, associatedBlock, absorbing, absorbed, begun, encrypting, piece, masked, decrypting, finished, sealOf, encrypted, decrypted}
+use Rattle.ingage_spec.specs.Cipher.{passed, lastXored, LAST-BLOCK, AFTER-ASSOCIATED, AFTER-MESSAGE, keyed, started, associatedBlock, absorbing, absorbed}
+use Rattle.ingage_spec.specs.Cipher.{begun, encrypting, piece, masked, decrypting, finished, sealOf, encrypted, decrypted}
 use Rattle.ingage_spec.specs.Masking.{masked-below, last-xored-below}
 use Rattle.ingage_spec.specs.Runs.{encrypting-calls, decrypting-calls, begun-calls, length-begun, length-encrypting, length-finished}
 use Rattle.ingage_spec.specs.Flows.{length-ciphertext, opened-follows}
@@ -58,7 +59,13 @@ module _ (z : Instance) (fits : Fitting z) (key nonce A : List ℕ) (k : length 
       let e = fits .ends in
       let w : Run = encrypting (z .rate) (begun z key nonce A) P (blockCount (z .rate) P) .run in
       rw (length-take, length-drop)
-      (omega (arith, length-finished w, length-encrypting (z .rate) (begun z key nonce A) P (blockCount (z .rate) P), length-begun z (fits .begins) key nonce A k n))
+      (omega (
+        arith,
+        length-finished w,
+        length-encrypting (z .rate) (begun z key nonce A) P (blockCount (z .rate) P),
+        length-begun z (fits .begins) key nonce A
+            k n,
+      ))
 
 -- bytes give bytes
 passed-below : (b : List ℕ) (r : Run) → Below 256 b → Below 256 (r .state) → Below 256 (passed b r .state)

@@ -10,7 +10,8 @@ use Rattle.gage_spec.specs.States.{length-permute}
 use Rattle.gage_sponge.specs.Padding.{block, blockCount}
 use Rattle.gage_sponge.specs.Absorbing.{xored, Run, from}
 use Rattle.gage_sponge.specs.Xor.{length-xored}
-use Rattle.ingage_spec.specs.Cipher.{passed, keyed, started, associatedBlock, absorbing, absorbed, begun, encrypting, decrypting, finished, lastXored, AFTER-ASSOCIATED, AFTER-MESSAGE}
+use Rattle.ingage_spec.specs.Cipher.{passed, keyed, started, associatedBlock, absorbing, absorbed, begun}
+use Rattle.ingage_spec.specs.Cipher.{encrypting, decrypting, finished, lastXored, AFTER-ASSOCIATED, AFTER-MESSAGE}
 use Rattle.ingage_spec.specs.Masking.{length-last-xored}
 use Rattle.ingage_spec.specs.declared.Instance.{Instance}
 

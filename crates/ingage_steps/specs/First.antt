@@ -96,7 +96,8 @@ pub marked-first : (R : ℕ) (p : List ℕ) → 1 ≤ R → R ≤ LARGEST-RATE �
 unfolding markedOf markedBlock
 marked-first R p h g = go (ltb (length p) R)
   where
-    go : (b : Bool) → take R (cond b (lastOf LAST-BLOCK R (lastBlock p)) (lastBlock p)) ≡ cond b (lastXored LAST-BLOCK (take R (lastBlock p))) (take R (lastBlock p))
+    go : (b : Bool) → take R (cond b (lastOf LAST-BLOCK R (lastBlock p)) (lastBlock p)) ≡ cond b (lastXored LAST-BLOCK (take R (lastBlock p)))
+        (take R (lastBlock p))
     go true = last-first LAST-BLOCK R (lastBlock p) h (omega (arith, length-last-block p))
     go false = refl
 

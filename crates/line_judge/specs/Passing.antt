@@ -13,7 +13,8 @@ use Rattle.line_spec.specs.declared.Judged.the-variants.{Accepted, Unlisted, Tr
 use Rattle.line_judge.specs.declared.Met.{Met}
 use Rattle.line_judge.specs.declared.Met.the-variants.{Nothing, Digit, Inside, Closed, Broken}
 use Rattle.line_spec.specs.Lines.{isListed, isDigit, isTransit, nine, allListed, anyDigit, allDigits, transits, before, transitsRight, isTrade, lineRule}
-use Rattle.line_spec.specs.Bytewise.{transits-more, before-none, behind-all, transits-same, before-more, behind-same, any-found, all-same, any-same, all-broken, digit-apart}
+use Rattle.line_spec.specs.Bytewise.{transits-more, before-none, behind-all, transits-same, before-more, behind-same}
+use Rattle.line_spec.specs.Bytewise.{any-found, all-same, any-same, all-broken, digit-apart}
 
 -- a transit symbol opens the nine digits or closes them; a third is one too many
 abbrev pub atTransit : Met → Met

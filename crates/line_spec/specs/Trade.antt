@@ -10,8 +10,10 @@ use lib.ListN.{length}
 use borrow.Author.Tests.{eqb-true}
 use Rattle.base_lists.specs.Never.{never}
 use Rattle.base_lists.specs.Free.{Free}
-use Rattle.line_spec.specs.Lines.{firstDigit, lastDigit, transit, isDigit, isTransit, anyDigit, allDigits, transits, before, behind, between, nine, transitsRight, isTrade}
-use Rattle.line_spec.specs.Bytewise.{is-digit, digit-is, is-transit, transit-is, not-transit, transit-apart, digit-apart, transits-more, before-none, behind-all, transits-same, before-more, behind-same}
+use Rattle.line_spec.specs.Lines.{firstDigit, lastDigit, transit, isDigit, isTransit, anyDigit, allDigits}
+use Rattle.line_spec.specs.Lines.{transits, before, behind, between, nine, transitsRight, isTrade}
+use Rattle.line_spec.specs.Bytewise.{is-digit, digit-is, is-transit, transit-is, not-transit, transit-apart, digit-apart}
+use Rattle.line_spec.specs.Bytewise.{transits-more, before-none, behind-all, transits-same, before-more, behind-same}
 
 abbrev pub Digit : ℕ → Type 0
 Digit b = (firstDigit ≤ b) × (b ≤ lastDigit)

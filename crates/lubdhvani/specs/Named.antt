@@ -31,5 +31,8 @@ module _ (key font : List ℕ) {q p : Asked} (e : q ≡ p) where
   pub read-told : (s : List ℕ) (from : ℕ) (o : List ℕ) {r : Reading} {w : List ℕ}
       → (r ≡ readAnswer (told key font (q .layout)) q s from o) × (w ≡ readOut (told key font (q .layout)) q s from o)
       → (r ≡ readAnswer (told key font (p .layout)) p s from o) × (w ≡ readOut (told key font (p .layout)) p s from o)
-  read-told s from o h =
-      (h .0 ∙ ap (λ (a : Asked). readAnswer (told key font (a .layout)) a s from o) e, h .1 ∙ ap (λ (a : Asked). readOut (told key font (a .layout)) a s from o) e)
+  read-told s from o h = (
+    h .0 ∙ ap (λ (a : Asked). readAnswer (told key font (a .layout)) a s from o) e,
+    h .1 ∙ ap
+        (λ (a : Asked). readOut (told key font (a .layout)) a s from o) e,
+  )

@@ -74,8 +74,10 @@ pub extern "C" fn lubdhvani_index_update(
     table: &mut [u32],
     count: usize,
 ) -> Indexed
-    ensures { λ r. ⌜ r ≡ updatedOut (updated (told (now (key .entry)) (now (font .entry)) (layoutOf layout)) editions (now (stream .entry)) (now (table .entry)) count) ⌝ }
-    ensures { λ _. ⌜ now (table .exit) ≡ updatedTable (told (now (key .entry)) (now (font .entry)) (layoutOf layout)) editions (now (stream .entry)) (now (table .entry)) count ⌝ }
+    ensures { λ r. ⌜ r ≡ updatedOut (updated (told (now (key .entry)) (now (font .entry)) (layoutOf layout)) editions (now (stream .entry))
+        (now (table .entry)) count) ⌝ }
+    ensures { λ _. ⌜ now (table .exit) ≡ updatedTable (told (now (key .entry)) (now (font .entry)) (layoutOf layout)) editions (now (stream .entry))
+        (now (table .entry)) count ⌝ }
 {
     updated_of(index_call::update(stream, key, font, editions, layout_of(layout), table, count))
 }

@@ -32,8 +32,10 @@ fn one_step(
     asked: Asked,
     line: &mut [u8],
 ) -> Step
-    ensures { λ r. ⌜ r ≡ stepOut (told (now (key .entry)) (now (font .entry)) (layoutOf (asked .layout))) (askedOf asked) (now (stream .entry)) at (now (line .entry)) ⌝ }
-    ensures { λ _. ⌜ now (line .exit) ≡ readOut (told (now (key .entry)) (now (font .entry)) (layoutOf (asked .layout))) (askedOf asked) (now (stream .entry)) at (now (line .entry)) ⌝ }
+    ensures { λ r. ⌜ r ≡ stepOut (told (now (key .entry)) (now (font .entry)) (layoutOf (asked .layout))) (askedOf asked) (now (stream .entry)) at
+        (now (line .entry)) ⌝ }
+    ensures { λ _. ⌜ now (line .exit) ≡ readOut (told (now (key .entry)) (now (font .entry)) (layoutOf (asked .layout))) (askedOf asked) (now (stream .entry))
+        at (now (line .entry)) ⌝ }
 {
     let reading = lubdhvani_read(stream, at, key, font, asked, line);
     Step {
@@ -51,7 +53,11 @@ pub extern "C" fn lubdhvani_next<'s, 'a, 'b, 'c, 'd>(
     asked: Asked,
     line: &'d mut [u8],
 ) -> Reading
-    ensures { λ r. ⌜ (r ≡ readingOut (readAnswer (told (now (key .entry)) (now (font .entry)) (layoutOf (asked .layout))) (askedOf asked) (now (now (walker .entry) .stream)) (now (walker .entry) .at) (now (line .entry)))) × (now (line .exit) ≡ readOut (told (now (key .entry)) (now (font .entry)) (layoutOf (asked .layout))) (askedOf asked) (now (now (walker .entry) .stream)) (now (walker .entry) .at) (now (line .entry))) × (now (walker .exit) .stream ≡ now (walker .entry) .stream) × (now (walker .exit) .at ≡ r .closing) ⌝ }
+    ensures { λ r. ⌜ (r ≡ readingOut (readAnswer (told (now (key .entry)) (now (font .entry)) (layoutOf (asked .layout))) (askedOf asked)
+        (now (now (walker .entry) .stream)) (now (walker .entry) .at) (now (line .entry))))
+        × (now (line .exit) ≡ readOut (told (now (key .entry)) (now (font .entry)) (layoutOf (asked .layout))) (askedOf asked)
+        (now (now (walker .entry) .stream)) (now (walker .entry) .at) (now (line .entry))) × (now (walker .exit) .stream ≡ now (walker .entry) .stream)
+        × (now (walker .exit) .at ≡ r .closing) ⌝ }
 {
     let s = one_step(walker.stream, walker.at, key, font, asked, line);
     walker.at = s.at;

@@ -64,5 +64,6 @@ c-bundle-read name rows o w o′ p e r q part named =
 pub c-bundle-written : (b : List ℕ) (r : Measured) → BundleReads b r → r .number ≡ 0 → (o : List ℕ) → longestBundle ≤ length o
     → (w : Measured) (o′ : List ℕ) → BundleWrites (nameIn b) (rowsOver b characters) o w o′ → (w ≡ record { number = 0; length = length b }) × (o′ ≡ over b o)
 c-bundle-written b r q e o room w o′ p =
-    let z = bundle-written-read b o (judging.lengthOf (judging.readAnswer b)) (read-done (judging.readAnswer b) (sym (ap (λ (x : Measured). x .number) q) ∙ e)) room in
+    let z = bundle-written-read b o (judging.lengthOf (judging.readAnswer b)) (read-done (judging.readAnswer b) (sym (ap (λ (x : Measured). x .number) q) ∙ e))
+    room in
     (p .0 ∙ ap bundled (z .0), p .1 ∙ z .1)

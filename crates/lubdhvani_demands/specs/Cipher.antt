@@ -66,7 +66,8 @@ module _ (i : ℕ) (z : Instance) (known : named i ≡ Known z) (key nonce A : L
       same : (x : SealCall) {a : Sealed} {c t : List ℕ} → x .answer ≡ a → x .out ≡ c → x .seal ≡ t → x ≡ record { answer = a; out = c; seal = t }
       same x e f g = rw (← e, ← f, ← g)
 
-  module _ (C T out : List ℕ) (w : Within z key nonce A C T out) (b : Bytes key nonce A C T) (r : Counted) (out′ : List ℕ) (p : Opens i key nonce A C T out r out′) where
+  module _ (C T out : List ℕ) (w : Within z key nonce A C T out) (b : Bytes key nonce A C T) (r : Counted) (out′ : List ℕ)
+      (p : Opens i key nonce A C T out r out′) where
     call-is : openNamed (named i) key nonce A C T out ≡ openCall z key nonce A C T out
     call-is = open-named i key nonce A C out T z known
 

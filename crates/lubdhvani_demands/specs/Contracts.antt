@@ -48,50 +48,65 @@ use Rattle.lubdhvani.proofs.bundle.lubdhvani_bundle_name.Kinds as bundle-name-k
 use Rattle.lubdhvani.proofs.bundle.lubdhvani_bundle_name.Reads as bundle-name-reads
 use Rattle.lubdhvani.proofs.bundle.lubdhvani_bundle_rows.Kinds as bundle-rows-kinds
 use Rattle.lubdhvani.proofs.bundle.lubdhvani_bundle_rows.Reads as bundle-rows-reads
-use Rattle.lubdhvani_demands.specs.Promises.{Permutes, Unpermutes, Digests, Starts, Feeds, Finishes, Seals, Opens, Writes, Converts, Reads, Nexts, BundleWrites, BundleReads, BundleNames, BundleRows}
+use Rattle.lubdhvani_demands.specs.Promises.{Permutes, Unpermutes, Digests, Starts, Feeds, Finishes, Seals, Opens}
+use Rattle.lubdhvani_demands.specs.Promises.{Writes, Converts, Reads, Nexts, BundleWrites, BundleReads, BundleNames, BundleRows}
 
 -- the arguments: state and rounds
-pub permute-promises : (κs : Lfts 1) (a : Dens κs permute-kinds.ps) (r : ℕ) (x : AtExit (endedOf 1 permute-kinds.ps permute-kinds.r) κs) → permute-reads.Post κs a r x
+pub permute-promises : (κs : Lfts 1) (a : Dens κs permute-kinds.ps) (r : ℕ) (x : AtExit (endedOf 1 permute-kinds.ps permute-kinds.r) κs)
+    → permute-reads.Post κs a r x
     → Permutes (a .0 .now) (a .1 .0) r (x .0 .now)
 permute-promises κs a r x q = q
 
-pub unpermute-promises : (κs : Lfts 1) (a : Dens κs unpermute-kinds.ps) (r : ℕ) (x : AtExit (endedOf 1 unpermute-kinds.ps unpermute-kinds.r) κs) → unpermute-reads.Post κs a r x
+pub unpermute-promises : (κs : Lfts 1) (a : Dens κs unpermute-kinds.ps) (r : ℕ) (x : AtExit (endedOf 1 unpermute-kinds.ps unpermute-kinds.r) κs)
+    → unpermute-reads.Post κs a r x
     → Unpermutes (a .0 .now) (a .1 .0) r (x .0 .now)
 unpermute-promises κs a r x q = q
 
 -- the arguments: instance, message and buffer
-pub digest-promises : (κs : Lfts 2) (a : Dens κs digest-kinds.ps) (r : Counted) (x : AtExit (endedOf 2 digest-kinds.ps digest-kinds.r) κs) → digest-reads.Post κs a r x
+pub digest-promises : (κs : Lfts 2) (a : Dens κs digest-kinds.ps) (r : Counted) (x : AtExit (endedOf 2 digest-kinds.ps digest-kinds.r) κs)
+    → digest-reads.Post κs a r x
     → Digests (a .0) (a .1 .0 .now) (a .1 .1 .0 .now) r (x .1 .1 .0 .now)
 digest-promises κs a r x q = q
 
 -- the arguments: instance, key, nonce, associated data, message, buffer and seal buffer
 pub seal-promises : (κs : Lfts 6) (a : Dens κs seal-kinds.ps) (r : Counted) (x : AtExit (endedOf 6 seal-kinds.ps seal-kinds.r) κs) → seal-reads.Post κs a r x
-    → Seals (a .0) (a .1 .0 .now) (a .1 .1 .0 .now) (a .1 .1 .1 .0 .now) (a .1 .1 .1 .1 .0 .now) (a .1 .1 .1 .1 .1 .0 .now) (a .1 .1 .1 .1 .1 .1 .0 .now) r (x .1 .1 .1 .1 .1 .0 .now) (x .1 .1 .1 .1 .1 .1 .0 .now)
+    → Seals (a .0) (a .1 .0 .now) (a .1 .1 .0 .now) (a .1 .1 .1 .0 .now) (a .1 .1 .1 .1 .0 .now) (a .1 .1 .1 .1 .1 .0 .now) (a .1 .1 .1 .1 .1 .1 .0 .now) r
+    (x .1 .1 .1 .1 .1 .0 .now) (x .1 .1 .1 .1 .1 .1 .0 .now)
 seal-promises κs a r x q = q
 
 -- the arguments: instance, key, nonce, associated data, ciphertext, seal and buffer
-pub open-promises : (κs : Lfts 6) (a : Dens κs opens-kinds.ps) (r : Counted) (x : AtExit (endedOf 6 opens-kinds.ps opens-kinds.r) κs) → opens-reads.Post κs a r x
-    → Opens (a .0) (a .1 .0 .now) (a .1 .1 .0 .now) (a .1 .1 .1 .0 .now) (a .1 .1 .1 .1 .0 .now) (a .1 .1 .1 .1 .1 .0 .now) (a .1 .1 .1 .1 .1 .1 .0 .now) r (x .1 .1 .1 .1 .1 .1 .0 .now)
+pub open-promises : (κs : Lfts 6) (a : Dens κs opens-kinds.ps) (r : Counted) (x : AtExit (endedOf 6 opens-kinds.ps opens-kinds.r) κs)
+    → opens-reads.Post κs a r x
+    → Opens (a .0) (a .1 .0 .now) (a .1 .1 .0 .now) (a .1 .1 .1 .0 .now) (a .1 .1 .1 .1 .0 .now) (a .1 .1 .1 .1 .1 .0 .now) (a .1 .1 .1 .1 .1 .1 .0 .now) r
+    (x .1 .1 .1 .1 .1 .1 .0 .now)
 open-promises κs a r x q = q
 
 -- the arguments: key, nonce, font digest, layout, line and frame buffer
-pub write-promises : (κs : Lfts 5) (a : Dens κs write-kinds.ps) (r : Framed) (x : AtExit (endedOf 5 write-kinds.ps write-kinds.r) κs) → write-reads.Post κs a r x
-    → Writes (a .0 .now) (ownOf One (a .1 .0 .now) []) (a .1 .1 .0 .now) (a .1 .1 .1 .0) (a .1 .1 .1 .1 .0 .now) (a .1 .1 .1 .1 .1 .0 .now) r (x .1 .1 .1 .1 .1 .0 .now)
+pub write-promises : (κs : Lfts 5) (a : Dens κs write-kinds.ps) (r : Framed) (x : AtExit (endedOf 5 write-kinds.ps write-kinds.r) κs)
+    → write-reads.Post κs a r x
+    → Writes (a .0 .now) (ownOf One (a .1 .0 .now) []) (a .1 .1 .0 .now) (a .1 .1 .1 .0) (a .1 .1 .1 .1 .0 .now) (a .1 .1 .1 .1 .1 .0 .now) r
+    (x .1 .1 .1 .1 .1 .0 .now)
 write-promises κs a r x q = q
 
 -- the arguments: with a job behind the layout
-pub write-two-promises : (κs : Lfts 6) (a : Dens κs write-two-kinds.ps) (r : Framed) (x : AtExit (endedOf 6 write-two-kinds.ps write-two-kinds.r) κs) → write-two-reads.Post κs a r x
-    → Writes (a .0 .now) (ownOf Two (a .1 .0 .now) (a .1 .1 .1 .1 .0 .now)) (a .1 .1 .0 .now) (a .1 .1 .1 .0) (a .1 .1 .1 .1 .1 .0 .now) (a .1 .1 .1 .1 .1 .1 .0 .now) r (x .1 .1 .1 .1 .1 .1 .0 .now)
+pub write-two-promises : (κs : Lfts 6) (a : Dens κs write-two-kinds.ps) (r : Framed) (x : AtExit (endedOf 6 write-two-kinds.ps write-two-kinds.r) κs)
+    → write-two-reads.Post κs a r x
+    → Writes (a .0 .now) (ownOf Two (a .1 .0 .now) (a .1 .1 .1 .1 .0 .now)) (a .1 .1 .0 .now) (a .1 .1 .1 .0) (a .1 .1 .1 .1 .1 .0 .now)
+    (a .1 .1 .1 .1 .1 .1 .0 .now) r (x .1 .1 .1 .1 .1 .1 .0 .now)
 write-two-promises κs a r x q = q
 
 -- the arguments: stretch, key, font digest, layout, nonce and frame buffer
-pub to-one-promises : (κs : Lfts 5) (a : Dens κs to-one-kinds.ps) (r : Measured) (x : AtExit (endedOf 5 to-one-kinds.ps to-one-kinds.r) κs) → to-one-reads.Post κs a r x
-    → Converts (a .1 .0 .now) (ownOf One (a .1 .1 .1 .1 .0 .now) []) (a .1 .1 .0 .now) (a .1 .1 .1 .0) (a .0 .now) (a .1 .1 .1 .1 .1 .0 .now) r (x .1 .1 .1 .1 .1 .0 .now)
+pub to-one-promises : (κs : Lfts 5) (a : Dens κs to-one-kinds.ps) (r : Measured) (x : AtExit (endedOf 5 to-one-kinds.ps to-one-kinds.r) κs)
+    → to-one-reads.Post κs a r x
+    → Converts (a .1 .0 .now) (ownOf One (a .1 .1 .1 .1 .0 .now) []) (a .1 .1 .0 .now) (a .1 .1 .1 .0) (a .0 .now) (a .1 .1 .1 .1 .1 .0 .now) r
+    (x .1 .1 .1 .1 .1 .0 .now)
 to-one-promises κs a r x q = q
 
 -- the arguments: with a job behind the nonce
-pub to-two-promises : (κs : Lfts 6) (a : Dens κs to-two-kinds.ps) (r : Measured) (x : AtExit (endedOf 6 to-two-kinds.ps to-two-kinds.r) κs) → to-two-reads.Post κs a r x
-    → Converts (a .1 .0 .now) (ownOf Two (a .1 .1 .1 .1 .0 .now) (a .1 .1 .1 .1 .1 .0 .now)) (a .1 .1 .0 .now) (a .1 .1 .1 .0) (a .0 .now) (a .1 .1 .1 .1 .1 .1 .0 .now) r (x .1 .1 .1 .1 .1 .1 .0 .now)
+pub to-two-promises : (κs : Lfts 6) (a : Dens κs to-two-kinds.ps) (r : Measured) (x : AtExit (endedOf 6 to-two-kinds.ps to-two-kinds.r) κs)
+    → to-two-reads.Post κs a r x
+    → Converts (a .1 .0 .now) (ownOf Two (a .1 .1 .1 .1 .0 .now) (a .1 .1 .1 .1 .1 .0 .now)) (a .1 .1 .0 .now) (a .1 .1 .1 .0) (a .0 .now)
+    (a .1 .1 .1 .1 .1 .1 .0 .now) r (x .1 .1 .1 .1 .1 .1 .0 .now)
 to-two-promises κs a r x q = q
 
 -- the arguments: stream, place, key, font digest, what is asked, and line buffer
@@ -100,29 +115,35 @@ pub read-promises : (κs : Lfts 4) (a : Dens κs read-kinds.ps) (r : Reading) (x
 read-promises κs a r x q = q
 
 -- the arguments: name, rows and bundle buffer
-pub bundle-write-promises : (κs : Lfts 3) (a : Dens κs bundle-write-kinds.ps) (r : Measured) (x : AtExit (endedOf 3 bundle-write-kinds.ps bundle-write-kinds.r) κs) → bundle-write-reads.Post κs a r x
+pub bundle-write-promises : (κs : Lfts 3) (a : Dens κs bundle-write-kinds.ps) (r : Measured)
+    (x : AtExit (endedOf 3 bundle-write-kinds.ps bundle-write-kinds.r) κs) → bundle-write-reads.Post κs a r x
     → BundleWrites (a .0 .now) (a .1 .0 .now) (a .1 .1 .0 .now) r (x .1 .1 .0 .now)
 bundle-write-promises κs a r x q = q
 
 -- the arguments: the bundle
-pub bundle-read-promises : (κs : Lfts 1) (a : Dens κs bundle-read-kinds.ps) (r : Measured) (x : AtExit (endedOf 1 bundle-read-kinds.ps bundle-read-kinds.r) κs) → bundle-read-reads.Post κs a r x
+pub bundle-read-promises : (κs : Lfts 1) (a : Dens κs bundle-read-kinds.ps) (r : Measured) (x : AtExit (endedOf 1 bundle-read-kinds.ps bundle-read-kinds.r) κs)
+    → bundle-read-reads.Post κs a r x
     → BundleReads (a .0 .now) r
 bundle-read-promises κs a r x q = q
 
-pub bundle-name-promises : (κs : Lfts 1) (a : Dens κs bundle-name-kinds.ps) (r : Part) (x : AtExit (endedOf 1 bundle-name-kinds.ps bundle-name-kinds.r) κs) → bundle-name-reads.Post κs a r x
+pub bundle-name-promises : (κs : Lfts 1) (a : Dens κs bundle-name-kinds.ps) (r : Part) (x : AtExit (endedOf 1 bundle-name-kinds.ps bundle-name-kinds.r) κs)
+    → bundle-name-reads.Post κs a r x
     → BundleNames (a .0 .now) r
 bundle-name-promises κs a r x q = q
 
 -- the arguments: the bundle and a character
-pub bundle-rows-promises : (κs : Lfts 1) (a : Dens κs bundle-rows-kinds.ps) (r : Part) (x : AtExit (endedOf 1 bundle-rows-kinds.ps bundle-rows-kinds.r) κs) → bundle-rows-reads.Post κs a r x
+pub bundle-rows-promises : (κs : Lfts 1) (a : Dens κs bundle-rows-kinds.ps) (r : Part) (x : AtExit (endedOf 1 bundle-rows-kinds.ps bundle-rows-kinds.r) κs)
+    → bundle-rows-reads.Post κs a r x
     → BundleRows (a .0 .now) (a .1 .0) r
 bundle-rows-promises κs a r x q = q
 
 -- the record and an instance; the record and bytes; the record and a buffer
-pub start-promises : (κs : Lfts 1) (a : Args start.signature κs) (r : ℕ) (x : AtExit start.ended κs) → running.Start κs a r x → Starts (now (a .0)) (a .1 .0) r (now (x .0))
+pub start-promises : (κs : Lfts 1) (a : Args start.signature κs) (r : ℕ) (x : AtExit start.ended κs) → running.Start κs a r x
+    → Starts (now (a .0)) (a .1 .0) r (now (x .0))
 start-promises κs a r x q = q
 
-pub feed-promises : (κs : Lfts 2) (a : Args feed.signature κs) (r : ℕ) (x : AtExit feed.ended κs) → running.Feed κs a r x → Feeds (now (a .0)) (now (a .1 .0)) r (now (x .0))
+pub feed-promises : (κs : Lfts 2) (a : Args feed.signature κs) (r : ℕ) (x : AtExit feed.ended κs) → running.Feed κs a r x
+    → Feeds (now (a .0)) (now (a .1 .0)) r (now (x .0))
 feed-promises κs a r x q = q
 
 pub finish-promises : (κs : Lfts 2) (a : Args finish.signature κs) (r : Counted) (x : AtExit finish.ended κs) → running.Finish κs a r x

@@ -61,7 +61,8 @@ known-is i = go (unknown i) refl
     go false p e = p
 
 -- the digest at once, where there is the instance, the message is within the limit and there is room
-digest-done : (i : ℕ) (m o : List ℕ) → unknown i ≡ false → length m ≤ LONGEST-MESSAGE → DIGEST ≤ length o → digestAnswer i m o ≡ digested-is.Done (digestCalls i m)
+digest-done : (i : ℕ) (m o : List ℕ) → unknown i ≡ false → length m ≤ LONGEST-MESSAGE → DIGEST ≤ length o
+    → digestAnswer i m o ≡ digested-is.Done (digestCalls i m)
 unfolding digestAnswer
 digest-done i m o known fits room = rw (known, le-ltb LONGEST-MESSAGE (length m) fits, le-ltb (length o) DIGEST room)
 

@@ -55,5 +55,6 @@ c-undone s b k r s′ p r′ s″ q =
 
 pub c-redone : (s : List ℕ) → Below 256 s → (k r : ℕ) (s′ : List ℕ) → Unpermutes s k r s′ → (r′ : ℕ) (s″ : List ℕ) → Permutes s′ k r′ s″ → (r′ ≡ r) × (s″ ≡ s)
 c-redone s b k r s′ p r′ s″ q =
-    let z = back unpermute permute s k (length-unpermute k s) (λ e. rounds-redone k s (omega (arith, allowed (length s) k e .1)) b) (judged (length s) k) refl in
+    let z = back unpermute permute s k (length-unpermute k s) (λ e. rounds-redone k s (omega (arith, allowed (length s) k e .1)) b) (judged (length s) k)
+    refl in
     (q .0 ∙ ap (λ (t : List ℕ). permuteNumber (length t) k) (p .1) ∙ z .0 ∙ sym (p .0), q .1 ∙ ap (λ (t : List ℕ). permuteState permute t k) (p .1) ∙ z .1)

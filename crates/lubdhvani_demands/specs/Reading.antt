@@ -93,7 +93,8 @@ seen-is i q l′ = ap (λ (b : _). record {
 }) (end-is (q .answer))
 
 -- a run of C calls is a run of read calls, which see the same
-pub c-run : {key font : List ℕ} {asked : Asked} {s : List ℕ} {i from : ℕ} {seen : List Seen} → Run key font asked s i from seen → inner.Run key font (askedOf asked) s i from seen
+pub c-run : {key font : List ℕ} {asked : Asked} {s : List ℕ} {i from : ℕ} {seen : List Seen} → Run key font asked s i from seen
+    → inner.Run key font (askedOf asked) s i from seen
 c-run none = inner.none
 c-run {key} {font} {asked} {s} {i} {from} (next r l l′ {rest} g p q) =
     let a = readAnswer (told key font (layoutOf (asked .layout))) (askedOf asked) s from l in
@@ -103,7 +104,8 @@ c-run {key} {font} {asked} {s} {i} {from} (next r l l′ {rest} g p q) =
     subst (λ (x : Seen). inner.Run key font (askedOf asked) s i from (x ∷ rest)) (sym seen) (inner.next a l l′ g (refl, p .1) on)
 
 -- steps of a walker are a run over its stream from the place reached
-pub c-walk-run : {key font : List ℕ} {asked : Asked} {w : Walker} {seen : List Seen} → Walk key font asked w seen → Run key font asked (now (w .stream)) 0 (w .at) seen
+pub c-walk-run : {key font : List ℕ} {asked : Asked} {w : Walker} {seen : List Seen} → Walk key font asked w seen
+    → Run key font asked (now (w .stream)) 0 (w .at) seen
 c-walk-run stays = none
 c-walk-run {key} {font} {asked} {w} (moves r w′ l l′ {rest} g p q) =
     let on : Run key font asked (now (w .stream)) 0 (r .closing) rest =
@@ -114,7 +116,8 @@ c-walk-run {key} {font} {asked} {w} (moves r w′ l l′ {rest} g p q) =
 -- a line that is given is what a write call makes of it, with the same count, edition and job
 pub c-given-is-written : (key font : List ℕ) (asked : Asked) (s : List ℕ) → Below 256 s → (from : ℕ) (l : List ℕ) (r : Reading) (l′ : List ℕ)
     → Reads key font asked s from l r l′ → r .outcome ≡ LINE
-    → Made key font (layoutOf (asked .layout)) (asked .editions) (label (r .edition) (r .job)) (take (r .length) l′) (r .calls) (bytesAt s (span (r .first) (r .closing)))
+    → Made key font (layoutOf (asked .layout)) (asked .editions) (label (r .edition) (r .job)) (take (r .length) l′) (r .calls)
+    (bytesAt s (span (r .first) (r .closing)))
 c-given-is-written key font asked s bytes from l r l′ p e =
     let q = readAnswer (told key font (layoutOf (asked .layout))) (askedOf asked) s from l in
     let one : outcomeOf (q .answer) ≡ LINE = sym (ap (λ (y : Reading). y .outcome) (p .0)) ∙ e in
@@ -127,7 +130,8 @@ pub c-made : (key : List ℕ) (own : Own) (font : List ℕ) (lay : ℕ) (L f : L
     → Below 256 (own .nonce) → Below 256 (own .job) → (ed : ℕ) → allows ed (own .edition) ≡ true → (s′ : List ℕ) → take (w .length) f′ ≡ marked s′
     → Made key font (layoutOf lay) ed (labelOf own) L (w .calls) s′
 c-made key own font lay L f w f′ p e nonce job ed may s′ is =
-    let z = wrote key own font (layoutOf lay) L f (written-is.Done (w .length) (w .calls)) f′ (sym (c-written key own font lay L f w f′ p e), p .1) (w .length) (w .calls) refl in
+    let z = wrote key own font (layoutOf lay) L f (written-is.Done (w .length) (w .calls)) f′ (sym (c-written key own font lay L f w f′ p e), p .1) (w .length)
+    (w .calls) refl in
     subst (λ (k : ℕ). Made key font (layoutOf lay) ed (labelOf own) L k s′) (sym (z .calls))
     (made-written key font (layoutOf lay) ed own L s′ (record {
       accepts = z .accepts;
@@ -158,20 +162,24 @@ c-every-line-given key font asked b L k enough s p q h x made run end =
     every-line-given key font (askedOf asked) b L k enough s p q h x made (c-run run) end
 
 -- and every frame that a write call makes, answering 0, standing anywhere in a stream within the limit
-pub c-every-frame-given : (key : List ℕ) (own : Own) (font : List ℕ) (lay : ℕ) (L f : List ℕ) (w : Framed) (f′ : List ℕ) → Writes key own font lay L f w f′ → w .number ≡ 0
+pub c-every-frame-given : (key : List ℕ) (own : Own) (font : List ℕ) (lay : ℕ) (L f : List ℕ) (w : Framed) (f′ : List ℕ) → Writes key own font lay L f w f′
+    → w .number ≡ 0
     → (asked : Asked) → asked .layout ≡ lay → allows (asked .editions) (own .edition) ≡ true → w .calls ≤ asked .allowed
     → (a c : List ℕ) → length (a ++ (take (w .length) f′ ++ c)) ≤ longestStream
     → {seen : List Seen} → Run key font asked (a ++ (take (w .length) f′ ++ c)) 0 0 seen → Ended seen
     → SeenGiven (length a + 1) (length a + w .length - 1) (labelOf own) L (w .calls) seen
 c-every-frame-given key own font lay L f w f′ p e asked same may enough a c h run end =
-    every-frame-given key own font (layoutOf lay) L f (written-is.Done (w .length) (w .calls)) f′ (sym (c-written key own font lay L f w f′ p e), p .1) (w .length) (w .calls) refl
+    every-frame-given key own font (layoutOf lay) L f (written-is.Done (w .length) (w .calls)) f′ (sym (c-written key own font lay L f w f′ p e), p .1)
+    (w .length) (w .calls) refl
     (askedOf asked) (ap layoutOf same) may enough a c h (c-run run) end
 
 -- two streams equal from a mark on, each read from its start to its end with the same key and font and told the same: both runs come to the mark, and what is
 -- seen behind it, with places counted from it, is the same
-pub c-resync : (key font : List ℕ) (asked : Asked) (x y : List ℕ) (i j : ℕ) → Sizes (told key font (layoutOf (asked .layout))) → length x ≤ longestStream → length y ≤ longestStream
+pub c-resync : (key font : List ℕ) (asked : Asked) (x y : List ℕ) (i j : ℕ) → Sizes (told key font (layoutOf (asked .layout))) → length x ≤ longestStream
+    → length y ≤ longestStream
     → Mark x i → Mark y j → drop i x ≡ drop j y → {sx sy : List Seen}
     → Run key font asked x 0 0 sx → Ended sx → Run key font asked y 0 0 sy → Ended sy
-    → (u : Reaches key font (askedOf asked) x i sx) × (v : Reaches key font (askedOf asked) y j sy) × (map (countedFrom i) (u .after) ≡ map (countedFrom j) (v .after))
+    → (u : Reaches key font (askedOf asked) x i sx) × (v : Reaches key font (askedOf asked) y j sy)
+    × (map (countedFrom i) (u .after) ≡ map (countedFrom j) (v .after))
 c-resync key font asked x y i j z hx hy m n e p a q b =
     resync-from-start key font (askedOf asked) x y i j z hx hy m n e (c-run p) a (c-run q) b

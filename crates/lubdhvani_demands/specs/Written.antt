@@ -40,7 +40,8 @@ converted-done converted-is.Trade e = absurd (omega (arith, e))
 converted-done converted-is.Layout e = absurd (omega (arith, e))
 
 -- a write call that answers 0 is done, with the length and the count that it answers
-pub c-written : (key : List ℕ) (own : Own) (font : List ℕ) (lay : ℕ) (L f : List ℕ) (w : Framed) (f′ : List ℕ) → Writes key own font lay L f w f′ → w .number ≡ 0
+pub c-written : (key : List ℕ) (own : Own) (font : List ℕ) (lay : ℕ) (L f : List ℕ) (w : Framed) (f′ : List ℕ) → Writes key own font lay L f w f′
+    → w .number ≡ 0
     → writeCall (told key font (layoutOf lay)) own L f .answer ≡ written-is.Done (w .length) (w .calls)
 c-written key own font lay L f w f′ p e =
     let a = writeCall (told key font (layoutOf lay)) own L f .answer in
@@ -48,7 +49,8 @@ c-written key own font lay L f w f′ p e =
     ∙ ap (λ (x : Framed). written-is.Done (x .length) (x .calls)) (sym (p .0))
 
 -- and so is a call of the converter
-pub c-converted : (key : List ℕ) (own : Own) (font : List ℕ) (lay : ℕ) (s f : List ℕ) (w : Measured) (f′ : List ℕ) → Converts key own font lay s f w f′ → w .number ≡ 0
+pub c-converted : (key : List ℕ) (own : Own) (font : List ℕ) (lay : ℕ) (s f : List ℕ) (w : Measured) (f′ : List ℕ) → Converts key own font lay s f w f′
+    → w .number ≡ 0
     → convertCall (told key font (layoutOf lay)) own s f .answer ≡ converted-is.Done (w .length)
 c-converted key own font lay s f w f′ p e =
     let a = convertCall (told key font (layoutOf lay)) own s f .answer in

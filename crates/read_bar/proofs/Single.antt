@@ -7,5 +7,6 @@ use Rattle.read_bar.specs.declared.Bar.{Bar}
 use Rattle.read_bar.proofs.judge_asked.Kinds as kinds
 use Rattle.read_bar.proofs.judge_asked.Reads.{Post}
 
-pub judge-asked-single : (κs : Lfts 2) (a : Dens κs kinds.ps) (r r′ : Bar) (x x′ : AtExit (endedOf 2 kinds.ps kinds.r) κs) → Post κs a r x → Post κs a r′ x′ → r ≡ r′
+pub judge-asked-single : (κs : Lfts 2) (a : Dens κs kinds.ps) (r r′ : Bar) (x x′ : AtExit (endedOf 2 kinds.ps kinds.r) κs) → Post κs a r x → Post κs a r′ x′
+    → r ≡ r′
 judge-asked-single κs a r r′ x x′ p q = p ∙ sym q

@@ -17,7 +17,8 @@ use Rattle.read_call.specs.declared.Reading.{Reading}
 use Rattle.read_call.specs.declared.Verdict.{Verdict}
 use Rattle.read_call.specs.declared.Answer.the-variants as answer-is
 use Rattle.read_spec.specs.Sizes.{Sizes}
-use Rattle.read_call.specs.Answers.{longestStream, sizedTold, Found, call, stretch, found, readingAt, readingOf, buffer, plain, verdictOf, judgedWithin, lineOver, readAnswer, readOut}
+use Rattle.read_call.specs.Answers.{longestStream, sizedTold, Found, call, stretch, found, readingAt, readingOf}
+use Rattle.read_call.specs.Answers.{buffer, plain, verdictOf, judgedWithin, lineOver, readAnswer, readOut}
 
 -- the places that `next_span` gives
 pub within : (s : List ℕ) (from : ℕ) (p : Span) → p ≡ nextSpan s from → Within (length s) p

@@ -141,7 +141,8 @@ module _ (t : Told) (ed a : ℕ) (b : List ℕ) (e : Edition) (n : ℕ) (p : Par
       → ceiling.within a (judgeFields t (among ed (fieldsOf b))) ≡ barred r (judgeParts (t .layout) e n (t .key) b)
   unfolding barIn
   by-bar r i =
-      go (allows ed e) refl (same (digestIn b) (t .font)) refl (ltb a (n + besideLine e)) refl ∙ ap (λ (x : Bar). barred x (judgeParts (t .layout) e n (t .key) b)) (sym i)
+      go (allows ed e) refl (same (digestIn b) (t .font)) refl (ltb a (n + besideLine e)) refl ∙ ap
+      (λ (x : Bar). barred x (judgeParts (t .layout) e n (t .key) b)) (sym i)
     where
       go : (x : Bool) → allows ed e ≡ x → (y : Bool) → same (digestIn b) (t .font) ≡ y → (z : Bool) → ltb a (n + besideLine e) ≡ z
           → ceiling.within a (judgeFields t (among ed (fieldsOf b)))

@@ -205,7 +205,8 @@ outcomeOf answer-is.NoRoom = CALL-REFUSED
 outcomeOf answer-is.Beyond = CALL-REFUSED
 
 -- what opening a sealed line finds has its number
-pub verdict-number : (k : Label) (n : ℕ) (f : opened-line.Found) → (foundNumber f ≡ foundNumber found-is.Sizes → ⊥) → numberOf (verdictOn k n f .answer) ≡ foundNumber f
+pub verdict-number : (k : Label) (n : ℕ) (f : opened-line.Found) → (foundNumber f ≡ foundNumber found-is.Sizes → ⊥)
+    → numberOf (verdictOn k n f .answer) ≡ foundNumber f
 verdict-number k n found-is.Sizes h = absurd (h refl)
 verdict-number k n (found-is.Seal calls) h = refl
 verdict-number k n (found-is.Unlisted calls) h = refl

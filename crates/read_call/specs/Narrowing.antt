@@ -20,7 +20,8 @@ use Rattle.read_spec.specs.Ceiling.{within}
 use Rattle.read_spec.specs.Narrowing.{Narrower, alike, narrowed, judge-narrows, within-narrows}
 use Rattle.read_call.specs.declared.Asked.{Asked}
 use Rattle.read_call.specs.declared.Answer.the-variants as answer-is
-use Rattle.read_call.specs.Answers.{longestStream, sizedTold, Found, call, stretch, judgedWithin, found, plain, readingAt, readingOf, buffer, verdictOf, readAnswer, readOut}
+use Rattle.read_call.specs.Answers.{longestStream, sizedTold, Found, call, stretch, judgedWithin, found}
+use Rattle.read_call.specs.Answers.{plain, readingAt, readingOf, buffer, verdictOf, readAnswer, readOut}
 
 -- what a call finds with a layout named, beside what it finds with none
 data Beside : Found → Found → Type 0 where

@@ -96,7 +96,8 @@ body-placed b h e n = go (fieldsOf b) refl
     go no-body i q = absurd (let z : _≡_ {A = ℕ} 0 1 = cc q in omega arith)
     go (fields own digest cipher seal) i q =
         let (is, z) = body-fields b h i in
-        let at : take nonceLength (drop nonceAt b) ≡ own .nonce = ap (λ (x : List ℕ). take nonceLength (drop nonceAt x)) is ∙ nonce-at own digest cipher seal z in
+        let at : take nonceLength (drop nonceAt b) ≡ own .nonce = ap (λ (x : List ℕ). take nonceLength (drop nonceAt x)) is ∙ nonce-at own digest cipher seal
+        z in
         record {
           room = omega (arith, ap length is, length-body z);
           nonce-is = ap ofFields i ∙ ap (λ (x : List ℕ). record { found = 1; bytes = x }) (sym at);

@@ -7,5 +7,6 @@ use Rattle.read_nonce.specs.declared.Nonce.{Nonce}
 use Rattle.read_nonce.proofs.nonce_of.Kinds as kinds
 use Rattle.read_nonce.proofs.nonce_of.Reads.{Post}
 
-pub nonce-of-single : (κs : Lfts 1) (a : Dens κs kinds.ps) (r r′ : Nonce) (x x′ : AtExit (endedOf 1 kinds.ps kinds.r) κs) → Post κs a r x → Post κs a r′ x′ → r ≡ r′
+pub nonce-of-single : (κs : Lfts 1) (a : Dens κs kinds.ps) (r r′ : Nonce) (x x′ : AtExit (endedOf 1 kinds.ps kinds.r) κs) → Post κs a r x → Post κs a r′ x′
+    → r ≡ r′
 nonce-of-single κs a r r′ x x′ p q = p ∙ sym q

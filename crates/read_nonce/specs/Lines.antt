@@ -10,7 +10,8 @@ use Rattle.frame_spec.specs.Told.{Told}
 use Rattle.read_spec.specs.Editions.{among-fields}
 use Rattle.read_spec.specs.Judged.{Judged, line, numberIn}
 use Rattle.read_spec.specs.Judging.{judge, held}
-use Rattle.read_spec.specs.Cases.{Stuffed, Holds, Case, judge-case, too-long, bad-stuffing, no-fields, other-font, other-seal, not-listed, not-trade, not-laid, given}
+use Rattle.read_spec.specs.Cases.{Stuffed, Holds, Case, judge-case, too-long, bad-stuffing, no-fields}
+use Rattle.read_spec.specs.Cases.{other-font, other-seal, not-listed, not-trade, not-laid, given}
 use Rattle.read_nonce.specs.declared.Nonce.{Nonce}
 use Rattle.read_nonce.specs.Nonces.{nonceAnswer}
 use Rattle.read_nonce.specs.Sizes.{nonce-held}

@@ -43,7 +43,8 @@ nonce-twelve s h = by-length (lengthAnswer s)
     by-fields (fields own digest cipher seal) e =
         let b = unstuffed s in
         let (is, z) = body-fields b (unstuffed-below s h) e in
-        let n : take nonceLength (drop nonceAt b) ≡ own .nonce = ap (λ (x : List ℕ). take nonceLength (drop nonceAt x)) is ∙ nonce-at own digest cipher seal z in
+        let n : take nonceLength (drop nonceAt b) ≡ own .nonce = ap (λ (x : List ℕ). take nonceLength (drop nonceAt x)) is ∙ nonce-at own digest cipher seal
+        z in
         (z .nonce-is, subst (Below 256) n (below-take 256 nonceLength (drop nonceAt b) (below-drop 256 nonceAt b (unstuffed-below s h))))
 
     by-length : (u : Unstuffed) → Twelve (ofFields (heldBy u (fieldsOf (unstuffed s))) .bytes)

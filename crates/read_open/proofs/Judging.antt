@@ -36,8 +36,10 @@ module _ (l : layouts.Layout) (x : Opened) (s o : List ℕ) where
       none y e f = f (subst (λ (z : Opened). OneOf (1 ∷ 2 ∷ 3 ∷ 4 ∷ []) (tagOf opened-type.the-type z)) e h)
 
       go : (y : Opened) → x ≡ y → Met found.Sizes o
-      go (opened.Done n) e = none (opened.Done n) e (λ g. absurd (⊎-elim (λ i. omega (arith, i)) (⊎-elim (λ i. omega (arith, i)) (⊎-elim (λ i. omega (arith, i)) (λ i. omega (arith, i)))) g))
-      go (opened.Seal n) e = none (opened.Seal n) e (λ g. absurd (⊎-elim (λ i. omega (arith, i)) (⊎-elim (λ i. omega (arith, i)) (⊎-elim (λ i. omega (arith, i)) (λ i. omega (arith, i)))) g))
+      go (opened.Done n) e = none (opened.Done n) e (λ g. absurd (⊎-elim (λ i. omega (arith, i)) (⊎-elim (λ i. omega (arith, i))
+          (⊎-elim (λ i. omega (arith, i)) (λ i. omega (arith, i)))) g))
+      go (opened.Seal n) e = none (opened.Seal n) e (λ g. absurd (⊎-elim (λ i. omega (arith, i)) (⊎-elim (λ i. omega (arith, i))
+          (⊎-elim (λ i. omega (arith, i)) (λ i. omega (arith, i)))) g))
       go opened.Instance e = met found.Sizes (ap (λ (y : Opened). foundBy l y s) e)
       go opened.Sizes e = met found.Sizes (ap (λ (y : Opened). foundBy l y s) e)
       go opened.TooLong e = met found.Sizes (ap (λ (y : Opened). foundBy l y s) e)

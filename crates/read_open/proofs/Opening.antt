@@ -16,8 +16,10 @@ use Rattle.read_open.specs.Opened.{foundBy, lineBy, LineCall, lineCall, 
 
 module _ (l : Layout) (key nonce A C T o : List ℕ) where
   -- what `open` answered and left, judged
-  pub judged : (text : List ℕ) (a : Opened) (w : List ℕ) → a ≡ openNamed (named FIRST) key nonce A C T text .answer → w ≡ openNamed (named FIRST) key nonce A C T text .out
-      → (r : Found) (o′ : List ℕ) → r ≡ foundBy l a (take (length C - 0) (drop 0 w)) → o′ ≡ lineBy (foundBy l a (take (length C - 0) (drop 0 w))) (take (length C - 0) (drop 0 w)) o
+  pub judged : (text : List ℕ) (a : Opened) (w : List ℕ) → a ≡ openNamed (named FIRST) key nonce A C T text .answer
+      → w ≡ openNamed (named FIRST) key nonce A C T text .out
+      → (r : Found) (o′ : List ℕ) → r ≡ foundBy l a (take (length C - 0) (drop 0 w)) → o′ ≡ lineBy (foundBy l a (take (length C - 0) (drop 0 w)))
+      (take (length C - 0) (drop 0 w)) o
       → (r ≡ openBeside l key nonce A C T text o .answer) × (o′ ≡ openBeside l key nonce A C T text o .line)
   unfolding openBeside
   judged text a w x y r o′ p q = let z : length C - 0 ≡ length C = omega arith in (p ∙ rw (z, x, y), q ∙ rw (z, x, y))
@@ -41,4 +43,5 @@ module _ (l : Layout) (key nonce A C T o : List ℕ) where
         → o′ ≡ openBeside l key nonce A C T (replicate longest 0) o .line → Met r o′
     unfolding openLine
     beside g r o′ p q =
-        let m = met (openBeside l key nonce A C T (replicate longest 0) o) (rw (le-ltb longest (length C) h, le-ltb (length o) (length C) g)) in (p ∙ m .0, q ∙ m .1)
+        let m = met (openBeside l key nonce A C T (replicate longest 0) o) (rw (le-ltb longest (length C) h, le-ltb (length o) (length C) g)) in
+        (p ∙ m .0, q ∙ m .1)

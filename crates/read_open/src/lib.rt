@@ -70,8 +70,10 @@ fn open_beside(
     line: &mut [u8],
 ) -> Found
     requires { ⌜ length (now cipher) ≤ length (now text) ⌝ }
-    ensures answer { λ r. ⌜ r ≡ openBeside layout (now (key .entry)) (now (nonce .entry)) (now (assoc .entry)) (now (cipher .entry)) (now (seal .entry)) (now (text .entry)) (now (line .entry)) .answer ⌝ }
-    ensures line { λ _. ⌜ now (line .exit) ≡ openBeside layout (now (key .entry)) (now (nonce .entry)) (now (assoc .entry)) (now (cipher .entry)) (now (seal .entry)) (now (text .entry)) (now (line .entry)) .line ⌝ }
+    ensures answer { λ r. ⌜ r ≡ openBeside layout (now (key .entry)) (now (nonce .entry)) (now (assoc .entry)) (now (cipher .entry)) (now (seal .entry))
+        (now (text .entry)) (now (line .entry)) .answer ⌝ }
+    ensures line { λ _. ⌜ now (line .exit) ≡ openBeside layout (now (key .entry)) (now (nonce .entry)) (now (assoc .entry)) (now (cipher .entry))
+        (now (seal .entry)) (now (text .entry)) (now (line .entry)) .line ⌝ }
 {
     let opened = open(INSTANCE, key, nonce, assoc, cipher, seal, text);
     judge_opened(opened, layout, &text[0..cipher.len()], line)
@@ -87,8 +89,10 @@ pub fn open_line(
     seal: &[u8],
     line: &mut [u8],
 ) -> Found
-    ensures answer { λ r. ⌜ r ≡ openLine layout (now (key .entry)) (now (nonce .entry)) (now (assoc .entry)) (now (cipher .entry)) (now (seal .entry)) (now (line .entry)) .answer ⌝ }
-    ensures line { λ _. ⌜ now (line .exit) ≡ openLine layout (now (key .entry)) (now (nonce .entry)) (now (assoc .entry)) (now (cipher .entry)) (now (seal .entry)) (now (line .entry)) .line ⌝ }
+    ensures answer { λ r. ⌜ r ≡ openLine layout (now (key .entry)) (now (nonce .entry)) (now (assoc .entry)) (now (cipher .entry)) (now (seal .entry))
+        (now (line .entry)) .answer ⌝ }
+    ensures line { λ _. ⌜ now (line .exit) ≡ openLine layout (now (key .entry)) (now (nonce .entry)) (now (assoc .entry)) (now (cipher .entry))
+        (now (seal .entry)) (now (line .entry)) .line ⌝ }
 {
     if cipher.len() > LONGEST_LINE {
         return Found::Sizes;

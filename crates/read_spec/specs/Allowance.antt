@@ -26,7 +26,8 @@ use Rattle.frame_spec.specs.Told.{Told}
 use Rattle.frame_spec.specs.Lengths.{besideLine}
 use Rattle.read_spec.specs.Sizes.{Sizes}
 use Rattle.read_spec.specs.Judging.{byRule, judgeSealed, judge}
-use Rattle.read_spec.specs.Cases.{Holds, Case, judge-holds, judge-case, too-long, bad-stuffing, no-fields, other-font, other-seal, not-listed, not-trade, not-laid, given}
+use Rattle.read_spec.specs.Cases.{Holds, Case, judge-holds, judge-case, too-long, bad-stuffing, no-fields}
+use Rattle.read_spec.specs.Cases.{other-font, other-seal, not-listed, not-trade, not-laid, given}
 use Rattle.read_spec.specs.Counts.{Counted, opening-calls, read-calls}
 use Rattle.read_spec.specs.Editions.{among-fields}
 use Rattle.read_spec.specs.Judged.{Judged, shape, stuffing, font, work, seal, unlisted, trade, layout, line, numberIn, callsIn}
@@ -97,7 +98,8 @@ module _ (t : Told) (z : Sizes t) (ed : ℕ) (s : List ℕ) (a : ℕ) where
   held h = job-sized (unstuffed s) (among-fields ed (fieldsOf (unstuffed s)) (h .1) .0)
 
   -- a stretch whose fields are right and whose font is the one asked for, and more work than is allowed: 15, whatever its seal and its line
-  pub over-allowed : (own : Own) (cipher T : List ℕ) → Holds ed s own (t .font) cipher T → a < length cipher + besideLine (own .edition) → within a (judge t ed s) ≡ work
+  pub over-allowed : (own : Own) (cipher T : List ℕ) → Holds ed s own (t .font) cipher T → a < length cipher + besideLine (own .edition)
+      → within a (judge t ed s) ≡ work
   over-allowed own cipher T h l =
       let sealed : judge t ed s ≡ judgeSealed (t .layout) own (t .key) (associated (own .edition) (t .font) (own .job)) cipher T =
       judge-holds t ed s h ∙ rw (same-refl (t .font)) in

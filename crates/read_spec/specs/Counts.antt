@@ -1,4 +1,5 @@
--- The count of a reading (document 01, 'Numbers returned'; orders W2 and W7): 0 for 7, 6 and 8; for 5, 9, 13, 17 and a line n + 39 (in edition two n + 46, order
+-- The count of a reading (document 01, 'Numbers returned'; orders W2 and W7): 0 for 7, 6 and 8; for 5, 9, 13, 17 and a line n + 39 (in edition two n + 46,
+-- order
 -- W6), n being the length of the line's ciphertext. Assumes nothing.
 use mathlib.Core.Path.{_≡_, refl}
 use mathlib.Core.List.{List}
@@ -16,7 +17,8 @@ use Rattle.read_spec.specs.Sizes.{Sizes}
 use Rattle.read_spec.specs.Editions.{among-fields}
 use Rattle.read_spec.specs.Judged.{Judged, shape, stuffing, font, work, seal, unlisted, trade, layout, line, callsIn}
 use Rattle.read_spec.specs.Judging.{judge}
-use Rattle.read_spec.specs.Cases.{Holds, Case, opening, judge-case, too-long, bad-stuffing, no-fields, other-font, other-seal, not-listed, not-trade, not-laid, given}
+use Rattle.read_spec.specs.Cases.{Holds, Case, opening, judge-case, too-long, bad-stuffing, no-fields}
+use Rattle.read_spec.specs.Cases.{other-font, other-seal, not-listed, not-trade, not-laid, given}
 
 -- the stretch's fields hold a ciphertext, and the count is that of opening one of its length
 abbrev pub OpenedWith : Told → ℕ → List ℕ → ℕ → Type 0

@@ -18,7 +18,8 @@ use Rattle.frame_stuff_spec.specs.Answers as stuffing-answers
 use Rattle.frame_stuff_spec.specs.Outcomes.{length-by-rules}
 use Rattle.base_fields.specs.Fields.{Front, value, no-field, valueOf, front, highByte}
 use Rattle.frame_body.specs.declared.Edition.the-variants.{One, Two}
-use Rattle.frame_body.specs.Fields.{nonceTag, digestTag, cipherTag, sealTag, jobTag, field, Own, ownOf, jobField, associated, body, takes, Fields, fields, no-body, next, byJob, afterNonce, afterDigest, afterJob, afterCipher, afterSeal, fieldsOf}
+use Rattle.frame_body.specs.Fields.{nonceTag, digestTag, cipherTag, sealTag, jobTag, field, Own, ownOf, jobField, associated, body, takes}
+use Rattle.frame_body.specs.Fields.{Fields, fields, no-body, next, byJob, afterNonce, afterDigest, afterJob, afterCipher, afterSeal, fieldsOf}
 use Rattle.frame_body.specs.OneToOne.{body-fields}
 use Rattle.frame_body.specs.Lengths.{jobFieldLength, body-lengths}
 use Rattle.frame_spec.specs.Told.{Told}
@@ -117,7 +118,8 @@ fields-as-before b = by-nonce (front takes nonceTag b)
     by-digest nonce (value digest s) = by-job nonce digest s (front takes jobTag s) refl
     by-digest nonce no-field = refl
 
-    by-nonce : (f : Front) → among oneAlone (next f afterNonce) ≡ next f (λ nonce s. next (front takes digestTag s) (λ digest r. afterJob (ownOf One nonce []) digest r))
+    by-nonce : (f : Front) → among oneAlone (next f afterNonce) ≡ next f (λ nonce s. next (front takes digestTag s)
+        (λ digest r. afterJob (ownOf One nonce []) digest r))
     by-nonce (value nonce s) = by-digest nonce (front takes digestTag s)
     by-nonce no-field = refl
 
@@ -125,7 +127,8 @@ fields-as-before b = by-nonce (front takes nonceTag b)
 pub edition-one-as-before : (t : Told) (s : List ℕ) → length s ≤ longest01 → judge t oneAlone s ≡ judge01 t s
 unfolding judge judge01
 edition-one-as-before t s h =
-    rw (length-by-rules s (omega arith), le-ltb longest01 (length s) h) (ap (λ (f : Fields). byStuffing (stuffing-answers.answerOf (lengthOutside s)) (judgeFields t f)) (fields-as-before (unstuffed s)))
+    rw (length-by-rules s (omega arith), le-ltb longest01 (length s) h) (ap (λ (f : Fields). byStuffing (stuffing-answers.answerOf (lengthOutside s))
+    (judgeFields t f)) (fields-as-before (unstuffed s)))
 
 -- no well-stuffed stretch over 274 bytes has a body of edition one
 pub edition-one-short : (s : List ℕ) → Below 256 s → WellStuffed s → {own : Own} {digest cipher T : List ℕ}

@@ -37,7 +37,8 @@ module _ (l : layouts.Layout) (own : Own) (w : Work) where
       go (ruled.as-without e) = rw e (alike (byRule (layoutRule Neither (w .text)) own w))
       go (ruled.not-laid e f) = rw (e, f) (narrowed own (w .text) (w .calls))
 
-  seal-narrows : (b : Bool) → Narrower (cond b (seal (w .calls)) (byRule (layoutRule l (w .text)) own w)) (cond b (seal (w .calls)) (byRule (layoutRule Neither (w .text)) own w))
+  seal-narrows : (b : Bool) → Narrower (cond b (seal (w .calls)) (byRule (layoutRule l (w .text)) own w))
+      (cond b (seal (w .calls)) (byRule (layoutRule Neither (w .text)) own w))
   seal-narrows true = alike (seal (w .calls))
   seal-narrows false = rule-narrows
 

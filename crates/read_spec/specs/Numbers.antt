@@ -18,7 +18,8 @@ use Rattle.frame_spec.specs.Told.{Told}
 use Rattle.read_spec.specs.Editions.{among}
 use Rattle.read_spec.specs.Judged.{Judged, numberIn}
 use Rattle.read_spec.specs.Judging.{byRule, judgeSealed, judgeFields, judge}
-use Rattle.read_spec.specs.Cases.{Stuffed, Holds, Case, opening, judge-case, judge-fields, judge-holds, too-long, bad-stuffing, no-fields, other-font, other-seal, not-listed, not-trade, not-laid, given}
+use Rattle.read_spec.specs.Cases.{Stuffed, Holds, Case, opening, judge-case, judge-fields, judge-holds, too-long}
+use Rattle.read_spec.specs.Cases.{bad-stuffing, no-fields, other-font, other-seal, not-listed, not-trade, not-laid, given}
 
 module _ (t : Told) (ed : ℕ) (s : List ℕ) where
   -- a stretch that is too long or badly stuffed: 7, 6

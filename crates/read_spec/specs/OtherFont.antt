@@ -27,12 +27,14 @@ differ a b n = go (same a b) refl
     go true e = absurd (n (same-eq a b e))
     go false e = refl
 
-module _ (t t′ : Told) (ed : ℕ) (own : Own) (line : List ℕ) (a : Sealable t own line) (y : allows ed (own .edition) ≡ true) (other : t .font ≡ t′ .font → ⊥) where
+module _ (t t′ : Told) (ed : ℕ) (own : Own) (line : List ℕ) (a : Sealable t own line) (y : allows ed (own .edition) ≡ true)
+    (other : t .font ≡ t′ .font → ⊥) where
   holds : Holds ed (stuffed (sealedBody t own line)) own (t .font) (sealedLine t own line .text) (sealedLine t own line .seal)
   unfolding sealedBody
   holds = (
     record { short = stretch-within a; well = stuff-well (sealedBody t own line) },
-    among-allowed ed (fieldsOf (unstuffed (stuffed (sealedBody t own line)))) (ap fieldsOf (unstuff-stuff (sealedBody t own line)) ∙ fields-body (sealed-sized a)) y,
+    among-allowed ed (fieldsOf (unstuffed (stuffed (sealedBody t own line)))) (ap fieldsOf (unstuff-stuff (sealedBody t own line)) ∙ fields-body
+        (sealed-sized a)) y,
   )
 
   -- of each edition, to every reader that allows it

@@ -36,20 +36,26 @@ abbrev pub Next : (κs : Lfts 5) → Args next.signature κs → Reading → AtE
 Next κs a r x = Nexts (now (a .1 .0)) (now (a .1 .1 .0)) (a .1 .1 .1 .0) (now (a .0)) (now (a .1 .1 .1 .1 .0)) r (now (x .0)) (now (x .1 .1 .1 .1 .0))
 
 abbrev pub Walked : (κs : Lfts 4) → Args walked.signature κs → Step → AtExit walked.ended κs → Type 0
-Walked κs a r x = (r ≡ stepOf (told (now (a .1 .1 .0)) (now (a .1 .1 .1 .0)) (a .1 .1 .1 .1 .0 .layout)) (a .1 .1 .1 .1 .0) (now (a .0)) (a .1 .0) (now (a .1 .1 .1 .1 .1 .0)))
-    × (now (x .1 .1 .1 .1 .1 .0) ≡ readOut (told (now (a .1 .1 .0)) (now (a .1 .1 .1 .0)) (a .1 .1 .1 .1 .0 .layout)) (a .1 .1 .1 .1 .0) (now (a .0)) (a .1 .0) (now (a .1 .1 .1 .1 .1 .0)))
+Walked κs a r x = (r ≡ stepOf (told (now (a .1 .1 .0)) (now (a .1 .1 .1 .0)) (a .1 .1 .1 .1 .0 .layout)) (a .1 .1 .1 .1 .0) (now (a .0)) (a .1 .0)
+    (now (a .1 .1 .1 .1 .1 .0)))
+    × (now (x .1 .1 .1 .1 .1 .0) ≡ readOut (told (now (a .1 .1 .0)) (now (a .1 .1 .1 .0)) (a .1 .1 .1 .1 .0 .layout)) (a .1 .1 .1 .1 .0) (now (a .0)) (a .1 .0)
+    (now (a .1 .1 .1 .1 .1 .0)))
 
 module _ {M : Type 1} (𝓤 : URA M) (H : Heap 𝓤) (A : Atoms 𝓤) (mem : Memory → SProp 𝓤) (run : Routine → Fun 𝓤) where
-  pub new-says : (κs : Lfts 1) (a : Args new.signature κs) (r : Walker) (x : AtExit new.ended κs) → new.clauses 𝓤 H A mem run κs a .ensures tt r x ≡ fact 𝓤 (New κs a r)
+  pub new-says : (κs : Lfts 1) (a : Args new.signature κs) (r : Walker) (x : AtExit new.ended κs)
+      → new.clauses 𝓤 H A mem run κs a .ensures tt r x ≡ fact 𝓤 (New κs a r)
   new-says κs a r x = refl
 
-  pub place-says : (κs : Lfts 1) (a : Args place.signature κs) (r : ℕ) (x : AtExit place.ended κs) → place.clauses 𝓤 H A mem run κs a .ensures tt r x ≡ fact 𝓤 (Place κs a r)
+  pub place-says : (κs : Lfts 1) (a : Args place.signature κs) (r : ℕ) (x : AtExit place.ended κs)
+      → place.clauses 𝓤 H A mem run κs a .ensures tt r x ≡ fact 𝓤 (Place κs a r)
   place-says κs a r x = refl
 
-  pub next-says : (κs : Lfts 5) (a : Args next.signature κs) (r : Reading) (x : AtExit next.ended κs) → next.clauses 𝓤 H A mem run κs a .ensures tt r x ≡ fact 𝓤 (Next κs a r x)
+  pub next-says : (κs : Lfts 5) (a : Args next.signature κs) (r : Reading) (x : AtExit next.ended κs)
+      → next.clauses 𝓤 H A mem run κs a .ensures tt r x ≡ fact 𝓤 (Next κs a r x)
   next-says κs a r x = refl
 
-  pub walked-says : (κs : Lfts 4) (a : Args walked.signature κs) (r : Step) (x : AtExit walked.ended κs) → walked.clauses 𝓤 H A mem run κs a .ensures tt r x ≡ fact 𝓤 (Walked κs a r x)
+  pub walked-says : (κs : Lfts 4) (a : Args walked.signature κs) (r : Step) (x : AtExit walked.ended κs)
+      → walked.clauses 𝓤 H A mem run κs a .ensures tt r x ≡ fact 𝓤 (Walked κs a r x)
   walked-says κs a r x = refl
 
 pub new-single : (κs : Lfts 1) (a : Args new.signature κs) (r r′ : Walker) → New κs a r → New κs a r′ → r ≡ r′

@@ -57,7 +57,8 @@ module _ (c : State) (v b : List ℕ) (s : Sound c b) where
   kept-in out h e =
       let fits : c .received + length v ≤ length b = omega (arith, s .few, s .room) in
       let w : take (c .received) b ++ (out ++ drop (length b - c .received) (drop (c .received) b)) ≡ sets b (c .received) v =
-      rw (e, copied-all v (take (length b - c .received) (drop (c .received) b)) (simp (length-take, length-drop) (omega arith))) (over-part (c .received) v b fits) in
+      rw (e, copied-all v (take (length b - c .received) (drop (c .received) b)) (simp (length-take, length-drop) (omega arith)))
+      (over-part (c .received) v b fits) in
       let d : sets b (c .received) v ≡ take (c .received) b ++ v ++ drop (c .received + length v) b = sets-eq v b (c .received) fits in
       let n : length (take (c .received) b ++ v) ≡ c .received + length v = length-append (take (c .received) b) v ∙ omega (arith, streamed) in
       let front : take (c .received + length v) (sets b (c .received) v) ≡ take (c .received) b ++ v =
@@ -79,9 +80,11 @@ module _ (c : State) (v b : List ℕ) (s : Sound c b) where
 module _ (c : State) (v b : List ℕ) (s : Sound c b) where
   after-print : State
   after-print =
-      stateOf (c .at) (c .event) (c .received) (c .place) false (c .length) (c .line) (firstOf (c .differs) (c .event) (same v (take (c .length) (c .line)))) (c .answer)
+      stateOf (c .at) (c .event) (c .received) (c .place) false (c .length) (c .line) (firstOf (c .differs) (c .event) (same v (take (c .length) (c .line))))
+      (c .answer)
 
-  by-unprinted : (u : Bool) → c .unprinted ≡ u → Kept (printOn (heldGiven u (take (c .length) (c .line))) v (held c b)) c (c .at) b (cond (not u) (failed NoLine c) after-print) b
+  by-unprinted : (u : Bool) → c .unprinted ≡ u → Kept (printOn (heldGiven u (take (c .length) (c .line))) v (held c b)) c (c .at) b
+      (cond (not u) (failed NoLine c) after-print) b
   unfolding after-print
   by-unprinted false e = kept-failed NoLine c b s
   by-unprinted true e = record {

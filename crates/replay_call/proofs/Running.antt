@@ -152,8 +152,10 @@ module _ (judge : List ℕ → Judged) (trace o : List ℕ) (n : ℕ) where
       running-stops f =
           let done = r .before ++ (e ∷ []) in
           let q : length done + (n - length done) ≡ n = omega (arith, many) in
-          let t : take n (events trace) ≡ done ++ take (n - length done) rest = rw split (ap (λ (m : ℕ). take m (done ++ rest)) (sym q) ∙ take-append-add done rest (n - length done)) in
+          let t : take n (events trace) ≡ done ++ take (n - length done) rest = rw split (ap (λ (m : ℕ). take m (done ++ rest)) (sym q) ∙ take-append-add done
+          rest (n - length done)) in
           let u : isDone (run judge trace start done .answer) ≡ false = ap (λ (x : Press). isDone (x .answer)) (sym stepped) ∙ f in
           ran c′ b′
-          (stepped ∙ sym (ap (run judge trace start) t ∙ run-append judge trace start done (take (n - length done) rest) ∙ run-stays judge trace (run judge trace start done) (take (n - length done) rest) u))
+          (stepped ∙ sym (ap (run judge trace start) t ∙ run-append judge trace start done (take (n - length done) rest) ∙ run-stays judge trace
+          (run judge trace start done) (take (n - length done) rest) u))
           stays (k .sound) (λ y. never (sym f ∙ y))

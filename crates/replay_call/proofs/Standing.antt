@@ -58,7 +58,8 @@ module _ (judge : List ℕ → Judged) (trace : List ℕ) (n : ℕ) (o : List �
   by-kind Printed e true q =
       let l = take (c .length) (c .line) in
       let n : length l ≡ c .length = length-take-le (c .length) (c .line) (r .sound .short) in
-      sym (ap₂ (λ (k : ℕ) (x : List ℕ). record { answer = Done; length = k; line = x; place = e .start; printed = e .end - e .start; received = c .received }) n (sym (r .sound .padded)))
+      sym (ap₂ (λ (k : ℕ) (x : List ℕ). record { answer = Done; length = k; line = x; place = e .start; printed = e .end - e .start; received = c .received })
+      n (sym (r .sound .padded)))
   by-kind Printed e false q = refl
   by-kind Bad e true q = refl
   by-kind Bad e false q = refl

@@ -52,7 +52,8 @@ failed a c = stateOf (c .at) (c .event) (c .received) (c .place) (c .unprinted) 
 unfoldable pub printedBy : List ℕ → State → State
 printedBy v c =
     cond (not (c .unprinted)) (failed NoLine c)
-    (stateOf (c .at) (c .event) (c .received) (c .place) false (c .length) (c .line) (firstOf (c .differs) (c .event) (same v (take (c .length) (c .line)))) (c .answer))
+    (stateOf (c .at) (c .event) (c .received) (c .place) false (c .length) (c .line) (firstOf (c .differs) (c .event) (same v (take (c .length) (c .line))))
+    (c .answer))
 
 -- what every state of a replay has
 pub record Sound (c : State) (b : List ℕ) : Type 0 where

@@ -104,7 +104,8 @@ fn take_in(mut s: State, value: &[u8], buf: &mut [u8]) -> State
 fn give(mut s: State, key: &[u8], font: &[u8], editions: usize, layout: Layout, buf: &[u8]) -> State
     requires { ⌜ Sound s (now buf) ⌝ }
     requires { ⌜ sizedTold (told (now key) (now font) layout) ≡ true ⌝ }
-    ensures { λ r. ⌜ Kept (ask (judging (told (now (key .entry)) (now (font .entry)) layout) editions) (held s (now (buf .entry)))) s (s .at) (now (buf .entry)) r (now (buf .entry)) ⌝ }
+    ensures { λ r. ⌜ Kept (ask (judging (told (now (key .entry)) (now (font .entry)) layout) editions) (held s (now (buf .entry)))) s (s .at)
+        (now (buf .entry)) r (now (buf .entry)) ⌝ }
 {
     let n = s.received;
     let reached = request(&buf[0..n], s.place, key, font, editions, layout);
@@ -156,7 +157,8 @@ fn step(
     requires { ⌜ Sound s (now buf) ⌝ }
     requires { ⌜ s .event + 1 < 18446744073709551616 ⌝ }
     requires { ⌜ sizedTold (told (now key) (now font) layout) ≡ true ⌝ }
-    ensures { λ r. ⌜ Kept (step (judging (told (now (key .entry)) (now (font .entry)) layout) editions) (now (trace .entry)) (held s (now (buf .entry))) (eventAt (now (trace .entry)) (s .at))) s (eventAt (now (trace .entry)) (s .at) .end) (now (buf .entry)) r (now (buf .exit)) ⌝ }
+    ensures { λ r. ⌜ Kept (step (judging (told (now (key .entry)) (now (font .entry)) layout) editions) (now (trace .entry)) (held s (now (buf .entry)))
+        (eventAt (now (trace .entry)) (s .at))) s (eventAt (now (trace .entry)) (s .at) .end) (now (buf .entry)) r (now (buf .exit)) ⌝ }
 {
     let e = event_at(trace, s.at);
     let start = e.start;
@@ -184,7 +186,8 @@ fn run(
 ) -> State
     requires { ⌜ longestStream ≤ length (now buf) ⌝ }
     requires { ⌜ sizedTold (told (now key) (now font) layout) ≡ true ⌝ }
-    ensures { λ r. ⌜ Ran (judging (told (now (key .entry)) (now (font .entry)) layout) editions) (now (trace .entry)) limit (now (buf .entry)) r (now (buf .exit)) ⌝ }
+    ensures { λ r. ⌜ Ran (judging (told (now (key .entry)) (now (font .entry)) layout) editions) (now (trace .entry)) limit (now (buf .entry)) r
+        (now (buf .exit)) ⌝ }
 {
     let mut s = begin();
     while s.event < limit {

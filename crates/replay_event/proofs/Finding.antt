@@ -38,11 +38,24 @@ module _ (trace : List ℕ) (at : ℕ) where
     pub too-short : rule (kindOf (getD trace at 0)) said ≡ true → length trace - at - headLength < said → event Bad at (length trace) ≡ eventAt trace at
     unfolding front takes tag
     too-short r s =
-        none (rw (head-at trace at h, eq-eqb (getD trace at 0) (getD trace at 0) refl, r, lt-leb said (length (drop (at + headLength) trace)) (omega (arith, length-drop (at + headLength) trace))))
+        none (rw (
+          head-at trace at h,
+          eq-eqb (getD trace at 0) (getD trace at 0) refl,
+          r,
+          lt-leb said (length (drop (at + headLength) trace))
+              (omega (arith, length-drop (at + headLength) trace)),
+        ))
 
     pub whole : rule (kindOf (getD trace at 0)) said ≡ true → said ≤ length trace - at - headLength
         → event (kindOf (getD trace at 0)) (at + headLength) (at + headLength + said) ≡ eventAt trace at
     unfolding eventAt front takes tag
     whole r s =
         let l : said ≤ length (drop (at + headLength) trace) = omega (arith, length-drop (at + headLength) trace) in
-        rw (head-at trace at h, eq-eqb (getD trace at 0) (getD trace at 0) refl, r, le-leb said (length (drop (at + headLength) trace)) l, length-take-le said (drop (at + headLength) trace) l)
+        rw (
+          head-at trace at h,
+          eq-eqb (getD trace at 0) (getD trace at 0) refl,
+          r,
+          le-leb said (length (drop (at + headLength) trace)) l,
+          length-take-le said
+              (drop (at + headLength) trace) l,
+        )

@@ -98,7 +98,8 @@ module _ (key font : List ℕ) (asked : Asked) (z : Sizes (told key font (asked 
         ∙ ap (λ (k : Kind). does J k (bytesOf trace e) (counted s) .given) request-is
 
     -- the lines given before it are the first of the whole run, and it gives the next
-    pub given-in-order : (w : WholeRun key font asked (s .stream)) → (take (length so-far) (linesSeen (w .seen)) ≡ so-far) × (given ≡ lineAt (length so-far) (linesSeen (w .seen)))
+    pub given-in-order : (w : WholeRun key font asked (s .stream)) → (take (length so-far) (linesSeen (w .seen)) ≡ so-far)
+        × (given ≡ lineAt (length so-far) (linesSeen (w .seen)))
     given-in-order w =
         let o = in-order J trace before in
         let l = whole-lines (s .stream) (stream-few J trace before) (stream-below J trace before bytes) w in (

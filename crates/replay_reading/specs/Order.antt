@@ -17,7 +17,8 @@ use Rattle.replay_spec.specs.declared.Kind.{Kind}
 use Rattle.replay_spec.specs.declared.Kind.the-variants.{Received, Asked, Printed, Bad}
 use Rattle.replay_spec.specs.declared.Event.{Event}
 use Rattle.replay_spec.specs.Events.{bytesOf}
-use Rattle.replay_spec.specs.Press.{Given, nothing, gives, givenBy, Met, orElse, firstLine, request, Press, start, counted, receive, ask, printOn, does, isDone, step, turn, run}
+use Rattle.replay_spec.specs.Press.{Given, nothing, gives, givenBy, Met, orElse, firstLine, request, Press, start}
+use Rattle.replay_spec.specs.Press.{counted, receive, ask, printOn, does, isDone, step, turn, run}
 
 -- a line more, or none
 abbrev pub ahead : Given → List (List ℕ) → List (List ℕ)
@@ -187,7 +188,8 @@ module _ (judge : List ℕ → Judged) (trace : List ℕ) where
       by-kind Printed = by-given (s .given)
       by-kind Bad = same-lines f
 
-      by-done : (b : Bool) → Follows (cond b (does judge (e .kind) v (counted s)) s .stream) (cond b (does judge (e .kind) v (counted s)) s .place) (g ++ ahead (cond b (gaveFor (e .kind) s) nothing) [])
+      by-done : (b : Bool) → Follows (cond b (does judge (e .kind) v (counted s)) s .stream) (cond b (does judge (e .kind) v (counted s)) s .place)
+          (g ++ ahead (cond b (gaveFor (e .kind) s) nothing) [])
       by-done true = by-kind (e .kind)
       by-done false = same-lines f
 

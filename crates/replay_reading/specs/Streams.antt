@@ -58,4 +58,5 @@ module _ (judge : List ℕ → Judged) (trace : List ℕ) (l : List Event) where
   pub stream-below : Below 256 trace → Below 256 (run judge trace start l .stream)
   stream-below b =
       run-keeps judge trace (Below 256)
-      (λ s e h p. below-append 256 s (bytesOf trace e) p (below-take 256 (e .end - e .start) (drop (e .start) trace) (below-drop 256 (e .start) trace b))) l start tt
+      (λ s e h p. below-append 256 s (bytesOf trace e) p (below-take 256 (e .end - e .start) (drop (e .start) trace) (below-drop 256 (e .start) trace b))) l
+      start tt

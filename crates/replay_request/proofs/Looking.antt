@@ -49,7 +49,8 @@ module _ (t : Told) (ed : ℕ) (s : List ℕ) (z : sizedTold t ≡ true) (h : le
     look-found : Found → Look
     look-found x = lookOf (readingOf x) (buffer x zeros)
 
-    by-judged : (k : Judged) → (p .first ≡ p .closing → ⊥) → at < p .closing → p .closing ≤ length s → Asks at ≡ orElse (givenBy k) (p .closing) (Asks (p .closing))
+    by-judged : (k : Judged) → (p .first ≡ p .closing → ⊥) → at < p .closing → p .closing ≤ length s
+        → Asks at ≡ orElse (givenBy k) (p .closing) (Asks (p .closing))
         → Tells at (look-found (stretch p k))
     unfolding look-found
     by-judged shape n m w e = passed refl n e m w

@@ -31,13 +31,16 @@ abbrev pub Finish : (κs : Lfts 2) → Args finish.signature κs → Finished �
 Finish κs a r x = Finishes (now (a .0)) (now (a .1 .0)) r (now (x .0)) (now (x .1 .0))
 
 module _ {M : Type 1} (𝓤 : URA M) (H : Heap 𝓤) (A : Atoms 𝓤) (mem : Memory → SProp 𝓤) (run : Routine → Fun 𝓤) where
-  pub start-says : (κs : Lfts 1) (a : Args start.signature κs) (r : Started) (x : AtExit start.ended κs) → start.clauses 𝓤 H A mem run κs a .ensures tt r x ≡ fact 𝓤 (Start κs a r x)
+  pub start-says : (κs : Lfts 1) (a : Args start.signature κs) (r : Started) (x : AtExit start.ended κs)
+      → start.clauses 𝓤 H A mem run κs a .ensures tt r x ≡ fact 𝓤 (Start κs a r x)
   start-says κs a r x = refl
 
-  pub feed-says : (κs : Lfts 2) (a : Args feed.signature κs) (r : Fed) (x : AtExit feed.ended κs) → feed.clauses 𝓤 H A mem run κs a .ensures tt r x ≡ fact 𝓤 (Feed κs a r x)
+  pub feed-says : (κs : Lfts 2) (a : Args feed.signature κs) (r : Fed) (x : AtExit feed.ended κs)
+      → feed.clauses 𝓤 H A mem run κs a .ensures tt r x ≡ fact 𝓤 (Feed κs a r x)
   feed-says κs a r x = refl
 
-  pub finish-says : (κs : Lfts 2) (a : Args finish.signature κs) (r : Finished) (x : AtExit finish.ended κs) → finish.clauses 𝓤 H A mem run κs a .ensures tt r x ≡ fact 𝓤 (Finish κs a r x)
+  pub finish-says : (κs : Lfts 2) (a : Args finish.signature κs) (r : Finished) (x : AtExit finish.ended κs)
+      → finish.clauses 𝓤 H A mem run κs a .ensures tt r x ≡ fact 𝓤 (Finish κs a r x)
   finish-says κs a r x = refl
 
 pub start-single : (κs : Lfts 1) (a : Args start.signature κs) (r r′ : Started) (x x′ : AtExit start.ended κs) → Start κs a r x → Start κs a r′ x′

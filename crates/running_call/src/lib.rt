@@ -24,7 +24,8 @@ pub fn start(running: &mut Record, instance: usize) -> Started
 
 // Takes more of the message in; refused, it leaves the record.
 pub fn feed(running: &mut Record, bytes: &[u8]) -> Fed
-    ensures { λ r. ⌜ (r ≡ feedAnswer (now (running .entry)) (now (bytes .entry))) × (now (running .exit) ≡ feedRecord (now (running .entry)) (now (bytes .entry))) ⌝ }
+    ensures { λ r. ⌜ (r ≡ feedAnswer (now (running .entry)) (now (bytes .entry))) × (now (running .exit)
+        ≡ feedRecord (now (running .entry)) (now (bytes .entry))) ⌝ }
 {
     let answer = feed_answer(*running, bytes);
     *running = after_feed(*running, bytes);
@@ -33,7 +34,8 @@ pub fn feed(running: &mut Record, bytes: &[u8]) -> Fed
 
 // Gives the digest out over the first bytes of out; refused, it leaves record and buffer.
 pub fn finish(running: &mut Record, out: &mut [u8]) -> Finished
-    ensures { λ r. ⌜ (r ≡ finishAnswer (now (running .entry)) (now (out .entry))) × (now (running .exit) ≡ finishRecord (now (running .entry)) (now (out .entry))) × (now (out .exit) ≡ finishOut (now (running .entry)) (now (out .entry))) ⌝ }
+    ensures { λ r. ⌜ (r ≡ finishAnswer (now (running .entry)) (now (out .entry))) × (now (running .exit)
+        ≡ finishRecord (now (running .entry)) (now (out .entry))) × (now (out .exit) ≡ finishOut (now (running .entry)) (now (out .entry))) ⌝ }
 {
     let answer = give(*running, out);
     *running = after_finish(*running, answer);

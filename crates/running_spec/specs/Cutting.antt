@@ -13,7 +13,8 @@ use Rattle.digest_spec.specs.Instances.{DIGEST, unknown, sizeOf, rateOf}
 use Rattle.digest_spec.specs.Hashing.{Squeezed, absorbed, sponged, digestOf, digestCalls}
 use Rattle.digest_call.specs.Answers.{LONGEST-MESSAGE}
 use Rattle.digest_spec.specs.Shapes.{known-whole}
-use Rattle.running_spec.specs.Running.{written, leftOf, runningOf, unfinished, unfeedable, grown, concluded, startAnswer, startRecord, feedAnswer, feedRecord, finishAnswer, finishOut, finishRecord}
+use Rattle.running_spec.specs.Running.{written, leftOf, runningOf, unfinished, unfeedable, grown, concluded}
+use Rattle.running_spec.specs.Running.{startAnswer, startRecord, feedAnswer, feedRecord, finishAnswer, finishOut, finishRecord}
 use Rattle.running_spec.specs.Growth.{Sized, length-left, grown-twice, running-grown, running-concluded}
 use Rattle.running_spec.specs.Order.{Tested, known-of, feed-tested, feed-passes, finish-passes}
 use Rattle.running_spec.specs.declared.Record.{Record}
@@ -122,7 +123,8 @@ module _ (i : ℕ) (known : unknown i ≡ false) (r₀ : Record) {r r′ : Recor
 
   -- the record holds its instance, the total, the sponge's state after the whole blocks and the unfinished bytes, fewer than a block, and
   -- nothing else
-  pub holds-no-more : (r′ ≡ written i (length (joined pieces)) (absorbed (sizeOf i) (rateOf i) (joined pieces) (length (joined pieces) / rateOf i) .state) (leftOf i (joined pieces)))
+  pub holds-no-more : (r′ ≡ written i (length (joined pieces)) (absorbed (sizeOf i) (rateOf i) (joined pieces) (length (joined pieces) / rateOf i) .state)
+      (leftOf i (joined pieces)))
       × (length (leftOf i (joined pieces)) < rateOf i)
   unfolding runningOf
   holds-no-more = (from-start .2, rw (length-left i (joined pieces)) (mod-lt (length (joined pieces)) (known-whole i known .fits .some)))

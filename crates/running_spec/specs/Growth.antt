@@ -18,7 +18,8 @@ use Rattle.digest_sponge.specs.Calls.{absorbed-calls}
 use Rattle.digest_spec.specs.Outputs.{length-absorbed}
 use Rattle.digest_spec.specs.Shapes.{known-whole}
 use Rattle.digest_sponge.specs.Parts.{taken, closed, within}
-use Rattle.digest_sponge.specs.Joining.{taken-before, taken-split, left-split, taken-state, length-taken, absorbed-taken, sponged-closed, within-front, within-zeros}
+use Rattle.digest_sponge.specs.Joining.{taken-before, taken-split, left-split, taken-state, length-taken}
+use Rattle.digest_sponge.specs.Joining.{absorbed-taken, sponged-closed, within-front, within-zeros}
 use Rattle.running_spec.specs.Running.{written, leftOf, runningOf, soFar, unfinished, takenUp, grown, concluded}
 use Rattle.running_spec.specs.declared.Record.{Record}
 

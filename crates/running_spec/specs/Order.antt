@@ -13,7 +13,8 @@ use Rattle.base_lists.specs.Never.{never}
 use Rattle.base_lists.specs.Buffers.{over}
 use Rattle.digest_spec.specs.Instances.{DIGEST, unknown}
 use Rattle.digest_call.specs.Answers.{LONGEST-MESSAGE}
-use Rattle.running_spec.specs.Running.{unfinished, unfeedable, isFinished, grown, concluded, onFeed, feedAnswer, feedRecord, finishAnswer, finishOut, finishRecord, onFinish, ended}
+use Rattle.running_spec.specs.Running.{unfinished, unfeedable, isFinished, grown, concluded, onFeed, feedAnswer}
+use Rattle.running_spec.specs.Running.{feedRecord, finishAnswer, finishOut, finishRecord, onFinish, ended}
 use Rattle.running_spec.specs.declared.Record.{Record}
 use Rattle.running_spec.specs.declared.Fed.{Fed}
 use Rattle.running_spec.specs.declared.Fed.the-variants as fed-is

@@ -19,7 +19,8 @@ use Rattle.digest_call.specs.Counting as digest-calls
 use Rattle.digest_sponge.specs.Parts.{spongeOf, takenIn, closedBy, within}
 use Rattle.digest_sponge.specs.Joining.{taken-state, closed-calls, closed-state}
 use Rattle.digest_sponge.specs.declared.Shape.{Shape}
-use Rattle.running_spec.specs.Running.{written, soFar, unfinished, unfeedable, takenUp, grown, feedAnswer, feedRecord, concluded, finishAnswer, finishOut, onFinish, ended}
+use Rattle.running_spec.specs.Running.{written, soFar, unfinished, unfeedable, takenUp, grown, feedAnswer}
+use Rattle.running_spec.specs.Running.{feedRecord, concluded, finishAnswer, finishOut, onFinish, ended}
 use Rattle.running_grow.specs.declared.Grown.{Grown}
 use Rattle.running_grow.specs.Growing.{grownBy}
 use Rattle.running_grow.specs.Held.{rate-is, outputs-is}

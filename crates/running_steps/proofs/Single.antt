@@ -30,11 +30,13 @@ use Rattle.running_steps.proofs.finish_number.Reads as finish-number-re
 use Rattle.running_steps.proofs.finish_count.Kinds as finish-count-kinds
 use Rattle.running_steps.proofs.finish_count.Reads as finish-count-reads
 
-pub start-answer-single : (κs : Lfts 0) (a : Dens κs start-answer-kinds.ps) (r r′ : Started) (x x′ : AtExit (endedOf 0 start-answer-kinds.ps start-answer-kinds.r) κs)
+pub start-answer-single : (κs : Lfts 0) (a : Dens κs start-answer-kinds.ps) (r r′ : Started)
+    (x x′ : AtExit (endedOf 0 start-answer-kinds.ps start-answer-kinds.r) κs)
     → start-answer-reads.Post κs a r x → start-answer-reads.Post κs a r′ x′ → r ≡ r′
 start-answer-single κs a r r′ x x′ p q = p ∙ sym q
 
-pub after-start-single : (κs : Lfts 0) (a : Dens κs after-start-kinds.ps) (r r′ : Record) (x x′ : AtExit (endedOf 0 after-start-kinds.ps after-start-kinds.r) κs)
+pub after-start-single : (κs : Lfts 0) (a : Dens κs after-start-kinds.ps) (r r′ : Record)
+    (x x′ : AtExit (endedOf 0 after-start-kinds.ps after-start-kinds.r) κs)
     → after-start-reads.Post κs a r x → after-start-reads.Post κs a r′ x′ → r ≡ r′
 after-start-single κs a r r′ x x′ p q = p ∙ sym q
 
@@ -50,7 +52,8 @@ pub give-single : (κs : Lfts 1) (a : Dens κs give-kinds.ps) (r r′ : Finished
     → give-reads.Post κs a r x → give-reads.Post κs a r′ x′ → (r ≡ r′) × (x .1 .0 .now ≡ x′ .1 .0 .now)
 give-single κs a r r′ x x′ p q = (p .0 ∙ sym (q .0), p .1 ∙ sym (q .1))
 
-pub after-finish-single : (κs : Lfts 0) (a : Dens κs after-finish-kinds.ps) (r r′ : Record) (x x′ : AtExit (endedOf 0 after-finish-kinds.ps after-finish-kinds.r) κs)
+pub after-finish-single : (κs : Lfts 0) (a : Dens κs after-finish-kinds.ps) (r r′ : Record)
+    (x x′ : AtExit (endedOf 0 after-finish-kinds.ps after-finish-kinds.r) κs)
     → after-finish-reads.Post κs a r x → after-finish-reads.Post κs a r′ x′ → r ≡ r′
 after-finish-single κs a r r′ x x′ p q = p ∙ sym q
 
@@ -62,7 +65,8 @@ pub feed-number-single : (κs : Lfts 0) (a : Dens κs feed-number-kinds.ps) (r r
     → feed-number-reads.Post κs a r x → feed-number-reads.Post κs a r′ x′ → r ≡ r′
 feed-number-single κs a r r′ x x′ p q = p ∙ sym q
 
-pub finish-number-single : (κs : Lfts 0) (a : Dens κs finish-number-kinds.ps) (r r′ : ℕ) (x x′ : AtExit (endedOf 0 finish-number-kinds.ps finish-number-kinds.r) κs)
+pub finish-number-single : (κs : Lfts 0) (a : Dens κs finish-number-kinds.ps) (r r′ : ℕ) (x x′ : AtExit
+    (endedOf 0 finish-number-kinds.ps finish-number-kinds.r) κs)
     → finish-number-reads.Post κs a r x → finish-number-reads.Post κs a r′ x′ → r ≡ r′
 finish-number-single κs a r r′ x x′ p q = p ∙ sym q
 

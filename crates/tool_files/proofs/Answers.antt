@@ -53,7 +53,8 @@ heard-in (negsuc n) true room h = tt
 heard-in (negsuc n) false room h = tt
 
 -- and so where the answer is handed on as the machine reads it back, and the buffer keeps its length
-pub heard-by : (z : ℤ) (i : Bool) (room room′ : ℕ) (h : Heard) → SFits w64 z → h ≡ heardOf (toZ w64 (ofZ w64 z)) i → Moved room z → room′ ≡ room → HeardIn h room′
+pub heard-by : (z : ℤ) (i : Bool) (room room′ : ℕ) (h : Heard) → SFits w64 z → h ≡ heardOf (toZ w64 (ofZ w64 z)) i → Moved room z → room′ ≡ room
+    → HeardIn h room′
 heard-by z i room room′ h f e m l =
     subst (λ (x : Heard). HeardIn x room′) (sym (e ∙ ap (λ (y : ℤ). heardOf y i) (toZ-ofZ f))) (heard-in z i room′ (subst (λ (n : ℕ). Moved n z) (sym l) m))
 

@@ -36,7 +36,8 @@ taken-none o = record { same = refl; within = omega arith; rest = refl }
 
 behind : (b part : List ℕ) (done : ℕ) → done + length part ≤ length b → drop (done + length part) (sets b done part) ≡ drop (done + length part) b
 behind b part done h =
-    let l : length (take done b ++ part) ≡ done + length part = length-append (take done b) part ∙ ap (λ (n : ℕ). n + length part) (length-take-le done b (omega (arith, h))) in
+    let l : length (take done b ++ part) ≡ done + length part = length-append (take done b) part ∙ ap (λ (n : ℕ). n + length part)
+    (length-take-le done b (omega (arith, h))) in
     rw (sets-eq part b done h) (drop-at (take done b ++ part) (drop (done + length part) b) (done + length part) l)
 
 taken-more : {o b : List ℕ} {done : ℕ} → Taken o b done → (part : List ℕ) → done + length part ≤ length b → Taken o (sets b done part) (done + length part)

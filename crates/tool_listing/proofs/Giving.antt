@@ -16,7 +16,8 @@ use Rattle.read_spec.specs.Judged.{Judged, shape, stuffing, font, work, seal, u
 use Rattle.read_readings.specs.Readings.{ends}
 use Rattle.read_call.specs.declared.Reading.{Reading}
 use Rattle.read_call.specs.declared.Answer.the-variants as answer-is
-use Rattle.read_call.specs.Answers.{longestStream, sizedTold, Found, call, stretch, found, readingOf, buffer, answerOf, lineOver, numberOf, lengthOf, readAnswer, readOut}
+use Rattle.read_call.specs.Answers.{longestStream, sizedTold, Found, call, stretch, found, readingOf}
+use Rattle.read_call.specs.Answers.{buffer, answerOf, lineOver, numberOf, lengthOf, readAnswer, readOut}
 use Rattle.demand_reading.specs.Promises.{Seen}
 use Rattle.demand_reading.specs.Resync.{seen-at, sized}
 use Rattle.demand_reading.specs.GivenWritten.{told-sized}
@@ -125,7 +126,8 @@ module _ (t : Told) (ed : ℕ) (s : List ℕ) (c : Cursor) (o l : List ℕ) (y :
       by (at-end q w) =
           let d = put-done (lastRowText (c .lines) (c .refused)) o (y .roomy) in
           rw q (ap₂ step (ae ∙ ap listedBy (pe ∙ d .0)) (ce ∙ ap (λ (x : Reading). endedAt c (x .closing)) w), oe ∙ d .1)
-      by (at-stretch q w v) = absurd (eqb-false (there .first) (there .closing) q (ap (λ (x : Reading). x .first) (sym w) ∙ same ∙ ap (λ (x : Reading). x .closing) w))
+      by (at-stretch q w v) = absurd (eqb-false (there .first) (there .closing) q (ap (λ (x : Reading). x .first) (sym w) ∙ same ∙ ap
+          (λ (x : Reading). x .closing) w))
 
   -- the row of a stretch
   pub row-given : (r .first ≡ r .closing → ⊥) → length l′ ≤ longest → {n m : ℕ} {p : Put} {o′ : List ℕ} {a : Listed} {c′ : Cursor}
@@ -142,9 +144,11 @@ module _ (t : Told) (ed : ℕ) (s : List ℕ) (c : Cursor) (o l : List ℕ) (y :
           let first-is : r .first ≡ there .first = ap (λ (x : Reading). x .first) w in
           let closing-is : r .closing ≡ there .closing = ap (λ (x : Reading). x .closing) w in
           let number-is : n ≡ numberIn judged = ne ∙ ap (λ (x : Reading). numberOf (x .answer)) w ∙ ap (λ (x : Seen). x .number) seen in
-          let length-is : m - 0 ≡ lengthOf (answerOf judged) = let z : m ≡ lengthOf (answerOf judged) = me ∙ ap (λ (x : Reading). lengthOf (x .answer)) w in omega (arith, z) in
+          let length-is : m - 0 ≡ lengthOf (answerOf judged) = let z : m ≡ lengthOf (answerOf judged) = me ∙ ap (λ (x : Reading). lengthOf (x .answer)) w in
+          omega (arith, z) in
           let line-is : take (m - 0) l′ ≡ lineIn judged = ap₂ take length-is v ∙ ap (λ (x : Seen). x .line) seen in
-          let d = row-done (there .first) (numberIn judged) (lineIn judged) o (omega (arith, short, line-length judged, line-within judged l, ap length v)) (y .roomy) in
+          let d = row-done (there .first) (numberIn judged) (lineIn judged) o (omega (arith, short, line-length judged, line-within judged l, ap length v))
+          (y .roomy) in
           let answer-row : p ≡ rowAnswer (there .first) (numberIn judged) (lineIn judged) o = pe ∙ rw (first-is, number-is, line-is) in
           let out-row : o′ ≡ rowOut (there .first) (numberIn judged) (lineIn judged) o = oe ∙ rw (first-is, number-is, line-is) in
           rw q (ap₂ step (ae ∙ ap listedBy (answer-row ∙ d .0)) (ce ∙ rw (number-is, closing-is)), out-row ∙ d .1)

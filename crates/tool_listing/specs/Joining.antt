@@ -1,4 +1,5 @@
--- Calls of `next_row` one after the other, from the stream's start, each from the cursor that the one before gave: until the last row was given, what they write
+-- Calls of `next_row` one after the other, from the stream's start, each from the cursor that the one before gave: until the last row was given, what they
+-- write
 -- joins to the listing of the stream, and more calls than the stream has bytes come to it. From the promise of `next_row` alone (`next-row-promises`
 -- under proofs/). Assumes nothing.
 use mathlib.Core.Path.{_≡_, refl, sym, ap, ap₂, _∙_}
@@ -24,7 +25,8 @@ use Rattle.read_readings.specs.Readings.{Reading, reading, ends, readings, read
 use Rattle.read_call.specs.Answers.{longestStream}
 use Rattle.tool_row.specs.Rows.{lastRowText, rowRoom}
 use Rattle.tool_listing.specs.Listing.{readingRow, numberOf, zerosIn, othersIn, joined, listingOf, judgedFor, listing}
-use Rattle.tool_listing.specs.Steps.{cursorAt, startCursor, oneMore, countedOn, endedAt, Given, refusal, rowGiven, stepOf, nextReading, readingGiven, given, Ready, listedLength}
+use Rattle.tool_listing.specs.Steps.{cursorAt, startCursor, oneMore, countedOn, endedAt, Given, refusal}
+use Rattle.tool_listing.specs.Steps.{rowGiven, stepOf, nextReading, readingGiven, given, Ready, listedLength}
 use Rattle.tool_listing.specs.Going.{given-is, next-is}
 use Rattle.tool_listing.specs.declared.Cursor.{Cursor}
 use Rattle.tool_listing.specs.declared.Listed.the-variants as listed-is
@@ -81,7 +83,8 @@ module _ (r : Reading) (rs : List Reading) (lines refused : ℕ) where
   unfolding joined
   one-row l f p q =
       ap₂ (λ (a b : ℕ). readingRow r ++ (joined (map readingRow rs) ++ lastRowText a b)) p q
-      ∙ sym (append-assoc (readingRow r) (joined (map readingRow rs)) (lastRowText (lines + zerosIn (numberOf r ∷ map numberOf rs)) (refused + othersIn (numberOf r ∷ map numberOf rs))))
+      ∙ sym (append-assoc (readingRow r) (joined (map readingRow rs)) (lastRowText (lines + zerosIn (numberOf r ∷ map numberOf rs))
+      (refused + othersIn (numberOf r ∷ map numberOf rs))))
 
 module _ (key font : List ℕ) (ed : ℕ) (lay : Layout) (s : List ℕ) (z : Sizes (told key font lay)) (h : length s ≤ longestStream) where
   ready : (c : Cursor) (room : ℕ) → c .place ≤ length s → rowRoom ≤ room → Ready (told key font lay) s c room
@@ -133,14 +136,16 @@ module _ (key font : List ℕ) (ed : ℕ) (lay : Layout) (s : List ℕ) (z : Siz
           (readingGiven (cursorAt place lines refused false) (nextReading (told key font lay) ed s place))
       is-given y k =
           ap (λ (x : Cursor). given (told key font lay) ed s x (length o)) e
-          ∙ given-is (told key font lay) ed s (cursorAt place lines refused false) (length o) (ready (cursorAt place lines refused false) (length o) f g) false refl ∙ next-is (told key font lay) ed s (cursorAt place lines refused false) y k
+          ∙ given-is (told key font lay) ed s (cursorAt place lines refused false) (length o) (ready (cursorAt place lines refused false) (length o) f g) false
+          refl ∙ next-is (told key font lay) ed s (cursorAt place lines refused false) y k
 
       -- behind a stretch's row: one line more, or one refusal more
       counted : ends (nextSpan s place) ≡ false → (v : Bool) → eqb (numberOf (nextReading (told key font lay) ed s place)) 0 ≡ v
           → take (listedLength (r .answer)) o′ ++ rest ≡ listedFrom lines refused (reads place)
       counted k true v =
           let w = readingRow (nextReading (told key font lay) ed s place) in
-          let x = row-written c o o′ r w (countedOn (cursorAt place lines refused false) (numberOf (nextReading (told key font lay) ed s place)) (nextSpan s place .closing)) (is-given false k) p in
+          let x = row-written c o o′ r w (countedOn (cursorAt place lines refused false) (numberOf (nextReading (told key font lay) ed s place))
+          (nextSpan s place .closing)) (is-given false k) p in
           let all = reads-is place false k in
           let long : length (reads place) ≡ suc (length (reads (nextSpan s place .closing))) = ap length all in
           let up : oneMore lines ≡ lines + 1 = small lines (length (reads (nextSpan s place .closing))) (omega (arith, a, long)) in
@@ -152,7 +157,8 @@ module _ (key font : List ℕ) (ed : ℕ) (lay : Layout) (s : List ℕ) (z : Siz
           ∙ sym (ap (listedFrom lines refused) all)
       counted k false v =
           let w = readingRow (nextReading (told key font lay) ed s place) in
-          let x = row-written c o o′ r w (countedOn (cursorAt place lines refused false) (numberOf (nextReading (told key font lay) ed s place)) (nextSpan s place .closing)) (is-given false k) p in
+          let x = row-written c o o′ r w (countedOn (cursorAt place lines refused false) (numberOf (nextReading (told key font lay) ed s place))
+          (nextSpan s place .closing)) (is-given false k) p in
           let all = reads-is place false k in
           let long : length (reads place) ≡ suc (length (reads (nextSpan s place .closing))) = ap length all in
           let up : oneMore refused ≡ refused + 1 = small refused (length (reads (nextSpan s place .closing))) (omega (arith, b, long)) in
@@ -203,18 +209,22 @@ module _ (key font : List ℕ) (ed : ℕ) (lay : Layout) (s : List ℕ) (z : Siz
 
       within : (y : Bool) → c .ended ≡ false → ends (nextSpan s (c .place)) ≡ y → c′ .ended ≡ true
       within true e y =
-          let x = row-written c o o′ r (lastRowText (c .lines) (c .refused)) (endedAt c (length s)) (given-is (told key font lay) ed s c (length o) (ready c (length o) f g) false e ∙ next-is (told key font lay) ed s c true y) p in
+          let x = row-written c o o′ r (lastRowText (c .lines) (c .refused)) (endedAt c (length s))
+          (given-is (told key font lay) ed s c (length o) (ready c (length o) f g) false e ∙ next-is (told key font lay) ed s c true y) p in
           stop (rw (x .1) (omega arith)) (ap (λ (v : Cursor). v .ended) (x .1))
       within false e y =
           let x = row-written c o o′ r (readingRow (nextReading (told key font lay) ed s (c .place)))
-          (countedOn c (numberOf (nextReading (told key font lay) ed s (c .place))) (nextSpan s (c .place) .closing)) (given-is (told key font lay) ed s c (length o) (ready c (length o) f g) false e ∙ next-is (told key font lay) ed s c false y) p in
+          (countedOn c (numberOf (nextReading (told key font lay) ed s (c .place))) (nextSpan s (c .place) .closing))
+          (given-is (told key font lay) ed s c (length o) (ready c (length o) f g) false e ∙ next-is (told key font lay) ed s c false y) p in
           let at : r .cursor .place ≡ nextSpan s (c .place) .closing = ap (λ (v : Cursor). v .place) (x .1)
-          ∙ counted-place (eqb (numberOf (nextReading (told key font lay) ed s (c .place))) 0) (numberOf (nextReading (told key font lay) ed s (c .place))) (nextSpan s (c .place) .closing) refl in
+          ∙ counted-place (eqb (numberOf (nextReading (told key font lay) ed s (c .place))) 0) (numberOf (nextReading (told key font lay) ed s (c .place)))
+          (nextSpan s (c .place) .closing) refl in
           on (omega (arith, at, moves s (c .place) y .1)) (omega (arith, at, k, moves s (c .place) y .0))
 
       by : (b : Bool) → c .ended ≡ b → c′ .ended ≡ true
       by true e =
-          let same : r .cursor ≡ c = ap (λ (x : Step). x .cursor) (p .0 ∙ ap stepOf (given-is (told key font lay) ed s c (length o) (ready c (length o) f g) true e)) in
+          let same : r .cursor ≡ c = ap (λ (x : Step). x .cursor) (p .0 ∙ ap stepOf (given-is (told key font lay) ed s c (length o) (ready c (length o) f g)
+          true e)) in
           stop (rw same f) (ap (λ (x : Cursor). x .ended) same ∙ e)
       by false e = within (ends (nextSpan s (c .place))) e refl
 

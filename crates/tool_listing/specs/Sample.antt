@@ -1,4 +1,5 @@
--- Document 01's sample, computed: with any key and font, whatever the editions and the layout, the stream 7E 41 7E 7E 7D 7E is listed as it says. Assumes nothing.
+-- Document 01's sample, computed: with any key and font, whatever the editions and the layout, the stream 7E 41 7E 7E 7D 7E is listed as it says. Assumes
+-- nothing.
 use mathlib.Core.Path.{_≡_, refl}
 use mathlib.Core.List.{List, [], _∷_}
 use Prim.Native.Nat.{ℕ}
@@ -26,5 +27,6 @@ sampleRows =
     ∷ 0x64 ∷ 0x20 ∷ 0x32 ∷ 0x0A ∷ []
 
 pub sample-listing : (t : Told) (ed : ℕ) → listing t ed sample ≡ sampleRows
-unfolding listingOf joined zerosIn othersIn rowText lineText lastRowText digitsIn readings readingsIn nextSpan beforeMark afterMark nextStretch judgedWithin within judge lengthAnswer lengthOutside lengthInside unstuffed unescaped fieldsOf front takes
+unfolding listingOf joined zerosIn othersIn rowText lineText lastRowText digitsIn readings readingsIn nextSpan beforeMark afterMark nextStretch judgedWithin
+    within judge lengthAnswer lengthOutside lengthInside unstuffed unescaped fieldsOf front takes
 sample-listing t ed = refl

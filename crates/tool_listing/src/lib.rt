@@ -10,7 +10,8 @@ ghost use Rattle.frame_body.specs.declared.Edition.the-variants.{One};
 ghost use Rattle.frame_body.specs.Answers.{editionNumber};
 ghost use Rattle.frame_spec.specs.Told.{told};
 ghost use Rattle.tool_row.specs.Rows.{rowRoom};
-ghost use Rattle.tool_listing.specs.Steps.{Ready, startCursor, countedOn, endedAt, listedBy, refusal, stepOf, nextGiven, given, listedNumber, listedLength};
+ghost use Rattle.tool_listing.specs.Steps.{Ready, startCursor, countedOn, endedAt, listedBy, refusal};
+ghost use Rattle.tool_listing.specs.Steps.{stepOf, nextGiven, given, listedNumber, listedLength};
 use frame_body::DIGEST_LENGTH;
 use frame_spec::KEY_LENGTH;
 use line_layout::Layout;
@@ -125,7 +126,8 @@ fn give(
 ) -> Step
     requires { ⌜ Ready (told (now key) (now font) layout) (now stream) cursor (length (now out)) ⌝ }
     ensures { λ r. ⌜ r ≡ stepOf (nextGiven (told (now (key .entry)) (now (font .entry)) layout) editions (now (stream .entry)) cursor) ⌝ }
-    ensures { λ _. ⌜ now (out .exit) ≡ over (nextGiven (told (now (key .entry)) (now (font .entry)) layout) editions (now (stream .entry)) cursor .row) (now (out .entry)) ⌝ }
+    ensures { λ _. ⌜ now (out .exit) ≡ over (nextGiven (told (now (key .entry)) (now (font .entry)) layout) editions (now (stream .entry)) cursor .row)
+        (now (out .entry)) ⌝ }
 {
     let asked = Asked {
         editions,
@@ -164,8 +166,10 @@ pub fn next_row(
     cursor: Cursor,
     out: &mut [u8],
 ) -> Step
-    ensures { λ r. ⌜ r ≡ stepOf (given (told (now (key .entry)) (now (font .entry)) layout) editions (now (stream .entry)) cursor (length (now (out .entry)))) ⌝ }
-    ensures { λ _. ⌜ now (out .exit) ≡ over (given (told (now (key .entry)) (now (font .entry)) layout) editions (now (stream .entry)) cursor (length (now (out .entry))) .row) (now (out .entry)) ⌝ }
+    ensures { λ r. ⌜ r ≡ stepOf (given (told (now (key .entry)) (now (font .entry)) layout) editions (now (stream .entry)) cursor
+        (length (now (out .entry)))) ⌝ }
+    ensures { λ _. ⌜ now (out .exit) ≡ over (given (told (now (key .entry)) (now (font .entry)) layout) editions (now (stream .entry)) cursor
+        (length (now (out .entry))) .row) (now (out .entry)) ⌝ }
 {
     if key.len() != KEY_LENGTH {
         return refuse(Listed::Sizes, cursor);
@@ -191,8 +195,10 @@ pub fn next_row(
 
 // The same as document 01 has it: lines of edition one, under no layout.
 pub fn lines_row(stream: &[u8], key: &[u8], font: &[u8], cursor: Cursor, out: &mut [u8]) -> Step
-    ensures { λ r. ⌜ r ≡ stepOf (given (told (now (key .entry)) (now (font .entry)) layouts.Neither) (editionNumber One) (now (stream .entry)) cursor (length (now (out .entry)))) ⌝ }
-    ensures { λ _. ⌜ now (out .exit) ≡ over (given (told (now (key .entry)) (now (font .entry)) layouts.Neither) (editionNumber One) (now (stream .entry)) cursor (length (now (out .entry))) .row) (now (out .entry)) ⌝ }
+    ensures { λ r. ⌜ r ≡ stepOf (given (told (now (key .entry)) (now (font .entry)) layouts.Neither) (editionNumber One) (now (stream .entry)) cursor
+        (length (now (out .entry)))) ⌝ }
+    ensures { λ _. ⌜ now (out .exit) ≡ over (given (told (now (key .entry)) (now (font .entry)) layouts.Neither) (editionNumber One) (now (stream .entry))
+        cursor (length (now (out .entry))) .row) (now (out .entry)) ⌝ }
 {
     next_row(stream, key, font, EDITION_ONE, Layout::Neither, cursor, out)
 }

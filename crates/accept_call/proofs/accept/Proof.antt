@@ -20,7 +20,8 @@ refused-with-requires-2 c κs = search needs
 returns-2 : tie.Need-returns-2
 returns-2 c =
     let a = c .before .before .before .before .before .before .args in
-    c .refused-with2 .ensures ∙ bad-font (a .key .now) (a .font .now) (a .layout) (a .editions) (a .stream .now) (c .before .before .if1 .left) (c .before .if2 .taken)
+    c .refused-with2 .ensures ∙ bad-font (a .key .now) (a .font .now) (a .layout) (a .editions) (a .stream .now) (c .before .before .if1 .left)
+    (c .before .if2 .taken)
 
 refused-with-requires-3 : tie.Need-refused-with-requires-3
 refused-with-requires-3 c κs = search needs
@@ -28,7 +29,8 @@ refused-with-requires-3 c κs = search needs
 returns-3 : tie.Need-returns-3
 returns-3 c =
     let a = c .before .before .before .before .before .before .before .args in
-    c .refused-with3 .ensures ∙ too-long (a .key .now) (a .font .now) (a .layout) (a .editions) (a .stream .now) (c .before .before .before .if1 .left) (c .before .before .if2 .left) (c .before .if3 .taken)
+    c .refused-with3 .ensures ∙ too-long (a .key .now) (a .font .now) (a .layout) (a .editions) (a .stream .now) (c .before .before .before .if1 .left)
+    (c .before .before .if2 .left) (c .before .if3 .taken)
 
 count-requires : tie.Need-count-requires
 count-requires c κs = search needs
@@ -39,15 +41,26 @@ refused-with-requires-4 c κs = search needs
 returns-4 : tie.Need-returns-4
 returns-4 c =
     let a = c .before .before .before .before .before .before .before .before .before .args in
-    c .refused-with4 .ensures ∙ too-many (a .key .now) (a .font .now) (a .layout) (a .editions) (a .stream .now) (c .before .before .before .before .before .if1 .left) (c .before .before .before .before .if2 .left) (c .before .before .before .if3 .left) (rw (← c .before .before .count .ensures) (c .before .if4 .taken))
+    c .refused-with4 .ensures ∙ too-many (a .key .now) (a .font .now) (a .layout) (a .editions) (a .stream .now)
+    (c .before .before .before .before .before .if1 .left) (c .before .before .before .before .if2 .left) (c .before .before .before .if3 .left)
+    (rw (← c .before .before .count .ensures) (c .before .if4 .taken))
 
 accept-all-requires : tie.Need-accept-all-requires
-accept-all-requires c κs = ((c .before .count .ensures, c .if4 .left), record { key-is = c .before .before .before .before .if1 .left; font-is = c .before .before .before .if2 .left })
+accept-all-requires c κs = (
+  (c .before .count .ensures, c .if4 .left),
+  record {
+    key-is = c .before .before .before .before .if1 .left;
+    font-is =
+        c .before .before .before .if2 .left;
+  },
+)
 
 returns-5 : tie.Need-returns-5
 returns-5 c =
     let a = c .before .before .before .before .before .before .before .before .before .args in
-    c .accept-all .ensures ∙ all-judged (a .key .now) (a .font .now) (a .layout) (a .editions) (a .stream .now) (c .before .before .before .before .before .if1 .left) (c .before .before .before .before .if2 .left) (c .before .before .before .if3 .left) (rw (← c .before .before .count .ensures) (c .before .if4 .left))
+    c .accept-all .ensures ∙ all-judged (a .key .now) (a .font .now) (a .layout) (a .editions) (a .stream .now)
+    (c .before .before .before .before .before .if1 .left) (c .before .before .before .before .if2 .left) (c .before .before .before .if3 .left)
+    (rw (← c .before .before .count .ensures) (c .before .if4 .left))
 
 pub accept-spec : {M : Type 1} → statement M
 accept-spec =

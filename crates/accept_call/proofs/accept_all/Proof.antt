@@ -13,7 +13,8 @@ use Rattle.accept_call.proofs.accept_all.Statement.{statement}
 use Rattle.accept_call.proofs.accept_all.Tie as tie
 
 abbrev Inv-loop : tie.InvT-loop
-Inv-loop stream counted key font editions layout highs₀ lows₀ at₀ n₀ highs lows at n = Going (judge (told key font layout) editions) stream counted highs lows at n
+Inv-loop stream counted key font editions layout highs₀ lows₀ at₀ n₀ highs lows at n = Going (judge (told key font layout) editions) stream counted highs lows
+    at n
 
 abbrev μ-loop : tie.MeasureT-loop
 μ-loop stream counted key font editions layout highs₀ lows₀ at₀ n₀ highs lows at n = counted - n
@@ -38,7 +39,8 @@ number-in-requires c κs = search needs
 
 returns : tie.Need-returns Inv-loop μ-loop
 returns c =
-    going-refused (c .before .before .before .before .before .loop .inv) (c .before .before .before .before .loop-test .taken) _ (c .before .before .before .next-span .ensures) _ (c .before .number-in .ensures) (c .if1 .taken)
+    going-refused (c .before .before .before .before .before .loop .inv) (c .before .before .before .before .loop-test .taken) _
+    (c .before .before .before .next-span .ensures) _ (c .before .number-in .ensures) (c .if1 .taken)
 
 words-in-requires : tie.Need-words-in-requires Inv-loop μ-loop
 words-in-requires c κs = search needs
@@ -54,23 +56,41 @@ met-requires c κs = search needs
 
 returns-2 : tie.Need-returns-2 Inv-loop μ-loop
 returns-2 c =
-    going-repeated (c .before .before .before .before .before .before .before .before .before .before .loop .inv) (c .before .before .before .before .before .before .before .before .before .loop-test .taken) _ (c .before .before .before .before .before .before .before .before .next-span .ensures) _ (c .before .before .before .before .before .before .number-in .ensures) (c .before .before .before .before .before .if1 .left)
-    (below-all 256 (c .before .before .before .before .before .before .before .before .before .before .before .before .before .before .args .stream .now) (λ k h. omega (arith, c .before .before .before .before .before .before .before .before .before .before .before .before .before .shared-slice-known .given k)))
-    _ _ (ap (λ (w : Words). w .high) (c .before .before .before .before .words-in .ensures)) (ap (λ (w : Words). w .low) (c .before .before .before .before .words-in .ensures)) _ (c .before .met .ensures) (c .if2 .taken)
+    going-repeated (c .before .before .before .before .before .before .before .before .before .before .loop .inv)
+    (c .before .before .before .before .before .before .before .before .before .loop-test .taken) _
+    (c .before .before .before .before .before .before .before .before .next-span .ensures) _
+    (c .before .before .before .before .before .before .number-in .ensures) (c .before .before .before .before .before .if1 .left)
+    (below-all 256 (c .before .before .before .before .before .before .before .before .before .before .before .before .before .before .args .stream .now)
+    (λ k h. omega (
+      arith,
+      c .before .before .before .before .before .before .before .before .before .before .before .before .before .shared-slice-known .given k,
+    )))
+    _ _ (ap (λ (w : Words). w .high) (c .before .before .before .before .words-in .ensures))
+    (ap (λ (w : Words). w .low) (c .before .before .before .before .words-in .ensures)) _ (c .before .met .ensures) (c .if2 .taken)
 
 mul-highs : tie.Need-mul-highs Inv-loop μ-loop
 mul-highs c = search needs
 
 array-write-highs : tie.Need-array-write-highs Inv-loop μ-loop
 array-write-highs c =
-    let few = c .before .before .before .before .before .before .before .before .before .before .before .before .before .before .pre .0 .1 in omega (arith, few, c .before .before .before .before .before .before .before .before .before .loop-test .taken, c .before .before .before .before .before .before .before .before .before .before .loop .inv .high-room)
+    let few = c .before .before .before .before .before .before .before .before .before .before .before .before .before .before .pre .0 .1 in omega (
+      arith,
+      few,
+      c .before .before .before .before .before .before .before .before .before .loop-test .taken,
+      c .before .before .before .before .before .before .before .before .before .before .loop .inv .high-room,
+    )
 
 mul-lows : tie.Need-mul-lows Inv-loop μ-loop
 mul-lows c = search needs
 
 array-write-lows : tie.Need-array-write-lows Inv-loop μ-loop
 array-write-lows c =
-    let few = c .before .before .before .before .before .before .before .before .before .before .before .before .before .before .pre .0 .1 in omega (arith, few, c .before .before .before .before .before .before .before .before .before .loop-test .taken, c .before .before .before .before .before .before .before .before .before .before .loop .inv .low-room)
+    let few = c .before .before .before .before .before .before .before .before .before .before .before .before .before .before .pre .0 .1 in omega (
+      arith,
+      few,
+      c .before .before .before .before .before .before .before .before .before .loop-test .taken,
+      c .before .before .before .before .before .before .before .before .before .before .loop .inv .low-room,
+    )
 
 add-n : tie.Need-add-n Inv-loop μ-loop
 add-n c = search needs
@@ -81,9 +101,18 @@ loop-less c =
 
 loop-again : tie.Need-loop-again Inv-loop μ-loop
 loop-again c =
-    going-more (c .before .before .before .before .before .before .before .before .before .before .loop .inv) (c .before .before .before .before .before .before .before .before .before .loop-test .taken) _ (c .before .before .before .before .before .before .before .before .next-span .ensures) _ (c .before .before .before .before .before .before .number-in .ensures) (c .before .before .before .before .before .if1 .left)
-    (below-all 256 (c .before .before .before .before .before .before .before .before .before .before .before .before .before .before .args .stream .now) (λ k h. omega (arith, c .before .before .before .before .before .before .before .before .before .before .before .before .before .shared-slice-known .given k)))
-    _ _ (ap (λ (w : Words). w .high) (c .before .before .before .before .words-in .ensures)) (ap (λ (w : Words). w .low) (c .before .before .before .before .words-in .ensures)) _ (c .before .met .ensures) (c .if2 .left) (c .before .before .before .before .before .before .before .before .before .before .before .before .before .before .pre .0 .1)
+    going-more (c .before .before .before .before .before .before .before .before .before .before .loop .inv)
+    (c .before .before .before .before .before .before .before .before .before .loop-test .taken) _
+    (c .before .before .before .before .before .before .before .before .next-span .ensures) _
+    (c .before .before .before .before .before .before .number-in .ensures) (c .before .before .before .before .before .if1 .left)
+    (below-all 256 (c .before .before .before .before .before .before .before .before .before .before .before .before .before .before .args .stream .now)
+    (λ k h. omega (
+      arith,
+      c .before .before .before .before .before .before .before .before .before .before .before .before .before .shared-slice-known .given k,
+    )))
+    _ _ (ap (λ (w : Words). w .high) (c .before .before .before .before .words-in .ensures))
+    (ap (λ (w : Words). w .low) (c .before .before .before .before .words-in .ensures)) _ (c .before .met .ensures) (c .if2 .left)
+    (c .before .before .before .before .before .before .before .before .before .before .before .before .before .before .pre .0 .1)
 
 returns-3 : tie.Need-returns-3 Inv-loop μ-loop
 returns-3 c = going-all (c .before .loop .inv) (c .loop-test .left)

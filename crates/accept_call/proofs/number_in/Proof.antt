@@ -25,8 +25,10 @@ returns c =
     let a = c .before .before .before .before .before .before .before .args in
     let s = a .stretch .now in
     c .read-number .ensures
-    ∙ judged-number (told (a .key .now) (a .font .now) (a .layout)) (a .editions) s (replicate longest 0) (c .before .before .before .before .before .before .before .pre)
-    (below-all 256 s (λ k h. omega (arith, c .before .before .before .before .before .before .shared-slice-known .given k))) (omega (arith, length-replicate {A = ℕ} longest 0)) _ (c .before .before .judge .ensures .0)
+    ∙ judged-number (told (a .key .now) (a .font .now) (a .layout)) (a .editions) s (replicate longest 0)
+    (c .before .before .before .before .before .before .before .pre)
+    (below-all 256 s (λ k h. omega (arith, c .before .before .before .before .before .before .shared-slice-known .given k)))
+    (omega (arith, length-replicate {A = ℕ} longest 0)) _ (c .before .before .judge .ensures .0)
 
 pub number-in-spec : {M : Type 1} → statement M
 number-in-spec =

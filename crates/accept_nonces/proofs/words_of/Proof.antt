@@ -60,7 +60,8 @@ add-t35 : tie.Need-add-t35
 add-t35 c = search needs
 
 returns : tie.Need-returns
-returns c = words-are (c .before .before .before .args .t1) (search needs) _ _ _ (c .before .before .four .ensures .0) (c .before .four2 .ensures .0) (c .four3 .ensures .0)
+returns c = words-are (c .before .before .before .args .t1) (search needs) _ _ _ (c .before .before .four .ensures .0) (c .before .four2 .ensures .0)
+    (c .four3 .ensures .0)
 
 pub words-of-spec : {M : Type 1} → statement M
 words-of-spec =

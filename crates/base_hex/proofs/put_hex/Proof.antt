@@ -57,7 +57,8 @@ loop-less : tie.Need-loop-less Inv-loop μ-loop
 loop-less c = search needs
 
 loop-again : tie.Need-loop-again Inv-loop μ-loop
-loop-again c = written-more (c .before .before .before .before .before .loop .inv) _ _ (search needs) (omega (arith, written-length (c .before .before .before .before .before .loop .inv))) (c .before .digit-of .ensures) (c .digit-of2 .ensures)
+loop-again c = written-more (c .before .before .before .before .before .loop .inv) _ _ (search needs)
+    (omega (arith, written-length (c .before .before .before .before .before .loop .inv))) (c .before .digit-of .ensures) (c .digit-of2 .ensures)
 
 mul-result-2 : tie.Need-mul-result-2 Inv-loop μ-loop
 mul-result-2 c = search needs

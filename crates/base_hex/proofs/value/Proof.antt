@@ -18,27 +18,75 @@ returns c = simp (le-leb 0x30 (c .before .before .args .c) (omega arith), le-leb
 
 returns-2 : tie.Need-returns-2
 unfolding valueOf
-returns-2 c = simp (lt-leb (c .before .before .before .before .args .c) 0x39 (omega arith), le-leb 0x30 (c .before .before .before .before .args .c) (omega arith), le-leb 0x41 (c .before .before .before .before .args .c) (omega arith), le-leb (c .before .before .before .before .args .c) 0x46 (omega arith))
+returns-2 c = simp (
+  lt-leb (c .before .before .before .before .args .c) 0x39 (omega arith),
+  le-leb 0x30 (c .before .before .before .before .args .c)
+      (omega arith),
+  le-leb 0x41 (c .before .before .before .before .args .c) (omega arith),
+  le-leb (c .before .before .before .before .args .c) 0x46
+      (omega arith),
+)
 
 returns-3 : tie.Need-returns-3
 unfolding valueOf
-returns-3 c = simp (le-leb 0x30 (c .before .before .before .before .before .before .args .c) (omega arith), lt-leb (c .before .before .before .before .before .before .args .c) 0x39 (omega arith), le-leb 0x41 (c .before .before .before .before .before .before .args .c) (omega arith), lt-leb (c .before .before .before .before .before .before .args .c) 0x46 (omega arith), le-leb 0x61 (c .before .before .before .before .before .before .args .c) (omega arith), le-leb (c .before .before .before .before .before .before .args .c) 0x66 (omega arith))
+returns-3 c = simp (
+  le-leb 0x30 (c .before .before .before .before .before .before .args .c) (omega arith),
+  lt-leb
+      (c .before .before .before .before .before .before .args .c) 0x39 (omega arith),
+  le-leb 0x41 (c .before .before .before .before .before .before .args .c)
+      (omega arith),
+  lt-leb (c .before .before .before .before .before .before .args .c) 0x46 (omega arith),
+  le-leb 0x61
+      (c .before .before .before .before .before .before .args .c) (omega arith),
+  le-leb (c .before .before .before .before .before .before .args .c) 0x66
+      (omega arith),
+)
 
 returns-4 : tie.Need-returns-4
 unfolding valueOf
-returns-4 c = simp (lt-leb 0x30 (c .before .args .c) (omega arith), lt-leb 0x41 (c .before .args .c) (omega arith), lt-leb 0x61 (c .before .args .c) (omega arith))
+returns-4 c = simp (
+  lt-leb 0x30 (c .before .args .c) (omega arith),
+  lt-leb 0x41 (c .before .args .c) (omega arith),
+  lt-leb 0x61 (c .before .args .c)
+      (omega arith),
+)
 
 returns-5 : tie.Need-returns-5
 unfolding valueOf
-returns-5 c = simp (le-leb 0x30 (c .before .before .before .args .c) (omega arith), lt-leb (c .before .before .before .args .c) 0x39 (omega arith), lt-leb 0x41 (c .before .before .before .args .c) (omega arith), lt-leb 0x61 (c .before .before .before .args .c) (omega arith))
+returns-5 c = simp (
+  le-leb 0x30 (c .before .before .before .args .c) (omega arith),
+  lt-leb (c .before .before .before .args .c) 0x39 (omega arith),
+  lt-leb 0x41
+      (c .before .before .before .args .c) (omega arith),
+  lt-leb 0x61 (c .before .before .before .args .c) (omega arith),
+)
 
 returns-6 : tie.Need-returns-6
 unfolding valueOf
-returns-6 c = simp (le-leb 0x30 (c .before .before .before .before .before .args .c) (omega arith), lt-leb (c .before .before .before .before .before .args .c) 0x39 (omega arith), le-leb 0x41 (c .before .before .before .before .before .args .c) (omega arith), lt-leb (c .before .before .before .before .before .args .c) 0x46 (omega arith), lt-leb 0x61 (c .before .before .before .before .before .args .c) (omega arith))
+returns-6 c = simp (
+  le-leb 0x30 (c .before .before .before .before .before .args .c) (omega arith),
+  lt-leb (c .before .before .before .before .before .args .c)
+      0x39 (omega arith),
+  le-leb 0x41 (c .before .before .before .before .before .args .c) (omega arith),
+  lt-leb
+      (c .before .before .before .before .before .args .c) 0x46 (omega arith),
+  lt-leb 0x61 (c .before .before .before .before .before .args .c) (omega arith),
+)
 
 returns-7 : tie.Need-returns-7
 unfolding valueOf
-returns-7 c = simp (le-leb 0x30 (c .before .before .before .before .before .before .args .c) (omega arith), lt-leb (c .before .before .before .before .before .before .args .c) 0x39 (omega arith), le-leb 0x41 (c .before .before .before .before .before .before .args .c) (omega arith), lt-leb (c .before .before .before .before .before .before .args .c) 0x46 (omega arith), le-leb 0x61 (c .before .before .before .before .before .before .args .c) (omega arith), lt-leb (c .before .before .before .before .before .before .args .c) 0x66 (omega arith))
+returns-7 c = simp (
+  le-leb 0x30 (c .before .before .before .before .before .before .args .c) (omega arith),
+  lt-leb
+      (c .before .before .before .before .before .before .args .c) 0x39 (omega arith),
+  le-leb 0x41 (c .before .before .before .before .before .before .args .c)
+      (omega arith),
+  lt-leb (c .before .before .before .before .before .before .args .c) 0x46 (omega arith),
+  le-leb 0x61
+      (c .before .before .before .before .before .before .args .c) (omega arith),
+  lt-leb (c .before .before .before .before .before .before .args .c) 0x66
+      (omega arith),
+)
 
 pub value-spec : {M : Type 1} → statement M
 value-spec =

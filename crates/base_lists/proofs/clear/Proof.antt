@@ -36,7 +36,8 @@ loop-less c = omega (arith, filled-length (c .before .before .loop .inv))
 loop-again : tie.Need-loop-again Inv-loop μ-loop
 loop-again c =
     let same : length (c .before .before .loop .out) ≡ length (c .before .before .before .args .out .now) = filled-length (c .before .before .loop .inv) in
-    filled-more _ (c .before .before .loop .inv) (simp length-replicate (omega arith)) (sym (getD-replicate (min (c .before .before .before .args .n) (length (c .before .before .before .args .out .now))) (c .before .before .loop .i) 0 0 (omega arith)))
+    filled-more _ (c .before .before .loop .inv) (simp length-replicate (omega arith)) (sym (getD-replicate
+    (min (c .before .before .before .args .n) (length (c .before .before .before .args .out .now))) (c .before .before .loop .i) 0 0 (omega arith)))
 
 same-length-2 : tie.Need-same-length-2 Inv-loop μ-loop
 same-length-2 c = filled-length (c .before .loop .inv)

@@ -39,8 +39,11 @@ loop-less c = search needs
 
 loop-again : tie.Need-loop-again Inv-loop μ-loop
 loop-again c =
-    let same : length (c .before .before .before .loop .out) ≡ length (c .before .before .before .before .args .out .now) = filled-length (c .before .before .before .loop .inv) in
-    filled-more _ (c .before .before .before .loop .inv) (simp length-take (omega arith)) (sym (getD-take (length (c .before .before .before .before .args .out .now)) (c .before .before .before .before .args .src .now) (c .before .before .before .loop .i) 0 (omega arith)))
+    let same : length (c .before .before .before .loop .out) ≡ length (c .before .before .before .before .args .out .now) = filled-length
+    (c .before .before .before .loop .inv) in
+    filled-more _ (c .before .before .before .loop .inv) (simp length-take (omega arith))
+    (sym (getD-take (length (c .before .before .before .before .args .out .now)) (c .before .before .before .before .args .src .now)
+    (c .before .before .before .loop .i) 0 (omega arith)))
 
 same-length-2 : tie.Need-same-length-2 Inv-loop μ-loop
 same-length-2 c = filled-length (c .before .loop .inv)

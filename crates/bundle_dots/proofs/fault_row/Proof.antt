@@ -11,7 +11,8 @@ use Rattle.bundle_dots.proofs.fault_row.Statement.{statement}
 use Rattle.bundle_dots.proofs.fault_row.Tie as tie
 
 abbrev Inv-loop : tie.InvT-loop
-Inv-loop drawing text row₀ i₀ row i = (i ≤ length drawing) × (row ≤ i + 1) × (fault (λ k. getD drawing k 0) (length drawing - i) i row (drop i text) ≡ fault (λ k. getD drawing k 0) (length drawing) 0 1 text)
+Inv-loop drawing text row₀ i₀ row i = (i ≤ length drawing) × (row ≤ i + 1) × (fault (λ k. getD drawing k 0) (length drawing - i) i row (drop i text)
+    ≡ fault (λ k. getD drawing k 0) (length drawing) 0 1 text)
 
 abbrev μ-loop : tie.MeasureT-loop
 μ-loop drawing text row₀ i₀ row i = length drawing - i
@@ -68,8 +69,12 @@ loop-again c =
     let t = s .args .text .now in
     let end = length d in
     let less : end - l .i - 1 ≡ end - (l .i + 1) = omega arith in
-    let near = next-near (l .row) (getD t (l .i) 0) in
-    (omega arith, rw (c .next-row .ensures) (omega (arith, near, l .inv .1)), rw (c .next-row .ensures, ← less) (sym (fault-on f t (end - l .i) (l .i) (l .row) (omega arith) (omega arith) (c .before .before .if2 .left)) ∙ l .inv .2))
+    let near = next-near (l .row) (getD t (l .i) 0) in (
+      omega arith,
+      rw (c .next-row .ensures) (omega (arith, near, l .inv .1)),
+      rw (c .next-row .ensures, ← less)
+          (sym (fault-on f t (end - l .i) (l .i) (l .row) (omega arith) (omega arith) (c .before .before .if2 .left)) ∙ l .inv .2),
+    )
 
 returns-3 : tie.Need-returns-3 Inv-loop μ-loop
 returns-3 c =

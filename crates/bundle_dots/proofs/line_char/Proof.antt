@@ -39,7 +39,12 @@ returns-5 : tie.Need-returns-5
 unfolding lineChar
 returns-5 c =
     let m = c .before .before .before .before .before .args .m in
-    c .dot .ensures ∙ rw (ne-eqb m 0 (c .before .before .before .before .if1 .left), ne-eqb m 1 (c .before .before .before .if2 .left), ne-eqb m lineEnd (c .before .before .if3 .left))
+    c .dot .ensures ∙ rw (
+      ne-eqb m 0 (c .before .before .before .before .if1 .left),
+      ne-eqb m 1 (c .before .before .before .if2 .left),
+      ne-eqb m lineEnd
+          (c .before .before .if3 .left),
+    )
 
 pub line-char-spec : {M : Type 1} → statement M
 line-char-spec =

@@ -20,14 +20,16 @@ name-char-requires c κs = search needs
 
 returns : tie.Need-returns
 unfolding charAt
-returns c = c .name-char .ensures ∙ rw (lt-ltb (c .before .before .before .before .args .i) (nameLineLength (length (c .before .before .before .before .args .name .now))) (omega arith))
+returns c = c .name-char .ensures ∙ rw (lt-ltb (c .before .before .before .before .args .i)
+    (nameLineLength (length (c .before .before .before .before .args .name .now))) (omega arith))
 
 row-char-requires : tie.Need-row-char-requires
 row-char-requires c κs = (c .before .before .before .pre .1 .0, omega (arith, c .before .before .before .pre .1 .1))
 
 returns-2 : tie.Need-returns-2
 unfolding charAt
-returns-2 c = c .row-char .ensures ∙ rw (le-ltb (c .before .before .before .before .args .i) (nameLineLength (length (c .before .before .before .before .args .name .now))) (omega arith))
+returns-2 c = c .row-char .ensures ∙ rw (le-ltb (c .before .before .before .before .args .i)
+    (nameLineLength (length (c .before .before .before .before .args .name .now))) (omega arith))
 
 pub char-at-spec : {M : Type 1} → statement M
 char-at-spec =

@@ -36,8 +36,10 @@ unfolding gatheredFrom
 put-drawing-requires c κs =
     let s = c .before .before .before .before .before .before .before in
     let l = read-length (s .args .bundle .now) (s .args .n) (s .pre) in
-    let named : length (c .before .before .name .result .now) ≡ s .args .n = ap length (c .before .before .name .ensures .0) ∙ name-length (s .args .bundle .now) (s .args .n) (s .pre) in
-    let all : length (c .before .before .before .gathered .result) ≡ allRows = ap length (c .before .before .before .gathered .ensures) ∙ length-listed _ allRows in
+    let named : length (c .before .before .name .result .now) ≡ s .args .n = ap length (c .before .before .name .ensures .0) ∙ name-length
+    (s .args .bundle .now) (s .args .n) (s .pre) in
+    let all : length (c .before .before .before .gathered .result) ≡ allRows = ap length (c .before .before .before .gathered .ensures) ∙ length-listed _
+    allRows in
     (omega (arith, named, l .1), (all, omega arith))
 
 mul-t5 : tie.Need-mul-t5

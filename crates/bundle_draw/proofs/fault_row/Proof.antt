@@ -34,7 +34,8 @@ fault-row-requires c κs = search needs
 returns : tie.Need-returns
 returns c =
     let a = c .before .before .before .before .before .before .before .before .before .args in
-    c .fault-row .ensures ∙ held-to (a .name .now) (a .rows .now) (a .text .now) (replicate longestDrawing 0) _ _ (c .before .before .before .before .put-drawing .ensures) refl
+    c .fault-row .ensures ∙ held-to (a .name .now) (a .rows .now) (a .text .now) (replicate longestDrawing 0) _ _
+    (c .before .before .before .before .put-drawing .ensures) refl
 
 pub fault-row-spec : {M : Type 1} → statement M
 fault-row-spec =

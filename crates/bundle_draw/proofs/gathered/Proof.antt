@@ -48,8 +48,12 @@ loop-less c = search needs
 loop-again : tie.Need-loop-again Inv-loop μ-loop
 loop-again c =
     let s = c .before .before .before in
-    let l = c .before .before .loop in
-    (omega arith, simp length-set (l .inv .1), upto-more (λ (m : ℕ). getD (s .args .bundle .now) (rowPlace (s .args .n) m) 0) (l .rows) (l .k) _ _ (l .inv .2) (omega (arith, l .inv .1)) refl refl)
+    let l = c .before .before .loop in (
+      omega arith,
+      simp length-set (l .inv .1),
+      upto-more (λ (m : ℕ). getD (s .args .bundle .now) (rowPlace (s .args .n) m) 0) (l .rows) (l .k) _ _ (l .inv .2)
+          (omega (arith, l .inv .1)) refl refl,
+    )
 
 returns : tie.Need-returns Inv-loop μ-loop
 unfolding gatheredFrom
@@ -58,7 +62,8 @@ returns c =
     let l = c .before .loop in
     let whole : l .k ≡ allRows = omega arith in
     let u : Upto (λ (m : ℕ). getD (s .args .bundle .now) (rowPlace (s .args .n) m) 0) (l .rows) allRows = rw whole at (l .inv .2) in
-    sym (take-all allRows (l .rows) (omega (arith, l .inv .1))) ∙ upto-listed (λ (m : ℕ). getD (s .args .bundle .now) (rowPlace (s .args .n) m) 0) (l .rows) allRows (u .at) (omega (arith, l .inv .1))
+    sym (take-all allRows (l .rows) (omega (arith, l .inv .1))) ∙ upto-listed (λ (m : ℕ). getD (s .args .bundle .now) (rowPlace (s .args .n) m) 0) (l .rows)
+    allRows (u .at) (omega (arith, l .inv .1))
 
 pub gathered-spec : {M : Type 1} → statement M
 gathered-spec =

@@ -65,7 +65,8 @@ part-fault-row-end c =
     let s = c .before .before .before .before .before .before .before in
     let text = s .args .text .now in
     let n = c .before .before .before .name-length .result in
-    let is : n ≡ nameLengthOf (endOf text) = c .before .before .before .name-length .ensures ∙ ap nameLengthOf (c .before .before .before .before .line-end .ensures) in
+    let is : n ≡ nameLengthOf (endOf text) = c .before .before .before .name-length .ensures ∙ ap nameLengthOf
+    (c .before .before .before .before .line-end .ensures) in
     let most : n ≤ longestName = rw is (name-bound (endOf text)) in
     omega arith
 
@@ -77,7 +78,8 @@ fault-row-requires c κs =
     let s = c .before .before .before .before .before .before .before .before .before in
     let text = s .args .text .now in
     let n = c .before .before .before .before .before .name-length .result in
-    let is : n ≡ nameLengthOf (endOf text) = c .before .before .before .before .before .name-length .ensures ∙ ap nameLengthOf (c .before .before .before .before .before .before .line-end .ensures) in
+    let is : n ≡ nameLengthOf (endOf text) = c .before .before .before .before .before .name-length .ensures ∙ ap nameLengthOf
+    (c .before .before .before .before .before .before .line-end .ensures) in
     let most : n ≤ longestName = rw is (name-bound (endOf text)) in
     let name = name-drawn text n is (c .before .before .before .before .name-of .result) (c .before .before .before .before .name-of .ensures) in
     let rows = rows-drawn text n is (c .before .before .before .rows-of .result) (c .before .before .before .rows-of .ensures) in
@@ -88,10 +90,13 @@ returns c =
     let s = c .before .before .before .before .before .before .before .before .before .before .before in
     let text = s .args .text .now in
     let n = c .before .before .before .before .before .before .before .name-length .result in
-    let is : n ≡ nameLengthOf (endOf text) = c .before .before .before .before .before .before .before .name-length .ensures ∙ ap nameLengthOf (c .before .before .before .before .before .before .before .before .line-end .ensures) in
+    let is : n ≡ nameLengthOf (endOf text) = c .before .before .before .before .before .before .before .name-length .ensures ∙ ap nameLengthOf
+    (c .before .before .before .before .before .before .before .before .line-end .ensures) in
     let most : n ≤ longestName = rw is (name-bound (endOf text)) in
-    let name = name-drawn text n is (c .before .before .before .before .before .before .name-of .result) (c .before .before .before .before .before .before .name-of .ensures) in
-    let rows = rows-drawn text n is (c .before .before .before .before .before .rows-of .result) (c .before .before .before .before .before .rows-of .ensures) in
+    let name = name-drawn text n is (c .before .before .before .before .before .before .name-of .result)
+    (c .before .before .before .before .before .before .name-of .ensures) in
+    let rows = rows-drawn text n is (c .before .before .before .before .before .rows-of .result)
+    (c .before .before .before .before .before .rows-of .ensures) in
     make-row text (s .args .out .now) _ (fault-drawn text _ _ name rows _ (c .before .fault-row .ensures)) (c .if1 .taken)
 
 sub-write : tie.Need-sub-write
@@ -105,7 +110,8 @@ part-write-end c =
     let s = c .before .before .before .before .before .before .before .before .before .before .before .before in
     let text = s .args .text .now in
     let n = c .before .before .before .before .before .before .before .before .name-length .result in
-    let is : n ≡ nameLengthOf (endOf text) = c .before .before .before .before .before .before .before .before .name-length .ensures ∙ ap nameLengthOf (c .before .before .before .before .before .before .before .before .before .line-end .ensures) in
+    let is : n ≡ nameLengthOf (endOf text) = c .before .before .before .before .before .before .before .before .name-length .ensures ∙ ap nameLengthOf
+    (c .before .before .before .before .before .before .before .before .before .line-end .ensures) in
     let most : n ≤ longestName = rw is (name-bound (endOf text)) in
     omega arith
 
@@ -123,14 +129,23 @@ same-length c = search needs
 
 returns-2 : tie.Need-returns-2
 returns-2 c =
-    let s = c .before .before .before .before .before .before .before .before .before .before .before .before .before .before .before .before .before .before .before in
+    let s = c .before .before .before .before .before .before .before .before .before .before .before .before .before .before .before .before .before .before
+    .before in
     let text = s .args .text .now in
     let n = c .before .before .before .before .before .before .before .before .before .before .before .before .before .before .before .name-length .result in
-    let is : n ≡ nameLengthOf (endOf text) = c .before .before .before .before .before .before .before .before .before .before .before .before .before .before .before .name-length .ensures ∙ ap nameLengthOf (c .before .before .before .before .before .before .before .before .before .before .before .before .before .before .before .before .line-end .ensures) in
+    let is : n ≡ nameLengthOf (endOf text) =
+    c .before .before .before .before .before .before .before .before .before .before .before .before .before .before .before .name-length .ensures ∙ ap
+    nameLengthOf (c .before .before .before .before .before .before .before .before .before .before .before .before .before .before .before .before .line-end
+    .ensures) in
     let most : n ≤ longestName = rw is (name-bound (endOf text)) in
-    let name = name-drawn text n is (c .before .before .before .before .before .before .before .before .before .before .before .before .before .before .name-of .result) (c .before .before .before .before .before .before .before .before .before .before .before .before .before .before .name-of .ensures) in
-    let rows = rows-drawn text n is (c .before .before .before .before .before .before .before .before .before .before .before .before .before .rows-of .result) (c .before .before .before .before .before .before .before .before .before .before .before .before .before .rows-of .ensures) in
-    let none = sym (fault-drawn text _ _ name rows _ (c .before .before .before .before .before .before .before .before .before .fault-row .ensures)) ∙ c .before .before .before .before .before .before .before .before .if1 .left in
+    let name = name-drawn text n is
+    (c .before .before .before .before .before .before .before .before .before .before .before .before .before .before .name-of .result)
+    (c .before .before .before .before .before .before .before .before .before .before .before .before .before .before .name-of .ensures) in
+    let rows = rows-drawn text n is
+    (c .before .before .before .before .before .before .before .before .before .before .before .before .before .rows-of .result)
+    (c .before .before .before .before .before .before .before .before .before .before .before .before .before .rows-of .ensures) in
+    let none = sym (fault-drawn text _ _ name rows _ (c .before .before .before .before .before .before .before .before .before .fault-row .ensures)) ∙
+    c .before .before .before .before .before .before .before .before .if1 .left in
     let told = make-written text (s .args .out .now) none in
     let w = c .before .before .before .write .ensures in
     let o = s .args .out .now in (

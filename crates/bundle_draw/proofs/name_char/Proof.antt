@@ -75,7 +75,13 @@ returns-4 c =
     let i = c .before .before .before .before .before .before .before .args .i in
     let n = length (c .before .before .before .before .before .before .before .args .name .now) in
     c .read-as .ensures
-    ∙ rw (le-ltb i wordLength (omega arith), le-ltb i (2 * n + 5) (omega arith), ne-eqb i (2 * n + 5) (c .before .before .before .if3 .left), lt-ltb i (3 * n + 6) (omega arith))
+    ∙ rw (
+      le-ltb i wordLength (omega arith),
+      le-ltb i (2 * n + 5) (omega arith),
+      ne-eqb i (2 * n + 5) (c .before .before .before .if3 .left),
+      lt-ltb i
+          (3 * n + 6) (omega arith),
+    )
 
 returns-5 : tie.Need-returns-5
 unfolding nameChar

@@ -36,8 +36,12 @@ loop-less c = search needs
 loop-again : tie.Need-loop-again Inv-loop μ-loop
 loop-again c =
     let s = c .before .before .before .before in
-    let l = c .before .before .loop in
-    (omega arith, simp length-set (l .inv .1), upto-more (nameByte (s .args .text .now)) (l .name) (l .i) _ _ (l .inv .2) (omega (arith, l .inv .1, s .pre)) (c .name-byte .ensures) refl)
+    let l = c .before .before .loop in (
+      omega arith,
+      simp length-set (l .inv .1),
+      upto-more (nameByte (s .args .text .now)) (l .name) (l .i) _ _ (l .inv .2) (omega (arith, l .inv .1, s .pre))
+          (c .name-byte .ensures) refl,
+    )
 
 returns : tie.Need-returns Inv-loop μ-loop
 returns c =

@@ -67,7 +67,15 @@ add-result-6 c = search needs
 
 returns : tie.Need-returns
 unfolding rowByte
-returns c = rw (c .before .before .before .before .before .before .dot-value .ensures .0, c .before .before .before .before .before .dot-value2 .ensures .0, c .before .before .before .before .dot-value3 .ensures .0, c .before .before .before .dot-value4 .ensures .0, c .before .before .dot-value5 .ensures .0, c .before .dot-value6 .ensures .0, c .dot-value7 .ensures .0)
+returns c = rw (
+  c .before .before .before .before .before .before .dot-value .ensures .0,
+  c .before .before .before .before .before .dot-value2 .ensures .0,
+  c .before .before .before .before .dot-value3 .ensures .0,
+  c .before .before .before .dot-value4 .ensures .0,
+  c .before .before .dot-value5 .ensures .0,
+  c .before .dot-value6 .ensures .0,
+  c .dot-value7 .ensures .0,
+)
 
 pub row-at-spec : {M : Type 1} → statement M
 row-at-spec =

@@ -43,8 +43,12 @@ loop-less c = search needs
 loop-again : tie.Need-loop-again Inv-loop μ-loop
 loop-again c =
     let s = c .before .before .before .before in
-    let l = c .before .before .loop in
-    (omega arith, simp length-set (l .inv .1), upto-more (rowFrom (s .args .text .now) (s .args .from)) (l .rows) (l .k) _ _ (l .inv .2) (omega (arith, l .inv .1)) (c .row-at .ensures) refl)
+    let l = c .before .before .loop in (
+      omega arith,
+      simp length-set (l .inv .1),
+      upto-more (rowFrom (s .args .text .now) (s .args .from)) (l .rows) (l .k) _ _ (l .inv .2)
+          (omega (arith, l .inv .1)) (c .row-at .ensures) refl,
+    )
 
 returns : tie.Need-returns Inv-loop μ-loop
 returns c =
@@ -52,7 +56,8 @@ returns c =
     let l = c .before .loop in
     let whole : l .k ≡ allRows = omega arith in
     let u : Upto (rowFrom (s .args .text .now) (s .args .from)) (l .rows) allRows = rw whole at (l .inv .2) in
-    sym (take-all allRows (l .rows) (omega (arith, l .inv .1))) ∙ upto-listed (rowFrom (s .args .text .now) (s .args .from)) (l .rows) allRows (u .at) (omega (arith, l .inv .1))
+    sym (take-all allRows (l .rows) (omega (arith, l .inv .1))) ∙ upto-listed (rowFrom (s .args .text .now) (s .args .from)) (l .rows) allRows (u .at)
+    (omega (arith, l .inv .1))
 
 pub rows-of-spec : {M : Type 1} → statement M
 rows-of-spec =

@@ -32,7 +32,8 @@ among-behind-requires c κs = (omega arith, omega arith)
 returns : tie.Need-returns Inv-loop μ-loop
 returns c =
     let l = c .before .before .before .loop in
-    sym (repeated-here (c .before .before .before .before .before .args .b .now) (l .at) (l .left) (omega arith) (sym (c .before .among-behind .ensures) ∙ c .if1 .taken))
+    sym (repeated-here (c .before .before .before .before .before .args .b .now) (l .at) (l .left) (omega arith)
+    (sym (c .before .among-behind .ensures) ∙ c .if1 .taken))
     ∙ l .inv .1
 
 loop-less : tie.Need-loop-less Inv-loop μ-loop
@@ -42,7 +43,8 @@ loop-again : tie.Need-loop-again Inv-loop μ-loop
 loop-again c =
     let l = c .before .before .before .loop in (
       omega arith,
-      sym (repeated-on (c .before .before .before .before .before .args .b .now) (l .at) (l .left) (omega arith) (sym (c .before .among-behind .ensures) ∙ c .if1 .left))
+      sym (repeated-on (c .before .before .before .before .before .args .b .now) (l .at) (l .left) (omega arith)
+          (sym (c .before .among-behind .ensures) ∙ c .if1 .left))
           ∙ l .inv .1,
     )
 

@@ -14,7 +14,9 @@ use Rattle.bundle_read.proofs.among_behind.Statement.{statement}
 use Rattle.bundle_read.proofs.among_behind.Tie as tie
 
 abbrev Inv-loop : tie.InvT-loop
-Inv-loop b g from count first end at₀ others₀ at others = (at + glyphField * others ≡ length b) × (among (take glyphRows (drop rowsAt (drop g b))) (glyphsAt others (drop at b)) ≡ among (take glyphRows (drop rowsAt (drop g b))) (glyphsAt count (drop from b)))
+Inv-loop b g from count first end at₀ others₀ at others = (at + glyphField * others ≡ length b)
+    × (among (take glyphRows (drop rowsAt (drop g b))) (glyphsAt others (drop at b)) ≡ among (take glyphRows (drop rowsAt (drop g b)))
+    (glyphsAt count (drop from b)))
 
 abbrev μ-loop : tie.MeasureT-loop
 μ-loop b g from count first end at₀ others₀ at others = others
@@ -59,7 +61,8 @@ returns : tie.Need-returns Inv-loop μ-loop
 returns c =
     let l = c .before .before .before .before .before .loop in
     let s = c .before .before .before .before .before .before .before in
-    sym (among-here (take glyphRows (drop rowsAt (drop (s .args .g) (s .args .b .now)))) (s .args .b .now) (l .at) (l .others) (omega arith) (sym (cut-out (s .args .b .now) (s .args .g) (l .at)) ∙ sym (c .before .compare .ensures) ∙ c .if1 .taken))
+    sym (among-here (take glyphRows (drop rowsAt (drop (s .args .g) (s .args .b .now)))) (s .args .b .now) (l .at) (l .others) (omega arith)
+    (sym (cut-out (s .args .b .now) (s .args .g) (l .at)) ∙ sym (c .before .compare .ensures) ∙ c .if1 .taken))
     ∙ l .inv .1
 
 sub-others : tie.Need-sub-others Inv-loop μ-loop
@@ -73,7 +76,8 @@ loop-again c =
     let l = c .before .before .before .before .before .loop in
     let s = c .before .before .before .before .before .before .before in (
       omega arith,
-      sym (among-on (take glyphRows (drop rowsAt (drop (s .args .g) (s .args .b .now)))) (s .args .b .now) (l .at) (l .others) (omega arith) (sym (cut-out (s .args .b .now) (s .args .g) (l .at)) ∙ sym (c .before .compare .ensures) ∙ c .if1 .left))
+      sym (among-on (take glyphRows (drop rowsAt (drop (s .args .g) (s .args .b .now)))) (s .args .b .now) (l .at) (l .others) (omega arith)
+          (sym (cut-out (s .args .b .now) (s .args .g) (l .at)) ∙ sym (c .before .compare .ensures) ∙ c .if1 .left))
           ∙ l .inv .1,
     )
 

@@ -14,7 +14,8 @@ use Rattle.bundle_read.proofs.glyphs_from.Statement.{statement}
 use Rattle.bundle_read.proofs.glyphs_from.Tie as tie
 
 abbrev Inv-loop : tie.InvT-loop
-Inv-loop b from all at₀ i₀ at i = (i ≤ glyphCount) × (at ≡ from + glyphField * i) × (isRows (rowsOf (drop i characters) (drop at b)) ≡ isRows (rowsOf characters (drop from b)))
+Inv-loop b from all at₀ i₀ at i = (i ≤ glyphCount) × (at ≡ from + glyphField * i) × (isRows (rowsOf (drop i characters) (drop at b))
+    ≡ isRows (rowsOf characters (drop from b)))
 
 abbrev μ-loop : tie.MeasureT-loop
 μ-loop b from all at₀ i₀ at i = glyphCount - i
@@ -31,7 +32,8 @@ glyph-at-requires c κs = omega arith
 returns : tie.Need-returns Inv-loop μ-loop
 returns c =
     let l = c .before .before .before .loop in
-    sym (rows-not characters (c .before .before .before .before .before .args .b .now) (l .i) (l .at) (omega arith) (sym (c .before .glyph-at .ensures) ∙ not-true _ (c .if1 .taken)))
+    sym (rows-not characters (c .before .before .before .before .before .args .b .now) (l .i) (l .at) (omega arith)
+    (sym (c .before .glyph-at .ensures) ∙ not-true _ (c .if1 .taken)))
     ∙ l .inv .2
 
 add-at : tie.Need-add-at Inv-loop μ-loop
@@ -48,7 +50,8 @@ loop-again c =
     let l = c .before .before .before .loop in (
       omega arith,
       omega arith,
-      sym (rows-on characters (c .before .before .before .before .before .args .b .now) (l .i) (l .at) (omega arith) (sym (c .before .glyph-at .ensures) ∙ not-false _ (c .if1 .left)))
+      sym (rows-on characters (c .before .before .before .before .before .args .b .now) (l .i) (l .at) (omega arith)
+          (sym (c .before .glyph-at .ensures) ∙ not-false _ (c .if1 .left)))
           ∙ l .inv .2,
     )
 

@@ -44,7 +44,8 @@ returns-4 : tie.Need-returns-4
 returns-4 c =
     let s = c .before .before .before .before .before .before .before .before .before .before in
     let f = c .before .before .font-digest in
-    let told = of-bundle (s .args .bundle .now) (s .args .out .now) (omega arith) _ (sym (c .before .before .before .before .before .before .read .ensures) ∙ c .before .before .before .before .enum-told3 .given .1) in
+    let told = of-bundle (s .args .bundle .now) (s .args .out .now) (omega arith) _ (sym (c .before .before .before .before .before .before .read .ensures) ∙
+    c .before .before .before .before .enum-told3 .given .1) in
     (f .ensures .0 ∙ told .0, f .ensures .1 ∙ told .1)
 
 pub digest-of-spec : {M : Type 1} → statement M

@@ -49,7 +49,8 @@ returns c =
     let r = s .args .rows .now in
     let nine : glyphRows * i + glyphRows - glyphRows * i ≡ glyphRows = omega arith in
     let cut = c .before .copy .ensures in
-    valued (getD characters i 0) _ (take glyphRows (drop (glyphRows * i) r)) (length-take-le glyphRows (drop (glyphRows * i) r) (omega (arith, length-drop (glyphRows * i) r, s .pre))) (rw nine at cut)
+    valued (getD characters i 0) _ (take glyphRows (drop (glyphRows * i) r)) (length-take-le glyphRows (drop (glyphRows * i) r)
+    (omega (arith, length-drop (glyphRows * i) r, s .pre))) (rw nine at cut)
 
 pub glyph-value-spec : {M : Type 1} → statement M
 glyph-value-spec =

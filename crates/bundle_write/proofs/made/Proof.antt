@@ -13,7 +13,8 @@ use Rattle.bundle_write.proofs.made.Statement.{statement}
 use Rattle.bundle_write.proofs.made.Tie as tie
 
 abbrev Inv-loop : tie.InvT-loop
-Inv-loop name rows bundle₀ at₀ i₀ bundle at i = (i ≤ glyphCount) × (length bundle ≡ longestBundle) × Laid (replicate longestBundle 0) bundle (soFar name rows i) at
+Inv-loop name rows bundle₀ at₀ i₀ bundle at i = (i ≤ glyphCount) × (length bundle ≡ longestBundle)
+    × Laid (replicate longestBundle 0) bundle (soFar name rows i) at
 
 abbrev μ-loop : tie.MeasureT-loop
 μ-loop name rows bundle₀ at₀ i₀ bundle at i = glyphCount - i
@@ -55,7 +56,8 @@ loop-again c =
     let put = c .before .put-field2 in
     let v = c .before .before .before .before .glyph-value in
     let at = c .before .before .before .before .before .before .loop in
-    let l = one-more (replicate longestBundle 0) (s .args .name .now) (s .args .rows .now) refl (s .pre .0) (s .pre .1) _ _ (v .result) _ _ (at .i) (omega arith) (at .inv .2) (v .ensures) (put .ensures .0) (put .ensures .1) in
+    let l = one-more (replicate longestBundle 0) (s .args .name .now) (s .args .rows .now) refl (s .pre .0) (s .pre .1) _ _ (v .result) _ _ (at .i)
+    (omega arith) (at .inv .2) (v .ensures) (put .ensures .0) (put .ensures .1) in
     (omega arith, keeps (replicate longestBundle 0) (s .args .name .now) (s .args .rows .now) refl (s .pre .0) (s .pre .1) l, l)
 
 returns : tie.Need-returns Inv-loop μ-loop

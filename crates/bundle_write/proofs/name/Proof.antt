@@ -31,7 +31,8 @@ returns c =
     let p = c .before .before .name-part .result in
     let n : p .first + p .length - p .first ≡ p .length = omega arith in (
       rw n (ap (partOf (c .before .before .before .before .args .bundle .now)) (c .before .before .name-part .ensures)),
-      ap (λ (q : Part). (c .before .before .before .before .args .bundle .ptr .0, q .first + c .before .before .before .before .args .bundle .ptr .1)) (c .before .before .name-part .ensures),
+      ap (λ (q : Part). (c .before .before .before .before .args .bundle .ptr .0, q .first + c .before .before .before .before .args .bundle .ptr .1))
+          (c .before .before .name-part .ensures),
     )
 
 pub name-spec : {M : Type 1} → statement M

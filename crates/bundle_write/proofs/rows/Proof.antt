@@ -14,7 +14,11 @@ rows-part-requires : tie.Need-rows-part-requires
 rows-part-requires c κs = search needs
 
 add-end : tie.Need-add-end
-add-end c = rw (c .before .rows-part .ensures) (omega (arith, rows-inside (c .before .before .before .args .bundle .now) (c .before .before .before .args .character)))
+add-end c = rw (c .before .rows-part .ensures) (omega (
+  arith,
+  rows-inside (c .before .before .before .args .bundle .now)
+      (c .before .before .before .args .character),
+))
 
 sub-result : tie.Need-sub-result
 sub-result c = search needs
@@ -31,7 +35,8 @@ returns c =
     let p = c .before .before .rows-part .result in
     let n : p .first + p .length - p .first ≡ p .length = omega arith in (
       rw n (ap (partOf (c .before .before .before .before .args .bundle .now)) (c .before .before .rows-part .ensures)),
-      ap (λ (q : Part). (c .before .before .before .before .args .bundle .ptr .0, q .first + c .before .before .before .before .args .bundle .ptr .1)) (c .before .before .rows-part .ensures),
+      ap (λ (q : Part). (c .before .before .before .before .args .bundle .ptr .0, q .first + c .before .before .before .before .args .bundle .ptr .1))
+          (c .before .before .rows-part .ensures),
     )
 
 pub rows-spec : {M : Type 1} → statement M

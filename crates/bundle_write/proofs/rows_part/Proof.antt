@@ -18,7 +18,8 @@ index-of-requires : tie.Need-index-of-requires
 index-of-requires c κs = search needs
 
 glyph-part-requires : tie.Need-glyph-part-requires
-glyph-part-requires c κs = read-length (c .before .before .before .before .before .before .args .bundle .now) _ (sym (c .before .before .before .before .read .ensures) ∙ c .before .before .judged .given .1) .1
+glyph-part-requires c κs = read-length (c .before .before .before .before .before .before .args .bundle .now) _
+    (sym (c .before .before .before .before .read .ensures) ∙ c .before .before .judged .given .1) .1
 
 enum-told : tie.Need-enum-told
 enum-told c = search needs
@@ -37,19 +38,22 @@ unfolding rowsPart
 returns c =
     let s = c .before .before .before .before .before .before .before in
     c .glyph-part .ensures
-    ∙ rw (c .before .index-of .ensures) (sym (ap (λ x. rowsBy x (indexOf (s .args .character) characters) (s .args .bundle .now)) (sym (c .before .before .before .before .before .read .ensures) ∙ c .before .before .before .judged .given .1)))
+    ∙ rw (c .before .index-of .ensures) (sym (ap (λ x. rowsBy x (indexOf (s .args .character) characters) (s .args .bundle .now))
+    (sym (c .before .before .before .before .before .read .ensures) ∙ c .before .before .before .judged .given .1)))
 
 returns-2 : tie.Need-returns-2
 unfolding rowsPart
 returns-2 c =
     let s = c .before .before .before .before .before in
-    c .no-part .ensures ∙ sym (ap (λ x. rowsBy x (indexOf (s .args .character) characters) (s .args .bundle .now)) (sym (c .before .before .before .read .ensures) ∙ c .before .enum-told .given .1))
+    c .no-part .ensures ∙ sym (ap (λ x. rowsBy x (indexOf (s .args .character) characters) (s .args .bundle .now))
+    (sym (c .before .before .before .read .ensures) ∙ c .before .enum-told .given .1))
 
 returns-3 : tie.Need-returns-3
 unfolding rowsPart
 returns-3 c =
     let s = c .before .before .before .before .before in
-    c .no-part2 .ensures ∙ sym (ap (λ x. rowsBy x (indexOf (s .args .character) characters) (s .args .bundle .now)) (sym (c .before .before .before .read .ensures) ∙ c .before .enum-told2 .given .1))
+    c .no-part2 .ensures ∙ sym (ap (λ x. rowsBy x (indexOf (s .args .character) characters) (s .args .bundle .now))
+    (sym (c .before .before .before .read .ensures) ∙ c .before .enum-told2 .given .1))
 
 pub rows-part-spec : {M : Type 1} → statement M
 rows-part-spec =

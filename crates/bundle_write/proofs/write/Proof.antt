@@ -25,7 +25,8 @@ returns c =
 returns-2 : tie.Need-returns-2
 returns-2 c =
     let s = c .before .before .before .before .before .before in
-    rows-refused (s .args .name .now) (s .args .rows .now) (s .args .out .now) (sym (c .before .before .rule-takes .ensures) ∙ not-false _ (c .before .if1 .left)) (c .if2 .taken)
+    rows-refused (s .args .name .now) (s .args .rows .now) (s .args .out .now) (sym (c .before .before .rule-takes .ensures) ∙ not-false _
+    (c .before .if1 .left)) (c .if2 .taken)
 
 made-requires : tie.Need-made-requires
 made-requires c κs = (sym (c .before .before .rule-takes .ensures) ∙ not-false _ (c .before .if1 .left), c .if2 .left)
@@ -42,7 +43,8 @@ part-read-start c = search needs
 part-read-end : tie.Need-part-read-end
 part-read-end c =
     let s = c .before .before .before .before .before .before .before .before in
-    let rule : takes nameTag (length (s .args .name .now)) ≡ true = sym (c .before .before .before .before .rule-takes .ensures) ∙ not-false _ (c .before .before .before .if1 .left) in
+    let rule : takes nameTag (length (s .args .name .now)) ≡ true = sym (c .before .before .before .before .rule-takes .ensures) ∙ not-false _
+    (c .before .before .before .if1 .left) in
     omega (arith, name-taken (length (s .args .name .now)) rule)
 
 read-requires : tie.Need-read-requires
@@ -66,29 +68,48 @@ part-give-start c = search needs
 part-give-end : tie.Need-part-give-end
 part-give-end c =
     let s = c .before .before .before .before .before .before .before .before .before .before .before .before .before in
-    let rule : takes nameTag (length (s .args .name .now)) ≡ true = sym (c .before .before .before .before .before .before .before .before .before .rule-takes .ensures) ∙ not-false _ (c .before .before .before .before .before .before .before .before .if1 .left) in
+    let rule : takes nameTag (length (s .args .name .now)) ≡ true = sym
+    (c .before .before .before .before .before .before .before .before .before .rule-takes .ensures) ∙ not-false _
+    (c .before .before .before .before .before .before .before .before .if1 .left) in
     omega (arith, name-taken (length (s .args .name .now)) rule)
 
 give-requires : tie.Need-give-requires
 give-requires c κs =
     let s = c .before .before .before .before .before .before .before .before .before .before .before .before .before .before .before in
-    let rule : takes nameTag (length (s .args .name .now)) ≡ true = sym (c .before .before .before .before .before .before .before .before .before .before .before .rule-takes .ensures) ∙ not-false _ (c .before .before .before .before .before .before .before .before .before .before .if1 .left) in
-    let is = first-part (s .args .name .now) (s .args .rows .now) (c .before .before .before .before .before .before .before .before .made .result) (c .before .before .before .before .before .before .before .before .before .if2 .left) (c .before .before .before .before .before .before .before .before .made .ensures) in
-    rw is (omega (arith, length-bundle (s .args .name .now) (s .args .rows .now) (c .before .before .before .before .before .before .before .before .before .if2 .left), name-taken (length (s .args .name .now)) rule))
+    let rule : takes nameTag (length (s .args .name .now)) ≡ true = sym
+    (c .before .before .before .before .before .before .before .before .before .before .before .rule-takes .ensures) ∙ not-false _
+    (c .before .before .before .before .before .before .before .before .before .before .if1 .left) in
+    let is = first-part (s .args .name .now) (s .args .rows .now) (c .before .before .before .before .before .before .before .before .made .result)
+    (c .before .before .before .before .before .before .before .before .before .if2 .left)
+    (c .before .before .before .before .before .before .before .before .made .ensures) in
+    rw is (omega (
+      arith,
+      length-bundle (s .args .name .now) (s .args .rows .now)
+          (c .before .before .before .before .before .before .before .before .before .if2 .left),
+      name-taken (length (s .args .name .now)) rule,
+    ))
 
 returns-3 : tie.Need-returns-3
 returns-3 c =
     let s = c .before .before .before .before .before .before .before .before .before .before .before .before in
-    let rule : takes nameTag (length (s .args .name .now)) ≡ true = sym (c .before .before .before .before .before .before .before .before .rule-takes .ensures) ∙ not-false _ (c .before .before .before .before .before .before .before .if1 .left) in
-    let is = first-part (s .args .name .now) (s .args .rows .now) (c .before .before .before .before .before .made .result) (c .before .before .before .before .before .before .if2 .left) (c .before .before .before .before .before .made .ensures) in
-    shape-refused (s .args .name .now) (s .args .rows .now) (s .args .out .now) rule (c .before .before .before .before .before .before .if2 .left) (rw is at (sym (c .before .before .read .ensures)) ∙ c .enum-told .given .1)
+    let rule : takes nameTag (length (s .args .name .now)) ≡ true = sym
+    (c .before .before .before .before .before .before .before .before .rule-takes .ensures) ∙ not-false _
+    (c .before .before .before .before .before .before .before .if1 .left) in
+    let is = first-part (s .args .name .now) (s .args .rows .now) (c .before .before .before .before .before .made .result)
+    (c .before .before .before .before .before .before .if2 .left) (c .before .before .before .before .before .made .ensures) in
+    shape-refused (s .args .name .now) (s .args .rows .now) (s .args .out .now) rule (c .before .before .before .before .before .before .if2 .left)
+    (rw is at (sym (c .before .before .read .ensures)) ∙ c .enum-told .given .1)
 
 returns-4 : tie.Need-returns-4
 returns-4 c =
     let s = c .before .before .before .before .before .before .before .before .before .before .before .before in
-    let rule : takes nameTag (length (s .args .name .now)) ≡ true = sym (c .before .before .before .before .before .before .before .before .rule-takes .ensures) ∙ not-false _ (c .before .before .before .before .before .before .before .if1 .left) in
-    let is = first-part (s .args .name .now) (s .args .rows .now) (c .before .before .before .before .before .made .result) (c .before .before .before .before .before .before .if2 .left) (c .before .before .before .before .before .made .ensures) in
-    alike-refused (s .args .name .now) (s .args .rows .now) (s .args .out .now) rule (c .before .before .before .before .before .before .if2 .left) (rw is at (sym (c .before .before .read .ensures)) ∙ c .enum-told2 .given .1)
+    let rule : takes nameTag (length (s .args .name .now)) ≡ true = sym
+    (c .before .before .before .before .before .before .before .before .rule-takes .ensures) ∙ not-false _
+    (c .before .before .before .before .before .before .before .if1 .left) in
+    let is = first-part (s .args .name .now) (s .args .rows .now) (c .before .before .before .before .before .made .result)
+    (c .before .before .before .before .before .before .if2 .left) (c .before .before .before .before .before .made .ensures) in
+    alike-refused (s .args .name .now) (s .args .rows .now) (s .args .out .now) rule (c .before .before .before .before .before .before .if2 .left)
+    (rw is at (sym (c .before .before .read .ensures)) ∙ c .enum-told2 .given .1)
 
 same-length : tie.Need-same-length
 same-length c = search needs
@@ -96,9 +117,17 @@ same-length c = search needs
 returns-5 : tie.Need-returns-5
 returns-5 c =
     let s = c .before .before .before .before .before .before .before .before .before .before .before .before .before .before .before .before .before .before in
-    let rule : takes nameTag (length (s .args .name .now)) ≡ true = sym (c .before .before .before .before .before .before .before .before .before .before .before .before .before .before .rule-takes .ensures) ∙ not-false _ (c .before .before .before .before .before .before .before .before .before .before .before .before .before .if1 .left) in
-    let is = first-part (s .args .name .now) (s .args .rows .now) (c .before .before .before .before .before .before .before .before .before .before .before .made .result) (c .before .before .before .before .before .before .before .before .before .before .before .before .if2 .left) (c .before .before .before .before .before .before .before .before .before .before .before .made .ensures) in
-    let told = given (s .args .name .now) (s .args .rows .now) (s .args .out .now) rule (c .before .before .before .before .before .before .before .before .before .before .before .before .if2 .left) _ (rw is at (sym (c .before .before .before .before .before .before .before .before .read .ensures)) ∙ c .before .before .before .before .before .before .enum-told3 .given .1) in
+    let rule : takes nameTag (length (s .args .name .now)) ≡ true = sym
+    (c .before .before .before .before .before .before .before .before .before .before .before .before .before .before .rule-takes .ensures) ∙ not-false _
+    (c .before .before .before .before .before .before .before .before .before .before .before .before .before .if1 .left) in
+    let is = first-part (s .args .name .now) (s .args .rows .now)
+    (c .before .before .before .before .before .before .before .before .before .before .before .made .result)
+    (c .before .before .before .before .before .before .before .before .before .before .before .before .if2 .left)
+    (c .before .before .before .before .before .before .before .before .before .before .before .made .ensures) in
+    let told = given (s .args .name .now) (s .args .rows .now) (s .args .out .now) rule
+    (c .before .before .before .before .before .before .before .before .before .before .before .before .if2 .left) _
+    (rw is at (sym (c .before .before .before .before .before .before .before .before .read .ensures)) ∙
+    c .before .before .before .before .before .before .enum-told3 .given .1) in
     (rw is at (c .before .before .give .ensures .0) ∙ told .0, rw is at (c .before .before .give .ensures .1) ∙ told .1)
 
 pub write-spec : {M : Type 1} → statement M

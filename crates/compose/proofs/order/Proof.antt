@@ -15,10 +15,12 @@ nonce-requires : tie.Need-nonce-requires
 nonce-requires c κs = search needs
 
 sub-seal-line : tie.Need-sub-seal-line
-sub-seal-line c = line-within (c .before .before .before .before .before .before .before .before .args .row .now) _ (sym (c .before .before .before .before .judge-order .ensures) ∙ c .before .before .found .given .1)
+sub-seal-line c = line-within (c .before .before .before .before .before .before .before .before .args .row .now) _
+    (sym (c .before .before .before .before .judge-order .ensures) ∙ c .before .before .found .given .1)
 
 part-seal-line-start : tie.Need-part-seal-line-start
-part-seal-line-start c = line-within (c .before .before .before .before .before .before .before .before .args .row .now) _ (sym (c .before .before .before .before .judge-order .ensures) ∙ c .before .before .found .given .1)
+part-seal-line-start c = line-within (c .before .before .before .before .before .before .before .before .args .row .now) _
+    (sym (c .before .before .before .before .judge-order .ensures) ∙ c .before .before .found .given .1)
 
 part-seal-line-end : tie.Need-part-seal-line-end
 part-seal-line-end c = search needs

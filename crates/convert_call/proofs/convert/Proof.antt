@@ -31,7 +31,8 @@ returns-2 c =
     let a = c .before .before .before .before .before .before .before .before .before .before .args in
     let t : Told = told (a .key .now) (a .font .now) (a .layout) in
     let own : Own = ownOf (a .edition) (a .nonce .now) (a .job .now) in
-    met (too-small t own (a .stretch .now) (a .frame .now) (right-under t own _ (c .before .before .before .sizes-right .ensures) (not-false _ (c .before .before .if1 .left))) (omega (arith, c .if2 .taken, c .before .frame-room .ensures)))
+    met (too-small t own (a .stretch .now) (a .frame .now) (right-under t own _ (c .before .before .before .sizes-right .ensures)
+    (not-false _ (c .before .before .if1 .left))) (omega (arith, c .if2 .taken, c .before .frame-room .ensures)))
 
 other-requires : tie.Need-other-requires
 other-requires c κs = search needs
@@ -47,8 +48,21 @@ returns-3 c =
     let a = c .before .before .before .before .before .before .before .before .before .before .before .before .before .before .before .before .args in
     let t : Told = told (a .key .now) (a .font .now) (a .layout) in
     let own : Own = ownOf (a .edition) (a .nonce .now) (a .job .now) in
-    met (not-given t own (a .stretch .now) (a .frame .now) (right-under t own _ (c .before .before .before .before .before .before .before .before .before .sizes-right .ensures) (not-false _ (c .before .before .before .before .before .before .before .before .if1 .left))) (omega (arith, c .before .before .before .before .before .before .if2 .left, c .before .before .before .before .before .before .before .frame-room .ensures))
-    (below-all 256 (a .stretch .now) (λ k h. omega (arith, c .before .before .before .before .before .before .before .before .before .before .before .before .before .before .before .shared-slice-known .given k))) (replicate longest 0) (omega (arith, length-replicate {A = ℕ} longest 0)) _ (c .before .before .before .before .before .other .ensures) _ (c .before .before .before .line-in .ensures .0) (c .if3 .taken))
+    met (not-given t own (a .stretch .now) (a .frame .now) (right-under t own _
+    (c .before .before .before .before .before .before .before .before .before .sizes-right .ensures)
+    (not-false _ (c .before .before .before .before .before .before .before .before .if1 .left)))
+    (omega (
+      arith,
+      c .before .before .before .before .before .before .if2 .left,
+      c .before .before .before .before .before .before .before .frame-room .ensures,
+    ))
+    (below-all 256 (a .stretch .now)
+    (λ k h. omega (
+      arith,
+      c .before .before .before .before .before .before .before .before .before .before .before .before .before .before .before .shared-slice-known .given
+          k,
+    ))) (replicate longest 0) (omega (arith, length-replicate {A = ℕ} longest 0)) _ (c .before .before .before .before .before .other .ensures) _
+    (c .before .before .before .line-in .ensures .0) (c .if3 .taken))
 
 sub-write-edition : tie.Need-sub-write-edition
 sub-write-edition c = search needs
@@ -61,8 +75,21 @@ part-write-edition-end c =
     let a = c .before .before .before .before .before .before .before .before .before .before .before .before .before .before .before .before .before .args in
     let t : Told = told (a .key .now) (a .font .now) (a .layout) in
     let own : Own = ownOf (a .edition) (a .nonce .now) (a .job .now) in
-    let h = length-fits t own (a .stretch .now) (a .frame .now) (right-under t own _ (c .before .before .before .before .before .before .before .before .before .before .sizes-right .ensures) (not-false _ (c .before .before .before .before .before .before .before .before .before .if1 .left))) (omega (arith, c .before .before .before .before .before .before .before .if2 .left, c .before .before .before .before .before .before .before .before .frame-room .ensures))
-    (below-all 256 (a .stretch .now) (λ k h. omega (arith, c .before .before .before .before .before .before .before .before .before .before .before .before .before .before .before .before .shared-slice-known .given k))) (replicate longest 0) (omega (arith, length-replicate {A = ℕ} longest 0)) _ (c .before .before .before .before .before .before .other .ensures) _ (c .before .before .before .before .line-in .ensures .0)
+    let h = length-fits t own (a .stretch .now) (a .frame .now)
+    (right-under t own _ (c .before .before .before .before .before .before .before .before .before .before .sizes-right .ensures)
+    (not-false _ (c .before .before .before .before .before .before .before .before .before .if1 .left)))
+    (omega (
+      arith,
+      c .before .before .before .before .before .before .before .if2 .left,
+      c .before .before .before .before .before .before .before .before .frame-room .ensures,
+    ))
+    (below-all 256 (a .stretch .now)
+    (λ k h. omega (
+      arith,
+      c .before .before .before .before .before .before .before .before .before .before .before .before .before .before .before .before .shared-slice-known
+          .given k,
+    ))) (replicate longest 0) (omega (arith, length-replicate {A = ℕ} longest 0)) _ (c .before .before .before .before .before .before .other .ensures) _
+    (c .before .before .before .before .line-in .ensures .0)
     (c .before .if3 .left) _ (c .before .before .before .before .line-in .ensures .1) in
     omega (arith, h)
 
@@ -77,13 +104,30 @@ same-length c = search needs
 
 returns-4 : tie.Need-returns-4
 returns-4 c =
-    let a = c .before .before .before .before .before .before .before .before .before .before .before .before .before .before .before .before .before .before .before .before .before .before .before .args in
+    let a = c .before .before .before .before .before .before .before .before .before .before .before .before .before .before .before .before .before .before
+    .before .before .before .before .before .args in
     let t : Told = told (a .key .now) (a .font .now) (a .layout) in
     let own : Own = ownOf (a .edition) (a .nonce .now) (a .job .now) in
     let w = c .before .before .before .write-edition in
-    written t own (a .stretch .now) (a .frame .now) (right-under t own _ (c .before .before .before .before .before .before .before .before .before .before .before .before .before .before .before .before .sizes-right .ensures) (not-false _ (c .before .before .before .before .before .before .before .before .before .before .before .before .before .before .before .if1 .left))) (omega (arith, c .before .before .before .before .before .before .before .before .before .before .before .before .before .if2 .left, c .before .before .before .before .before .before .before .before .before .before .before .before .before .before .frame-room .ensures))
-    (below-all 256 (a .stretch .now) (λ k h. omega (arith, c .before .before .before .before .before .before .before .before .before .before .before .before .before .before .before .before .before .before .before .before .before .before .shared-slice-known .given k))) (replicate longest 0) (omega (arith, length-replicate {A = ℕ} longest 0)) _ (c .before .before .before .before .before .before .before .before .before .before .before .before .other .ensures) _ (c .before .before .before .before .before .before .before .before .before .before .line-in .ensures .0)
-    (c .before .before .before .before .before .before .before .if3 .left) _ (c .before .before .before .before .before .before .before .before .before .before .line-in .ensures .1) _ _ _ (w .ensures .0) (w .ensures .1) (c .write-length .ensures)
+    written t own (a .stretch .now) (a .frame .now) (right-under t own _
+    (c .before .before .before .before .before .before .before .before .before .before .before .before .before .before .before .before .sizes-right .ensures)
+    (not-false _ (c .before .before .before .before .before .before .before .before .before .before .before .before .before .before .before .if1 .left)))
+    (omega (
+      arith,
+      c .before .before .before .before .before .before .before .before .before .before .before .before .before .if2 .left,
+      c .before .before .before .before .before .before .before .before .before .before .before .before .before .before .frame-room .ensures,
+    ))
+    (below-all 256 (a .stretch .now)
+    (λ k h. omega (
+      arith,
+      c .before .before .before .before .before .before .before .before .before .before .before .before .before .before .before .before .before .before .before
+          .before .before .before .shared-slice-known .given k,
+    ))) (replicate longest 0) (omega (arith, length-replicate {A = ℕ} longest 0)) _
+    (c .before .before .before .before .before .before .before .before .before .before .before .before .other .ensures) _
+    (c .before .before .before .before .before .before .before .before .before .before .line-in .ensures .0)
+    (c .before .before .before .before .before .before .before .if3 .left) _
+    (c .before .before .before .before .before .before .before .before .before .before .line-in .ensures .1) _ _ _ (w .ensures .0) (w .ensures .1)
+    (c .write-length .ensures)
 
 pub convert-spec : {M : Type 1} → statement M
 convert-spec =

@@ -34,7 +34,8 @@ returns-2 c =
     let a = c .before .before .before .before .before .before .before .before .before .before .before .before .before .args in
     let j = c .before .before .before .before .judge in
     at-judged (told (a .key .now) (a .font .now) (a .layout)) (a .named) (a .stretch .now) (a .line .now)
-    (sym (c .before .before .before .before .before .before .before .before .misnamed .ensures) ∙ c .before .before .before .before .before .before .before .if1 .left)
+    (sym (c .before .before .before .before .before .before .before .before .misnamed .ensures) ∙
+    c .before .before .before .before .before .before .before .if1 .left)
     _ (c .before .before .before .before .before .before .only .ensures)
     _ _ (j .ensures .0) (j .ensures .1) _ _ (c .before .converted-of .ensures) (c .numbers .ensures)
 

@@ -19,10 +19,13 @@ same-requires : tie.Need-same-requires
 same-requires c κs = search needs
 
 returns : tie.Need-returns
-returns c = sym (shape-other (c .before .before .before .before .args .named) (held (c .before .before .before .before .args .stretch .now)) (sym (c .before .before .fields-in .ensures) ∙ c .enum-told .given .1))
+returns c = sym (shape-other (c .before .before .before .before .args .named) (held (c .before .before .before .before .args .stretch .now))
+    (sym (c .before .before .fields-in .ensures) ∙ c .enum-told .given .1))
 
 returns-2 : tie.Need-returns-2
-returns-2 c = rw (c .same .ensures) (sym (fields-other (c .before .before .before .before .before .before .args .named) _ _ (held (c .before .before .before .before .before .before .args .stretch .now)) (sym (c .before .before .before .before .fields-in .ensures) ∙ c .before .before .edition .given .1)))
+returns-2 c = rw (c .same .ensures) (sym (fields-other (c .before .before .before .before .before .before .args .named) _ _
+    (held (c .before .before .before .before .before .before .args .stretch .now)) (sym (c .before .before .before .before .fields-in .ensures) ∙
+    c .before .before .edition .given .1)))
 
 pub misnamed-spec : {M : Type 1} → statement M
 misnamed-spec =

@@ -44,7 +44,9 @@ returns-3 : tie.Need-returns-3
 returns-3 c =
     let a = c .before .before .before .before .before .before .before .before .before .before .args in
     let t = told (a .key .now) (a .font .now) (a .layout) in
-    elsewhere t (a .editions) (a .stream .now) (a .place) (c .before .before .before .before .before .before .if1 .left) (omega (arith, c .before .before .before .before .before .if2 .left)) (c .before .before .before .read .result) (c .before .before .before .read .ensures .0) (c .if3 .taken)
+    elsewhere t (a .editions) (a .stream .now) (a .place) (c .before .before .before .before .before .before .if1 .left)
+    (omega (arith, c .before .before .before .before .before .if2 .left)) (c .before .before .before .read .result)
+    (c .before .before .before .read .ensures .0) (c .if3 .taken)
 
 -- src/lib.rt:42:8
 numbers-requires : tie.Need-numbers-requires
@@ -55,14 +57,22 @@ returns-4 : tie.Need-returns-4
 returns-4 c =
     let a = c .before .before .before .before .before .before .before .before .before .before .before .before .before .args in
     let t = told (a .key .now) (a .font .now) (a .layout) in
-    no-line t (a .editions) (a .stream .now) (a .place) (c .before .before .before .before .before .before .before .before .before .if1 .left) (omega (arith, c .before .before .before .before .before .before .before .before .if2 .left)) (c .before .before .before .before .before .before .read .result) (c .before .before .before .before .before .before .read .ensures .0) (c .before .before .before .if3 .left) (c .before .before .numbers .result .outcome) (ap (λ (x : Report). x .outcome) (c .before .before .numbers .ensures)) (c .if4 .taken)
+    no-line t (a .editions) (a .stream .now) (a .place) (c .before .before .before .before .before .before .before .before .before .if1 .left)
+    (omega (arith, c .before .before .before .before .before .before .before .before .if2 .left))
+    (c .before .before .before .before .before .before .read .result) (c .before .before .before .before .before .before .read .ensures .0)
+    (c .before .before .before .if3 .left) (c .before .before .numbers .result .outcome)
+    (ap (λ (x : Report). x .outcome) (c .before .before .numbers .ensures)) (c .if4 .taken)
 
 -- src/lib.rt:15:1
 returns-5 : tie.Need-returns-5
 returns-5 c =
     let a = c .before .before .before .before .before .before .before .before .before .before .before .before .before .args in
     let t = told (a .key .now) (a .font .now) (a .layout) in
-    a-line t (a .editions) (a .stream .now) (a .place) (c .before .before .before .before .before .before .before .before .before .if1 .left) (omega (arith, c .before .before .before .before .before .before .before .before .if2 .left)) (c .before .before .before .before .before .before .read .result) (c .before .before .before .before .before .before .read .ensures .0) (c .before .before .before .if3 .left) (c .before .before .numbers .result .outcome) (ap (λ (x : Report). x .outcome) (c .before .before .numbers .ensures)) (c .if4 .left)
+    a-line t (a .editions) (a .stream .now) (a .place) (c .before .before .before .before .before .before .before .before .before .if1 .left)
+    (omega (arith, c .before .before .before .before .before .before .before .before .if2 .left))
+    (c .before .before .before .before .before .before .read .result) (c .before .before .before .before .before .before .read .ensures .0)
+    (c .before .before .before .if3 .left) (c .before .before .numbers .result .outcome)
+    (ap (λ (x : Report). x .outcome) (c .before .before .numbers .ensures)) (c .if4 .left)
 
 pub closing-of-spec : {M : Type 1} → statement M
 closing-of-spec =

@@ -28,13 +28,18 @@ is-unknown-requires : tie.Need-is-unknown-requires
 is-unknown-requires c κs = search needs
 
 returns : tie.Need-returns
-returns c = refused (instance-refused (c .before .before .before .before .args .instance) (c .before .before .before .before .args .message .now) (c .before .before .before .before .args .out .now) (sym (c .before .is-unknown .ensures) ∙ c .if1 .taken))
+returns c = refused (instance-refused (c .before .before .before .before .args .instance) (c .before .before .before .before .args .message .now)
+    (c .before .before .before .before .args .out .now) (sym (c .before .is-unknown .ensures) ∙ c .if1 .taken))
 
 returns-2 : tie.Need-returns-2
-returns-2 c = refused (length-refused (c .before .before .before .before .before .args .instance) (c .before .before .before .before .before .args .message .now) (c .before .before .before .before .before .args .out .now) (sym (c .before .before .is-unknown .ensures) ∙ c .before .if1 .left) (c .if2 .taken))
+returns-2 c = refused (length-refused (c .before .before .before .before .before .args .instance)
+    (c .before .before .before .before .before .args .message .now) (c .before .before .before .before .before .args .out .now)
+    (sym (c .before .before .is-unknown .ensures) ∙ c .before .if1 .left) (c .if2 .taken))
 
 returns-3 : tie.Need-returns-3
-returns-3 c = refused (room-refused (c .before .before .before .before .before .before .args .instance) (c .before .before .before .before .before .before .args .message .now) (c .before .before .before .before .before .before .args .out .now) (sym (c .before .before .before .is-unknown .ensures) ∙ c .before .before .if1 .left) (c .before .if2 .left) (c .if3 .taken))
+returns-3 c = refused (room-refused (c .before .before .before .before .before .before .args .instance)
+    (c .before .before .before .before .before .before .args .message .now) (c .before .before .before .before .before .before .args .out .now)
+    (sym (c .before .before .before .is-unknown .ensures) ∙ c .before .before .if1 .left) (c .before .if2 .left) (c .if3 .taken))
 
 sponge-of-requires : tie.Need-sponge-of-requires
 sponge-of-requires c κs = tt
@@ -63,7 +68,8 @@ same-length c = search needs
 returns-4 : tie.Need-returns-4
 returns-4 c =
     let k = c .before .before .before .before .before .before .before in
-    finished (begins k .args .instance) (begins k .args .message .now) (begins k .args .out .now) (known k) (k .before .before .if2 .left) (k .before .if3 .left)
+    finished (begins k .args .instance) (begins k .args .message .now) (begins k .args .out .now) (known k) (k .before .before .if2 .left)
+    (k .before .if3 .left)
     (k .sponge-of .ensures) (c .before .before .before .before .before .before .hash .ensures) (c .before .before .before .copy .ensures)
 
 pub digest-spec : {M : Type 1} → statement M

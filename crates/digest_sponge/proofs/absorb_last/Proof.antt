@@ -24,7 +24,9 @@ turned-requires c κs = search needs
 
 returns : tie.Need-returns
 returns c =
-    last-taken (c .before .before .before .before .before .before .args .rest .now) (c .before .before .before .before .before .before .args .s) _ _ (c .before .before .before .before .before .before .pre) (c .before .before .before .before .last-block .ensures) (c .before .mix .ensures .1) (c .turned .ensures)
+    last-taken (c .before .before .before .before .before .before .args .rest .now) (c .before .before .before .before .before .before .args .s) _ _
+    (c .before .before .before .before .before .before .pre) (c .before .before .before .before .last-block .ensures) (c .before .mix .ensures .1)
+    (c .turned .ensures)
 
 pub absorb-last-spec : {M : Type 1} → statement M
 absorb-last-spec =

@@ -40,13 +40,18 @@ turned-requires : tie.Need-turned-requires Inv-loop μ-loop
 turned-requires c κs = search needs
 
 add-i : tie.Need-add-i Inv-loop μ-loop
-add-i c = omega (arith, div-le-self (length (c .before .before .before .before .before .before .args .message .now)) (c .before .before .before .before .before .before .args .rate))
+add-i c = omega (
+  arith,
+  div-le-self (length (c .before .before .before .before .before .before .args .message .now))
+      (c .before .before .before .before .before .before .args .rate),
+)
 
 loop-less : tie.Need-loop-less Inv-loop μ-loop
 loop-less c = search needs
 
 loop-again : tie.Need-loop-again Inv-loop μ-loop
-loop-again c = taken-more (c .before .before .before .before .loop .inv) (c .before .before .before .loop-test .taken) (c .before .mix .ensures .1) (c .turned .ensures)
+loop-again c = taken-more (c .before .before .before .before .loop .inv) (c .before .before .before .loop-test .taken) (c .before .mix .ensures .1)
+    (c .turned .ensures)
 
 returns : tie.Need-returns Inv-loop μ-loop
 returns c = taken-all (c .before .loop .inv) (c .loop-test .left)

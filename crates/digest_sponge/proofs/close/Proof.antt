@@ -17,11 +17,13 @@ shape-of-requires : tie.Need-shape-of-requires
 shape-of-requires c κs = sym (c .before .is-unknown .ensures) ∙ c .if1 .left
 
 woven-requires : tie.Need-woven-requires
-woven-requires c κs = shape-room (c .before .before .before .before .args .instance) (sym (c .before .before .is-unknown .ensures) ∙ c .before .if1 .left) (c .shape-of .ensures)
+woven-requires c κs = shape-room (c .before .before .before .before .args .instance) (sym (c .before .before .is-unknown .ensures) ∙ c .before .if1 .left)
+    (c .shape-of .ensures)
 
 absorb-last-requires : tie.Need-absorb-last-requires
 absorb-last-requires c κs =
-    shape-fits (c .before .before .before .before .before .args .instance) (sym (c .before .before .before .is-unknown .ensures) ∙ c .before .before .if1 .left) (c .before .shape-of .ensures)
+    shape-fits (c .before .before .before .before .before .args .instance) (sym (c .before .before .before .is-unknown .ensures) ∙
+    c .before .before .if1 .left) (c .before .shape-of .ensures)
 
 squeeze-requires : tie.Need-squeeze-requires
 squeeze-requires c κs =
@@ -34,7 +36,8 @@ returns-2 : tie.Need-returns-2
 returns-2 c =
     let start = c .before .before .before .before .before .before .before in
     let known = sym (c .before .before .before .before .before .is-unknown .ensures) ∙ c .before .before .before .before .if1 .left in
-    rest-closed (start .args .instance) known (c .before .before .before .shape-of .ensures) (start .args .s) (start .args .rest .now) (c .before .before .woven .result)
+    rest-closed (start .args .instance) known (c .before .before .before .shape-of .ensures) (start .args .s) (start .args .rest .now)
+    (c .before .before .woven .result)
     (c .before .absorb-last .result) (c .before .before .woven .ensures) (c .before .absorb-last .ensures) (c .squeeze .ensures)
 
 pub close-spec : {M : Type 1} → statement M

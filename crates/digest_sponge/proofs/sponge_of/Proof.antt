@@ -19,7 +19,8 @@ shape-of-requires c κs = sym (c .before .is-unknown .ensures) ∙ c .if1 .left
 returns-2 : tie.Need-returns-2
 unfolding spongeOf
 returns-2 c =
-    let e = c .shape-of .ensures in rw (sym (c .before .before .is-unknown .ensures) ∙ c .before .if1 .left) (λ i. record { size = e .0 i; rate = e .1 i; outputs = e .2 i })
+    let e = c .shape-of .ensures in rw (sym (c .before .before .is-unknown .ensures) ∙ c .before .if1 .left)
+    (λ i. record { size = e .0 i; rate = e .1 i; outputs = e .2 i })
 
 pub sponge-of-spec : {M : Type 1} → statement M
 sponge-of-spec = tie.close (tie.spec is-unknown-requires returns shape-of-requires returns-2)

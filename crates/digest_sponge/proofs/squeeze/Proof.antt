@@ -59,7 +59,8 @@ loop-less c = search needs
 -- src/lib.rt:138:5
 loop-again : tie.Need-loop-again Inv-loop μ-loop
 loop-again c =
-    given-more (c .before .before .before .before .before .loop .inv) (c .before .before .before .before .loop-test .taken) (c .before .before .before .turned .ensures) _ (c .before .tell .ensures)
+    given-more (c .before .before .before .before .before .loop .inv) (c .before .before .before .before .loop-test .taken)
+    (c .before .before .before .turned .ensures) _ (c .before .tell .ensures)
 
 -- src/lib.rt:130:1
 returns : tie.Need-returns Inv-loop μ-loop

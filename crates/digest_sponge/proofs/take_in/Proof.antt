@@ -37,7 +37,8 @@ woven-requires c κs =
 -- src/lib.rt:172:9
 absorb-whole-requires : tie.Need-absorb-whole-requires
 absorb-whole-requires c κs =
-    shape-fits (c .before .before .before .before .before .args .instance) (sym (c .before .before .before .is-unknown .ensures) ∙ c .before .before .if1 .left) (c .before .shape-of .ensures)
+    shape-fits (c .before .before .before .before .before .args .instance) (sym (c .before .before .before .is-unknown .ensures) ∙
+    c .before .before .if1 .left) (c .before .shape-of .ensures)
 
 -- src/lib.rt:174:29
 sub-tell : tie.Need-sub-tell
@@ -51,7 +52,11 @@ part-out-start c = search needs
 part-out-end : tie.Need-part-out-end
 part-out-end c =
     let start = c .before .before .before .before .before .before in
-    omega (arith, shape-room (start .args .instance) (sym (c .before .before .before .before .is-unknown .ensures) ∙ c .before .before .before .if1 .left) (c .before .before .shape-of .ensures))
+    omega (
+      arith,
+      shape-room (start .args .instance) (sym (c .before .before .before .before .is-unknown .ensures) ∙ c .before .before .before .if1 .left)
+          (c .before .before .shape-of .ensures),
+    )
 
 -- src/lib.rt:174:5
 tell-requires : tie.Need-tell-requires
@@ -61,7 +66,8 @@ tell-requires c κs = search needs
 returns-2 : tie.Need-returns-2
 returns-2 c =
     let start = c .before .before .before .before .before .before .before .before .before in
-    let known = sym (c .before .before .before .before .before .before .before .is-unknown .ensures) ∙ c .before .before .before .before .before .before .if1 .left in
+    let known = sym (c .before .before .before .before .before .before .before .is-unknown .ensures) ∙
+    c .before .before .before .before .before .before .if1 .left in
     part-taken (start .args .instance) known (c .before .before .before .before .before .shape-of .ensures) (start .args .s) (start .args .part .now)
     (c .before .before .before .before .woven .result) (c .before .before .before .absorb-whole .result) (c .before .before .before .before .woven .ensures)
     (c .before .before .before .absorb-whole .ensures) (c .before .tell .ensures)

@@ -28,7 +28,8 @@ ended c = omega arith
 
 -- so there is room for the head of the line ciphertext's field
 headed : (c : tie.Else1) → c .before .before .before .before .args .at + headLength ≤ c .before .before .field-at .result
-headed c = let d = c .before in cipher-ends (ownOf (d .before .before .before .args .edition) [] []) [] (d .before .field-at .ensures) (d .field-at2 .ensures) (ended c)
+headed c = let d = c .before in cipher-ends (ownOf (d .before .before .before .args .edition) [] []) [] (d .before .field-at .ensures) (d .field-at2 .ensures)
+    (ended c)
 
 sub-t6 : tie.Need-sub-t6
 sub-t6 c = omega (arith, headed c)
@@ -37,7 +38,8 @@ sub-t8 : tie.Need-sub-t8
 sub-t8 c = omega (arith, headed c)
 
 returns-2 : tie.Need-returns-2
-returns-2 c = let d = c .before in all-rest (ownOf (d .before .before .before .args .edition) [] []) [] (d .before .field-at .ensures) (d .field-at2 .ensures) (ended c)
+returns-2 c = let d = c .before in all-rest (ownOf (d .before .before .before .args .edition) [] []) [] (d .before .field-at .ensures) (d .field-at2 .ensures)
+    (ended c)
 
 pub judge-rest-spec : {M : Type 1} → statement M
 judge-rest-spec =

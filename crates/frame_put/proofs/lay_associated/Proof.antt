@@ -35,7 +35,8 @@ returns-2 c =
     let p = q .before .before .before .before .before .before in
     let s = p .before .before .before .before .before in
     laid-two (s .args .out .now) (s .args .at) (s .args .edition) (s .args .digest .now) (s .args .job .now) (s .pre .1 .0) (s .pre .1 .1) (s .pre .0)
-    (q .before .before .enum-told2 .given .1) _ _ _ _ (p .put-field .ensures .0) (p .put-field .ensures .1) (q .put-field2 .ensures .0) (q .put-field2 .ensures .1)
+    (q .before .before .enum-told2 .given .1) _ _ _ _ (p .put-field .ensures .0) (p .put-field .ensures .1) (q .put-field2 .ensures .0)
+    (q .put-field2 .ensures .1)
 
 pub lay-associated-spec : {M : Type 1} → statement M
 lay-associated-spec =

@@ -49,7 +49,8 @@ lay-associated-requires c κs =
     let s = start (c .before) in
     let z = sized (c .before .before .before) in (
       laid-room (laid-none _)
-          (room-alone (s .args .edition) (s .args .digest .now) (s .args .job .now) (s .args .out .now) (z .0) (z .1) (omega (arith, c .before .before .job-field-length .ensures))),
+          (room-alone (s .args .edition) (s .args .digest .now) (s .args .job .now) (s .args .out .now) (z .0) (z .1)
+          (omega (arith, c .before .before .job-field-length .ensures))),
       z,
     )
 
@@ -65,7 +66,8 @@ returns-3 c =
     let z = sized (k .before .before) in
     associated-whole (s .args .edition) (s .args .digest .now) (s .args .job .now) (s .args .out .now) (z .0) (z .1)
     (laid-more (laid-none _)
-    (room-alone (s .args .edition) (s .args .digest .now) (s .args .job .now) (s .args .out .now) (z .0) (z .1) (omega (arith, k .before .job-field-length .ensures)))
+    (room-alone (s .args .edition) (s .args .digest .now) (s .args .job .now) (s .args .out .now) (z .0) (z .1)
+    (omega (arith, k .before .job-field-length .ensures)))
     (p .ensures .0) (p .ensures .1))
 
 pub put-associated-spec : {M : Type 1} → statement M

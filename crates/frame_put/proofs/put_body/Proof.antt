@@ -76,13 +76,15 @@ laid3 : (c : tie.After-put-field2) →
     let s = start (from3 c) in Laid (s .args .out .now) (c .put-field2 .last .0) (third s) (c .put-field2 .result)
 laid3 c =
     let r = ready (from3 c) in
-    laid-field cipherTag _ (laid2 (c .before .before .before .before)) (room-cipher r) (omega (arith, r .sized)) (c .put-field2 .ensures .0) (c .put-field2 .ensures .1)
+    laid-field cipherTag _ (laid2 (c .before .before .before .before)) (room-cipher r) (omega (arith, r .sized)) (c .put-field2 .ensures .0)
+    (c .put-field2 .ensures .1)
 
 laid4 : (c : tie.After-put-field3) →
     let s = start (from4 c) in Laid (s .args .out .now) (c .put-field3 .last .0) (fourth s) (c .put-field3 .result)
 laid4 c =
     let r = ready (from4 c) in
-    laid-field sealTag _ (laid3 (c .before .before .before .before)) (room-seal r) (omega (arith, r .sized)) (c .put-field3 .ensures .0) (c .put-field3 .ensures .1)
+    laid-field sealTag _ (laid3 (c .before .before .before .before)) (room-seal r) (omega (arith, r .sized)) (c .put-field3 .ensures .0)
+    (c .put-field3 .ensures .1)
 
 fit-requires : tie.Need-fit-requires
 fit-requires c κs = search needs
@@ -95,11 +97,21 @@ job-field-length-requires : tie.Need-job-field-length-requires
 job-field-length-requires c κs = search needs
 
 add-if2 : tie.Need-add-if2
-add-if2 c = omega (arith, c .job-field-length .ensures, job-field-most (c .before .before .before .before .before .before .before .before .before .args .edition))
+add-if2 c = omega (
+  arith,
+  c .job-field-length .ensures,
+  job-field-most
+      (c .before .before .before .before .before .before .before .before .before .args .edition),
+)
 
 add-if2-2 : tie.Need-add-if2-2
 add-if2-2 c =
-    omega (arith, c .job-field-length .ensures, job-field-most (c .before .before .before .before .before .before .before .before .before .args .edition), sized (c .before) .cipher-to)
+    omega (
+      arith,
+      c .job-field-length .ensures,
+      job-field-most (c .before .before .before .before .before .before .before .before .before .args .edition),
+      sized (c .before) .cipher-to,
+    )
 
 returns-2 : tie.Need-returns-2
 returns-2 c =

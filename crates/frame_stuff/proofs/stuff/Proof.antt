@@ -19,7 +19,8 @@ abbrev μ-loop : tie.MeasureT-loop
 
 returns : tie.Need-returns Inv-loop μ-loop
 returns c =
-    let answer = stuff-no-room (c .before .before .before .args .body .now) (c .before .before .before .args .out .now) (halved (c .if1 .taken)) in (sym (answer .0), sym (answer .1))
+    let answer = stuff-no-room (c .before .before .before .args .body .now) (c .before .before .before .args .out .now) (halved (c .if1 .taken)) in
+    (sym (answer .0), sym (answer .1))
 
 loop-holds : tie.Need-loop-holds Inv-loop μ-loop
 loop-holds c = written-none _ _ (doubled (c .if1 .left))
@@ -28,17 +29,22 @@ shared-slice-read-write-byte : tie.Need-shared-slice-read-write-byte Inv-loop μ
 shared-slice-read-write-byte c = c .before .before .loop-test .taken
 
 write-byte-requires : tie.Need-write-byte-requires Inv-loop μ-loop
-write-byte-requires c κs = has-room _ _ (doubled (c .before .before .before .before .if1 .left)) _ _ _ (c .before .before .before .loop .inv) (c .before .before .loop-test .taken)
+write-byte-requires c κs = has-room _ _ (doubled (c .before .before .before .before .if1 .left)) _ _ _ (c .before .before .before .loop .inv)
+    (c .before .before .loop-test .taken)
 
 add-i : tie.Need-add-i Inv-loop μ-loop
-add-i c = record { fits = next (c .before .before .before .before .before .loop-test .taken) (c .before .before .before .before .before .before .before .before .before .before .good .0 .0) }
+add-i c = record {
+  fits = next (c .before .before .before .before .before .loop-test .taken)
+      (c .before .before .before .before .before .before .before .before .before .before .good .0 .0);
+}
 
 loop-less : tie.Need-loop-less Inv-loop μ-loop
 loop-less c = less (c .before .before .before .before .before .loop-test .taken)
 
 loop-again : tie.Need-loop-again Inv-loop μ-loop
 loop-again c =
-    written-more _ _ (doubled (c .before .before .before .before .before .before .before .if1 .left)) _ _ _ _ _ (c .before .before .before .before .before .before .loop .inv) (c .before .before .before .before .before .loop-test .taken)
+    written-more _ _ (doubled (c .before .before .before .before .before .before .before .if1 .left)) _ _ _ _ _
+    (c .before .before .before .before .before .before .loop .inv) (c .before .before .before .before .before .loop-test .taken)
     (c .before .before .write-byte .ensures .0) (c .before .before .write-byte .ensures .1)
 
 same-length : tie.Need-same-length Inv-loop μ-loop
@@ -47,7 +53,8 @@ same-length c = written-length _ _ (doubled (c .before .before .if1 .left)) _ _ 
 returns-2 : tie.Need-returns-2 Inv-loop μ-loop
 returns-2 c =
     let done = written-all _ _ (doubled (c .before .before .if1 .left)) _ _ _ (c .before .loop .inv) (c .loop-test .left) in
-    let answer = stuff-done (c .before .before .before .before .before .args .body .now) (c .before .before .before .before .before .args .out .now) (doubled (c .before .before .if1 .left)) in
+    let answer = stuff-done (c .before .before .before .before .before .args .body .now) (c .before .before .before .before .before .args .out .now)
+    (doubled (c .before .before .if1 .left)) in
     (ap Done (done .0) ∙ sym (answer .0), done .1 ∙ sym (answer .1))
 
 pub stuff-spec : {M : Type 1} → statement M

@@ -4,7 +4,8 @@ use Prim.Native.Nat.{_-_}
 use lib.ListN.{length}
 use borrow.Author.Needs.{needs}
 use Rattle.base_lists.specs.Walk.{next, less}
-use Rattle.frame_stuff.proofs.Unstuffing.{Unwound, unwound-length, unwound-none, unwound-more, fits, fits-counted, unwound-open, unwound-all, inside, opening, plainly}
+use Rattle.frame_stuff.proofs.Unstuffing.{Unwound, unwound-length, unwound-none, unwound-more, fits, fits-counted}
+use Rattle.frame_stuff.proofs.Unstuffing.{unwound-open, unwound-all, inside, opening, plainly}
 use Rattle.frame_stuff.proofs.write_body.Statement.{statement}
 use Rattle.frame_stuff.proofs.write_body.Tie as tie
 
@@ -30,7 +31,9 @@ slice-write-out c =
 
 add-k : tie.Need-add-k Inv-loop μ-loop
 add-k c = record {
-  fits = fits-counted _ _ (c .before .before .before .before .before .before .before .pre) _ _ _ _ _ (c .before .before .before .before .loop .inv) (inside _ _ (c .before .before .before .loop-test .taken) _ (c .before .if1 .taken)) (c .before .before .before .before .before .before .before .good .1 .0 .0);
+  fits = fits-counted _ _ (c .before .before .before .before .before .before .before .pre) _ _ _ _ _ (c .before .before .before .before .loop .inv)
+      (inside _ _ (c .before .before .before .loop-test .taken) _ (c .before .if1 .taken))
+      (c .before .before .before .before .before .before .before .good .1 .0 .0);
 }
 
 add-i : tie.Need-add-i Inv-loop μ-loop
@@ -64,7 +67,9 @@ slice-write-out-2 c =
 
 add-k-2 : tie.Need-add-k-2 Inv-loop μ-loop
 add-k-2 c = record {
-  fits = fits-counted _ _ (c .before .before .before .before .before .before .before .pre) _ _ _ _ _ (c .before .before .before .before .loop .inv) (plainly _ _ (c .before .before .before .loop-test .taken) _ (c .before .if1 .left) (c .if2 .left)) (c .before .before .before .before .before .before .before .good .1 .0 .0);
+  fits = fits-counted _ _ (c .before .before .before .before .before .before .before .pre) _ _ _ _ _ (c .before .before .before .before .loop .inv)
+      (plainly _ _ (c .before .before .before .loop-test .taken) _ (c .before .if1 .left) (c .if2 .left))
+      (c .before .before .before .before .before .before .before .good .1 .0 .0);
 }
 
 add-i-3 : tie.Need-add-i-3 Inv-loop μ-loop

@@ -8,7 +8,8 @@ use borrow.Author.Needs.{needs}
 use borrow.Fn.Kinds.{In}
 use borrow.Fn.PlainCycle.{Measures, is, falls, and}
 use Rattle.frame_stuff_spec.specs.Rules.{oneMore}
-use Rattle.frame_stuff_spec.proofs.Steps.{outside-none, outside-mark, outside-escape, outside-plain, outside-within, inside-none, inside-stands, inside-bad, some, rest-less, rest-within}
+use Rattle.frame_stuff_spec.proofs.Steps.{outside-none, outside-mark, outside-escape, outside-plain, outside-within, inside-none}
+use Rattle.frame_stuff_spec.proofs.Steps.{inside-stands, inside-bad, some, rest-less, rest-within}
 use Rattle.frame_stuff_spec.proofs.length_inside.Reads as length-inside
 use Rattle.frame_stuff_spec.proofs.length_inside.Kinds as length-inside-kinds
 use Rattle.frame_stuff_spec.proofs.+length_inside+length_outside.Lts-length_inside as length-inside-lts
@@ -123,7 +124,13 @@ length-inside-length-outside-requires : (t : ℕ) → length-inside-lts.Need-len
   one-more-reads.Asked,
   one-more-reads.Learnt,
 ) (length-inside-at t) length-inside.Post
-length-inside-length-outside-requires t c κs = (rest-less (c .before .before .before .before .before .before .args .s .now) t (c .before .before .before .before .if1 .left) (c .before .before .before .before .before .before .pre .0), rest-within (c .before .before .before .before .before .before .args .s .now) (c .before .before .before .before .if1 .left) (c .before .before .before .before .before .before .pre .1))
+length-inside-length-outside-requires t c κs = (
+  rest-less (c .before .before .before .before .before .before .args .s .now) t
+      (c .before .before .before .before .if1 .left) (c .before .before .before .before .before .before .pre .0),
+  rest-within
+      (c .before .before .before .before .before .before .args .s .now) (c .before .before .before .before .if1 .left)
+      (c .before .before .before .before .before .before .pre .1),
+)
 
 length-inside-one-more-requires : (t : ℕ) → length-inside-lts.Need-one-more-requires (
   stands-reads.Asked,
@@ -133,7 +140,9 @@ length-inside-one-more-requires : (t : ℕ) → length-inside-lts.Need-one-more-
   one-more-reads.Asked,
   one-more-reads.Learnt,
 ) (length-inside-at t) length-inside.Post
-length-inside-one-more-requires t c κs = outside-within _ _ _ (c .length-outside .ensures) (rest-within (c .before .before .before .before .before .before .before .args .s .now) (c .before .before .before .before .before .if1 .left) (c .before .before .before .before .before .before .before .pre .1))
+length-inside-one-more-requires t c κs = outside-within _ _ _ (c .length-outside .ensures)
+    (rest-within (c .before .before .before .before .before .before .before .args .s .now) (c .before .before .before .before .before .if1 .left)
+    (c .before .before .before .before .before .before .before .pre .1))
 
 length-inside-returns-2 : (t : ℕ) → length-inside-lts.Need-returns-2 (
   stands-reads.Asked,
@@ -145,7 +154,8 @@ length-inside-returns-2 : (t : ℕ) → length-inside-lts.Need-returns-2 (
 ) (length-inside-at t) length-inside.Post
 length-inside-returns-2 t c =
     c .one-more .ensures ∙ ap oneMore (c .before .length-outside .ensures)
-    ∙ inside-stands _ (some (c .before .before .before .before .before .before .if1 .left)) (sym (c .before .before .before .before .stands .ensures) ∙ c .before .before .before .if2 .taken)
+    ∙ inside-stands _ (some (c .before .before .before .before .before .before .if1 .left))
+    (sym (c .before .before .before .before .stands .ensures) ∙ c .before .before .before .if2 .taken)
 
 length-inside-returns-3 : (t : ℕ) → length-inside-lts.Need-returns-3 (
   stands-reads.Asked,
@@ -226,7 +236,13 @@ length-outside-length-inside-requires : (t : ℕ) → length-outside-lts.Need-le
   one-more-reads.Asked,
   one-more-reads.Learnt,
 ) (length-outside-at t) length-outside.Post
-length-outside-length-inside-requires t c κs = (rest-less (c .before .before .before .before .before .before .args .s .now) t (c .before .before .before .before .if1 .left) (c .before .before .before .before .before .before .pre .0), rest-within (c .before .before .before .before .before .before .args .s .now) (c .before .before .before .before .if1 .left) (c .before .before .before .before .before .before .pre .1))
+length-outside-length-inside-requires t c κs = (
+  rest-less (c .before .before .before .before .before .before .args .s .now) t
+      (c .before .before .before .before .if1 .left) (c .before .before .before .before .before .before .pre .0),
+  rest-within
+      (c .before .before .before .before .before .before .args .s .now) (c .before .before .before .before .if1 .left)
+      (c .before .before .before .before .before .before .pre .1),
+)
 
 length-outside-returns-3 : (t : ℕ) → length-outside-lts.Need-returns-3 (
   length-inside-below t,
@@ -237,7 +253,8 @@ length-outside-returns-3 : (t : ℕ) → length-outside-lts.Need-returns-3 (
   one-more-reads.Learnt,
 ) (length-outside-at t) length-outside.Post
 length-outside-returns-3 t c =
-    c .length-inside .ensures ∙ outside-escape _ (some (c .before .before .before .before .before .if1 .left)) (c .before .before .before .if2 .left) (c .before .before .if3 .taken)
+    c .length-inside .ensures ∙ outside-escape _ (some (c .before .before .before .before .before .if1 .left)) (c .before .before .before .if2 .left)
+    (c .before .before .if3 .taken)
 
 length-outside-sub-length-outside : (t : ℕ) → length-outside-lts.Need-sub-length-outside (
   length-inside-below t,
@@ -278,7 +295,13 @@ length-outside-length-outside-requires : (t : ℕ) → length-outside-lts.Need-l
   one-more-reads.Asked,
   one-more-reads.Learnt,
 ) (length-outside-at t) length-outside.Post
-length-outside-length-outside-requires t c κs = (rest-less (c .before .before .before .before .before .before .args .s .now) t (c .before .before .before .before .if1 .left) (c .before .before .before .before .before .before .pre .0), rest-within (c .before .before .before .before .before .before .args .s .now) (c .before .before .before .before .if1 .left) (c .before .before .before .before .before .before .pre .1))
+length-outside-length-outside-requires t c κs = (
+  rest-less (c .before .before .before .before .before .before .args .s .now) t
+      (c .before .before .before .before .if1 .left) (c .before .before .before .before .before .before .pre .0),
+  rest-within
+      (c .before .before .before .before .before .before .args .s .now) (c .before .before .before .before .if1 .left)
+      (c .before .before .before .before .before .before .pre .1),
+)
 
 length-outside-one-more-requires : (t : ℕ) → length-outside-lts.Need-one-more-requires (
   length-inside-below t,
@@ -288,7 +311,9 @@ length-outside-one-more-requires : (t : ℕ) → length-outside-lts.Need-one-mor
   one-more-reads.Asked,
   one-more-reads.Learnt,
 ) (length-outside-at t) length-outside.Post
-length-outside-one-more-requires t c κs = outside-within _ _ _ (c .length-outside .ensures) (rest-within (c .before .before .before .before .before .before .before .args .s .now) (c .before .before .before .before .before .if1 .left) (c .before .before .before .before .before .before .before .pre .1))
+length-outside-one-more-requires t c κs = outside-within _ _ _ (c .length-outside .ensures)
+    (rest-within (c .before .before .before .before .before .before .before .args .s .now) (c .before .before .before .before .before .if1 .left)
+    (c .before .before .before .before .before .before .before .pre .1))
 
 length-outside-returns-4 : (t : ℕ) → length-outside-lts.Need-returns-4 (
   length-inside-below t,
@@ -300,7 +325,8 @@ length-outside-returns-4 : (t : ℕ) → length-outside-lts.Need-returns-4 (
 ) (length-outside-at t) length-outside.Post
 length-outside-returns-4 t c =
     c .one-more .ensures ∙ ap oneMore (c .before .length-outside .ensures)
-    ∙ outside-plain _ (some (c .before .before .before .before .before .before .if1 .left)) (c .before .before .before .before .if2 .left) (c .before .before .before .if3 .left)
+    ∙ outside-plain _ (some (c .before .before .before .before .before .before .if1 .left)) (c .before .before .before .before .if2 .left)
+    (c .before .before .before .if3 .left)
 
 pub +length-inside+length-outside-spec : {M : Type 1} → statement M
 +length-inside+length-outside-spec =

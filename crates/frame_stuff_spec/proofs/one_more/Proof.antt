@@ -13,7 +13,8 @@ enum-known-count c = search needs
 
 add-t4 : tie.Need-add-t4
 add-t4 c =
-    let h : c .before .count .given .0 .0 ≤ longestStretch = subst (AtMost longestStretch) (c .before .count .given .1) (c .before .before .before .pre) in omega arith
+    let h : c .before .count .given .0 .0 ≤ longestStretch = subst (AtMost longestStretch) (c .before .count .given .1) (c .before .before .before .pre) in
+    omega arith
 
 enum-told : tie.Need-enum-told
 enum-told c = search needs

@@ -68,7 +68,8 @@ body-is : (c : tie.After-put-body) →
     c .put-body .last .1 .1 .1 .1 .1 .1 .0 ≡ over (bodyOf (start (earlier (measured (first-part c))))) (replicate (longestBody Two) 0)
 body-is c =
     let f = first-part c in
-    body-put (start (earlier (measured f)) .pre) (replicate longest 0) _ _ (replicate (longestBody Two) 0) _ (cipher-is f) (seal-is f) (omega arith) (c .put-body .ensures .1)
+    body-put (start (earlier (measured f)) .pre) (replicate longest 0) _ _ (replicate (longestBody Two) 0) _ (cipher-is f) (seal-is f) (omega arith)
+    (c .put-body .ensures .1)
 
 slice-aggregate-put-associated : tie.Need-slice-aggregate-put-associated
 slice-aggregate-put-associated c = search needs

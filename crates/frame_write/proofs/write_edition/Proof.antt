@@ -37,10 +37,12 @@ bodyOf s = sealedBody (asked s) (own s) (s .args .line .now)
 sealable : (c : tie.Else2) → let s = start c in Sealable (asked s) (own s) (s .args .line .now)
 sealable c =
     let s = start c in
-    right-sealable _ _ _ (sym (sizes-under Neither (asked s) (own s)) ∙ sym (c .before .before .before .sizes-right .ensures) ∙ not-false _ (c .before .before .if1 .left))
+    right-sealable _ _ _ (sym (sizes-under Neither (asked s) (own s)) ∙ sym (c .before .before .before .sizes-right .ensures) ∙ not-false _
+    (c .before .before .if1 .left))
     (sym (c .before .length-right .ensures) ∙ not-false _ (c .if2 .left))
 
-accepted : (c : tie.After-enum-told4) → layoutRule (start (c .before .before .before) .args .layout) (start (c .before .before .before) .args .line .now) ≡ line-is.Accepted
+accepted : (c : tie.After-enum-told4) → layoutRule (start (c .before .before .before) .args .layout) (start (c .before .before .before) .args .line .now) ≡
+    line-is.Accepted
 accepted c = sym (c .before .before .judge-line .ensures) ∙ c .enum-told4 .given .1
 
 -- the place where the line is known to be accepted, from behind the sealing, and that where field 05 was measured
@@ -58,7 +60,8 @@ body-is : (c : tie.After-sealed-body) →
     take (besideCipher One + measured c .job-field-length .result + length (s .args .line .now) - 0) (c .sealed-body .result) ≡ bodyOf s
 body-is c =
     let s = start (passed (measured c)) in
-    scratch-holds (sealable (passed (measured c))) Neither _ _ (c .sealed-body .ensures) (besideCipher One + measured c .job-field-length .result + length (s .args .line .now))
+    scratch-holds (sealable (passed (measured c))) Neither _ _ (c .sealed-body .ensures) (besideCipher One + measured c .job-field-length .result
+    + length (s .args .line .now))
     (omega (arith, measured c .job-field-length .ensures))
 
 sizes-right-requires : tie.Need-sizes-right-requires
@@ -76,7 +79,8 @@ returns-2 : tie.Need-returns-2
 returns-2 c =
     let s = c .before .before .before .before .before .before .before .before .before .before in
     met
-    (write-too-long _ _ _ _ (sym (sizes-under Neither (asked s) (own s)) ∙ sym (c .before .before .before .sizes-right .ensures) ∙ not-false _ (c .before .before .if1 .left))
+    (write-too-long _ _ _ _ (sym (sizes-under Neither (asked s) (own s)) ∙ sym (c .before .before .before .sizes-right .ensures) ∙ not-false _
+    (c .before .before .if1 .left))
     (sym (c .before .length-right .ensures) ∙ not-true _ (c .if2 .taken)))
 
 judge-line-requires : tie.Need-judge-line-requires

@@ -51,7 +51,8 @@ tell-requires c κs = search needs
 returns : tie.Need-returns
 returns c =
     let start = c .before .before .before .before .before .before .before in
-    turned-is (start .args .n) (start .args .k) (start .args .s) _ _ _ (start .pre .0) (start .pre .1) (search needs) (array-bytes 72 (start .args .s) _ (start .good .0))
+    turned-is (start .args .n) (start .args .k) (start .args .s) _ _ _ (start .pre .0) (start .pre .1) (search needs)
+    (array-bytes 72 (start .args .s) _ (start .good .0))
     (c .before .before .before .before .weave .ensures) (c .before .before .before .permuted .ensures) (c .before .tell .ensures)
 
 pub turned-spec : {M : Type 1} → statement M

@@ -54,7 +54,8 @@ loop-again c =
     let i = before .loop .i in (
       search needs,
       undone-more (getD (leaders₀ .result) (i - 1) 0) _ _ (before .loop .inv .1) (omega arith) (leader-at (leaders₀ .ensures) k (i - 1) (omega arith))
-          (by-leader (restore table) (length-restore table) (getD (leaders₀ .result) (i - 1) 0) _ _ _ (cell-at (leaders₀ .ensures) (i - 1) (omega arith)) (search needs) (c .before .restore .ensures) (search needs))
+          (by-leader (restore table) (length-restore table) (getD (leaders₀ .result) (i - 1) 0) _ _ _ (cell-at (leaders₀ .ensures) (i - 1) (omega arith))
+          (search needs) (c .before .restore .ensures) (search needs))
           (by-width unshuffle length-unshuffle _ _ _ (search needs) (search needs) (search needs) (c .unshuffle .ensures) (search needs)),
     )
 
@@ -70,7 +71,8 @@ returns c =
     let leaders₀ = c .before .before .before .table in
     let k = c .before .before .before .before .args .k in
     undone-all (getD (leaders₀ .result) 0 0) _ (c .before .before .loop .inv .1) (omega arith) (leader-at (leaders₀ .ensures) k 0 (omega arith))
-    (by-leader (restore table) (length-restore table) (getD (leaders₀ .result) 0 0) _ _ _ (cell-at (leaders₀ .ensures) 0 (omega arith)) (search needs) (c .restore2 .ensures) (search needs))
+    (by-leader (restore table) (length-restore table) (getD (leaders₀ .result) 0 0) _ _ _ (cell-at (leaders₀ .ensures) 0 (omega arith)) (search needs)
+    (c .restore2 .ensures) (search needs))
 
 pub unturned-spec : {M : Type 1} → statement M
 unturned-spec =

@@ -45,7 +45,8 @@ returns-2 c = search needs
 permuted-around-requires : tie.Need-permuted-around-requires
 permuted-around-requires c κs =
     let start = c .before .before .before .before .before in
-    let done : judged (start .args .n) (start .args .k) ≡ Done = sym (c .before .before .before .before .judge .ensures) ∙ c .before .before .enum-told .given .1 in
+    let done : judged (start .args .n) (start .args .k) ≡ Done = sym (c .before .before .before .before .judge .ensures) ∙
+    c .before .before .enum-told .given .1 in
     let size = allowed (start .args .n) (start .args .k) done in
     (ap (λ (n : ℕ). judged n (start .args .k)) (sym (c .if2 .taken)) ∙ done, size .3, size .4)
 
@@ -70,7 +71,8 @@ returns-4 : tie.Need-returns-4
 returns-4 c =
     let start = c .before .before .before .before .before .before in
     let n = start .args .n in
-    let done : judged n (start .args .k) ≡ Done = sym (c .before .before .before .before .before .judge .ensures) ∙ c .before .before .before .enum-told .given .1 in
+    let done : judged n (start .args .k) ≡ Done = sym (c .before .before .before .before .before .judge .ensures) ∙
+    c .before .before .before .enum-told .given .1 in
     let half = wide-size n (allowed n (start .args .k) done .0) (omega (arith, c .before .before .if1 .left)) (c .before .if2 .left) in
     c .permuted-windows .ensures ∙ ap (λ (m : ℕ). permuted m (start .args .k) (start .args .t)) (half .0)
 

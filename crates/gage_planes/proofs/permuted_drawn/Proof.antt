@@ -28,7 +28,8 @@ returns : tie.Need-returns
 returns c =
     let start = c .before .before .before in
     same-states (c .cut .ensures) refl
-    ∙ one-permuted (start .args .n) (start .args .k) (start .args .t) (start .pre .0) (search needs) (c .before .ones .ensures) (c .before .before .permuted .ensures)
+    ∙ one-permuted (start .args .n) (start .args .k) (start .args .t) (start .pre .0) (search needs) (c .before .ones .ensures)
+    (c .before .before .permuted .ensures)
 
 pub permuted-drawn-spec : {M : Type 1} → statement M
 permuted-drawn-spec = tie.close (tie.spec permuted-requires ones-requires cut-requires returns)

@@ -29,7 +29,8 @@ returns c =
     let start = c .before .before .before in
     let h = start .args .h in
     c .join .ensures
-    ∙ both-permuted (h + h) (start .args .k) (start .args .t) (start .pre .0) h refl (search needs) (search needs) refl (c .before .before .split .ensures) (c .before .permuted .ensures)
+    ∙ both-permuted (h + h) (start .args .k) (start .args .t) (start .pre .0) h refl (search needs) (search needs) refl (c .before .before .split .ensures)
+    (c .before .permuted .ensures)
 
 pub permuted-windows-spec : {M : Type 1} → statement M
 permuted-windows-spec = tie.close (tie.spec split-requires permuted-requires join-requires returns)

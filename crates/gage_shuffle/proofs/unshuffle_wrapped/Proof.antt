@@ -84,10 +84,12 @@ loop-less : tie.Need-loop-less Inv-loop μ-loop
 loop-less c = less (c .before .loop-test .taken)
 
 loop-again : tie.Need-loop-again Inv-loop μ-loop
-loop-again c = unshuffle-more _ _ (search needs) (search needs) _ _ _ _ (c .before .before .before .wrapped .ensures) (c .before .before .loop .inv) (search needs) (c .give-back .ensures)
+loop-again c = unshuffle-more _ _ (search needs) (search needs) _ _ _ _ (c .before .before .before .wrapped .ensures) (c .before .before .loop .inv)
+    (search needs) (c .give-back .ensures)
 
 returns : tie.Need-returns Inv-loop μ-loop
-returns c = unshuffle-all (c .before .before .before .args .s) (c .before .before .before .args .n) (search needs) (search needs) _ _ (c .before .loop .inv) (search needs)
+returns c = unshuffle-all (c .before .before .before .args .s) (c .before .before .before .args .n) (search needs) (search needs) _ _ (c .before .loop .inv)
+    (search needs)
 
 pub unshuffle-wrapped-spec : {M : Type 1} → statement M
 unshuffle-wrapped-spec =

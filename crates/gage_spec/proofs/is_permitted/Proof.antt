@@ -35,7 +35,11 @@ loop-less : tie.Need-loop-less Inv-loop μ-loop
 loop-less c = search needs
 
 loop-again : tie.Need-loop-again Inv-loop μ-loop
-loop-again c = (search needs, among-next (c .before .before .before .args .n) sizes (c .before .before .loop .i) (c .before .before .loop .inv .1) (search needs) (c .if1 .left))
+loop-again c = (
+  search needs,
+  among-next (c .before .before .before .args .n) sizes (c .before .before .loop .i) (c .before .before .loop .inv .1)
+      (search needs) (c .if1 .left),
+)
 
 returns-2 : tie.Need-returns-2 Inv-loop μ-loop
 unfolding permitted

@@ -31,7 +31,8 @@ returns c =
     let block = start .args .block .now in
     let weave = c .before .before .before .weave .ensures in
     let small = below-all 256 block (λ k h. omega (arith, c .before .before .before .before .shared-slice-known .given k)) in
-    let is = same-states (c .before .before .xor-planes .ensures ∙ ap (λ (w : State). xorPlanes (w .low) (t .low)) weave) (ap (λ (w : State). bitXor (w .rest) (t .rest)) weave) in
+    let is = same-states (c .before .before .xor-planes .ensures ∙ ap (λ (w : State). xorPlanes (w .low) (t .low)) weave)
+    (ap (λ (w : State). bitXor (w .rest) (t .rest)) weave) in
     (is, mixed-in block t _ small is)
 
 pub mix-spec : {M : Type 1} → statement M

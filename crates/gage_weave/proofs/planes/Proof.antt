@@ -58,8 +58,12 @@ drawn-requires c κs = search needs
 -- src/lib.rt:127:5
 loop-holds : tie.Need-loop-holds Inv-loop μ-loop
 loop-holds c =
-    let start = c .before .before .before .before .before .before in
-    (search needs, search needs, planes-last (start .args .s .now) _ _ _ _ (c .before .before .before .before .least .ensures) refl (c .before .before .word-of .ensures) (c .before .woven .ensures) (c .drawn .ensures))
+    let start = c .before .before .before .before .before .before in (
+      search needs,
+      search needs,
+      planes-last (start .args .s .now) _ _ _ _ (c .before .before .before .before .least .ensures) refl
+          (c .before .before .word-of .ensures) (c .before .woven .ensures) (c .drawn .ensures),
+    )
 
 -- src/lib.rt:128:9
 sub-i : tie.Need-sub-i Inv-loop μ-loop

@@ -53,7 +53,8 @@ returns-2 : tie.Need-returns-2
 returns-2 c =
     let start = c .before .before .before .before .before .before in
     let s = start .args .s .now in
-    c .woven .ensures ∙ ap woven (c .before .word-of .ensures ∙ ap joined (take-least s _ (c .before .before .before .least .ensures) (omega (arith, c .before .before .before .before .if1 .left))))
+    c .woven .ensures ∙ ap woven (c .before .word-of .ensures ∙ ap joined (take-least s _ (c .before .before .before .least .ensures)
+    (omega (arith, c .before .before .before .before .if1 .left))))
     ∙ rest-woven (take (ROOM - LOW) (drop LOW s))
 
 pub rest-spec : {M : Type 1} → statement M

@@ -28,7 +28,9 @@ next-entry-requires : tie.Need-next-entry-requires Inv-loop μ-loop
 next-entry-requires c κs =
     let a = c .before .before .before .before .before .before .args in
     let l = c .before .loop in
-    ahead (told (a .key .now) (a .font .now) (a .layout)) (a .editions) (a .stream .now) (a .from) (a .n) (c .before .before .before .before .before .before .pre .0) (a .table .now) (a .count) (l .table) (l .at) (l .i) (l .inv (c .before .before .before .before .before .before .pre .0)) (c .loop-test .taken)
+    ahead (told (a .key .now) (a .font .now) (a .layout)) (a .editions) (a .stream .now) (a .from) (a .n)
+    (c .before .before .before .before .before .before .pre .0) (a .table .now) (a .count) (l .table) (l .at) (l .i)
+    (l .inv (c .before .before .before .before .before .before .pre .0)) (c .loop-test .taken)
 
 add-table : tie.Need-add-table Inv-loop μ-loop
 add-table c = search needs
@@ -40,7 +42,16 @@ slice-write-table : tie.Need-slice-write-table Inv-loop μ-loop
 slice-write-table c =
     let a = c .before .before .before .before .before .before .before .args in
     let l = c .before .before .loop in
-    omega (arith, c .before .loop-test .taken, c .before .before .before .before .before .before .before .pre .1, walked-length (told (a .key .now) (a .font .now) (a .layout)) (a .editions) (a .stream .now) (a .from) (a .n) (c .before .before .before .before .before .before .before .pre .0) (a .table .now) (a .count) (c .before .before .before .before .before .before .before .pre .1) (l .table) (l .at) (l .i) (l .inv (c .before .before .before .before .before .before .before .pre .0)))
+    omega (
+      arith,
+      c .before .loop-test .taken,
+      c .before .before .before .before .before .before .before .pre .1,
+      walked-length
+          (told (a .key .now) (a .font .now) (a .layout)) (a .editions) (a .stream .now) (a .from) (a .n)
+          (c .before .before .before .before .before .before .before .pre .0) (a .table .now) (a .count)
+          (c .before .before .before .before .before .before .before .pre .1) (l .table) (l .at) (l .i)
+          (l .inv (c .before .before .before .before .before .before .before .pre .0)),
+    )
 
 add-i : tie.Need-add-i Inv-loop μ-loop
 add-i c = search needs
@@ -52,19 +63,25 @@ loop-again : tie.Need-loop-again Inv-loop μ-loop
 loop-again c =
     let a = c .before .before .before .before .before .before .before .args in
     let l = c .before .before .loop in
-    λ k. rw (c .next-entry .ensures) (walked-more (told (a .key .now) (a .font .now) (a .layout)) (a .editions) (a .stream .now) (a .from) (a .n) k (a .table .now) (a .count) (l .table) (l .at) (l .i) (l .inv k) (c .before .loop-test .taken) (c .before .before .before .before .before .before .before .pre .1))
+    λ k. rw (c .next-entry .ensures) (walked-more (told (a .key .now) (a .font .now) (a .layout)) (a .editions) (a .stream .now) (a .from) (a .n) k
+    (a .table .now) (a .count) (l .table) (l .at) (l .i) (l .inv k) (c .before .loop-test .taken)
+    (c .before .before .before .before .before .before .before .pre .1))
 
 same-length : tie.Need-same-length Inv-loop μ-loop
 same-length c =
     let a = c .before .before .before .before .before .before .args in
     let l = c .before .loop in
-    walked-length (told (a .key .now) (a .font .now) (a .layout)) (a .editions) (a .stream .now) (a .from) (a .n) (c .before .before .before .before .before .before .pre .0) (a .table .now) (a .count) (c .before .before .before .before .before .before .pre .1) (l .table) (l .at) (l .i) (l .inv (c .before .before .before .before .before .before .pre .0))
+    walked-length (told (a .key .now) (a .font .now) (a .layout)) (a .editions) (a .stream .now) (a .from) (a .n)
+    (c .before .before .before .before .before .before .pre .0) (a .table .now) (a .count) (c .before .before .before .before .before .before .pre .1)
+    (l .table) (l .at) (l .i) (l .inv (c .before .before .before .before .before .before .pre .0))
 
 returns : tie.Need-returns Inv-loop μ-loop
 returns c =
     let a = c .before .before .before .before .before .before .args in
     let l = c .before .loop in
-    walked-all (told (a .key .now) (a .font .now) (a .layout)) (a .editions) (a .stream .now) (a .from) (a .n) (c .before .before .before .before .before .before .pre .0) (a .table .now) (a .count) (c .before .before .before .before .before .before .pre .1) (l .table) (l .at) (l .i) (l .inv (c .before .before .before .before .before .before .pre .0)) (omega (arith, c .loop-test .left))
+    walked-all (told (a .key .now) (a .font .now) (a .layout)) (a .editions) (a .stream .now) (a .from) (a .n)
+    (c .before .before .before .before .before .before .pre .0) (a .table .now) (a .count) (c .before .before .before .before .before .before .pre .1)
+    (l .table) (l .at) (l .i) (l .inv (c .before .before .before .before .before .before .pre .0)) (omega (arith, c .loop-test .left))
 
 pub add-spec : {M : Type 1} → statement M
 add-spec =

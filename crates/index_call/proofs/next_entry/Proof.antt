@@ -18,12 +18,20 @@ read-requires c κs = search needs
 cast-t13 : tie.Need-cast-t13
 cast-t13 c =
     let a = c .before .before .before .before .before .before .before .args in
-    omega (arith, first-below (a .key .now) (a .font .now) (a .layout) (a .editions) (a .stream .now) (a .from) (c .before .before .before .before .before .before .before .pre) (c .before .before .read .result) (c .before .before .read .ensures .0))
+    omega (
+      arith,
+      first-below (a .key .now) (a .font .now) (a .layout) (a .editions) (a .stream .now) (a .from)
+          (c .before .before .before .before .before .before .before .pre) (c .before .before .read .result) (c .before .before .read .ensures .0),
+    )
 
 mul-t14 : tie.Need-mul-t14
 mul-t14 c =
     let a = c .before .before .before .before .before .before .before .args in
-    omega (arith, first-below (a .key .now) (a .font .now) (a .layout) (a .editions) (a .stream .now) (a .from) (c .before .before .before .before .before .before .before .pre) (c .before .before .read .result) (c .before .before .read .ensures .0))
+    omega (
+      arith,
+      first-below (a .key .now) (a .font .now) (a .layout) (a .editions) (a .stream .now) (a .from)
+          (c .before .before .before .before .before .before .before .pre) (c .before .before .read .result) (c .before .before .read .ensures .0),
+    )
 
 read-number-requires : tie.Need-read-number-requires
 read-number-requires c κs = search needs
@@ -31,12 +39,23 @@ read-number-requires c κs = search needs
 add-t16 : tie.Need-add-t16
 add-t16 c =
     let a = c .before .before .before .before .before .before .before .before .args in
-    omega (arith, c .read-number .ensures, first-below (a .key .now) (a .font .now) (a .layout) (a .editions) (a .stream .now) (a .from) (c .before .before .before .before .before .before .before .before .pre) (c .before .before .before .read .result) (c .before .before .before .read .ensures .0), number-small (a .key .now) (a .font .now) (a .layout) (a .editions) (a .stream .now) (a .from) (c .before .before .before .before .before .before .before .before .pre) (c .before .before .before .read .result) (c .before .before .before .read .ensures .0))
+    omega (
+      arith,
+      c .read-number .ensures,
+      first-below (a .key .now) (a .font .now) (a .layout) (a .editions) (a .stream .now) (a .from)
+          (c .before .before .before .before .before .before .before .before .pre) (c .before .before .before .read .result)
+          (c .before .before .before .read .ensures .0),
+      number-small (a .key .now) (a .font .now) (a .layout) (a .editions) (a .stream .now) (a .from)
+          (c .before .before .before .before .before .before .before .before .pre) (c .before .before .before .read .result)
+          (c .before .before .before .read .ensures .0),
+    )
 
 returns : tie.Need-returns
 returns c =
     let a = c .before .before .before .before .before .before .before .before .args in
-    next-is (a .key .now) (a .font .now) (a .layout) (a .editions) (a .stream .now) (a .from) (c .before .before .before .before .before .before .before .before .pre) (c .before .before .before .read .result) (c .before .before .before .read .ensures .0) (c .read-number .result) (c .read-number .ensures)
+    next-is (a .key .now) (a .font .now) (a .layout) (a .editions) (a .stream .now) (a .from)
+    (c .before .before .before .before .before .before .before .before .pre) (c .before .before .before .read .result)
+    (c .before .before .before .read .ensures .0) (c .read-number .result) (c .read-number .ensures)
 
 pub next-entry-spec : {M : Type 1} → statement M
 next-entry-spec =

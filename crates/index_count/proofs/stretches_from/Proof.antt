@@ -29,7 +29,8 @@ returns : tie.Need-returns Inv-loop μ-loop
 returns c =
     let a = c .before .before .before .before .before .before .args in
     let l = c .before .before .before .before .loop in
-    counting-last (a .stream .now) (a .from) (l .n) (l .at) (l .inv) (c .before .before .next-span .result) (c .before .before .next-span .ensures) (c .if1 .taken)
+    counting-last (a .stream .now) (a .from) (l .n) (l .at) (l .inv) (c .before .before .next-span .result) (c .before .before .next-span .ensures)
+    (c .if1 .taken)
 
 add-n : tie.Need-add-n Inv-loop μ-loop
 add-n c =
@@ -40,13 +41,19 @@ loop-less : tie.Need-loop-less Inv-loop μ-loop
 loop-less c =
     let a = c .before .before .before .before .before .before .args in
     let l = c .before .before .before .before .loop in
-    omega (arith, c .before .before .before .loop-test .taken, counting-on (a .stream .now) (a .from) (l .n) (l .at) (l .inv) (c .before .before .next-span .result) (c .before .before .next-span .ensures) (c .if1 .left))
+    omega (
+      arith,
+      c .before .before .before .loop-test .taken,
+      counting-on (a .stream .now) (a .from) (l .n) (l .at) (l .inv)
+          (c .before .before .next-span .result) (c .before .before .next-span .ensures) (c .if1 .left),
+    )
 
 loop-again : tie.Need-loop-again Inv-loop μ-loop
 loop-again c =
     let a = c .before .before .before .before .before .before .args in
     let l = c .before .before .before .before .loop in
-    counting-more (a .stream .now) (a .from) (l .n) (l .at) (l .inv) (c .before .before .next-span .result) (c .before .before .next-span .ensures) (c .if1 .left)
+    counting-more (a .stream .now) (a .from) (l .n) (l .at) (l .inv) (c .before .before .next-span .result) (c .before .before .next-span .ensures)
+    (c .if1 .left)
 
 returns-2 : tie.Need-returns-2 Inv-loop μ-loop
 returns-2 c =

@@ -39,7 +39,11 @@ returns-2 : tie.Need-returns-2
 returns-2 c =
     let a = c .before .before .before .before .before .before .args in
     rw (c .place-of .ensures, c .before .number-of .ensures)
-    (an-entry (a .table .now) (a .count) (a .index) (omega (arith, c .before .before .before .if1 .left, c .before .before .before .before .looked-at .ensures)))
+    (an-entry (a .table .now) (a .count) (a .index) (omega (
+      arith,
+      c .before .before .before .if1 .left,
+      c .before .before .before .before .looked-at .ensures,
+    )))
 
 pub entry-at-spec : {M : Type 1} → statement M
 entry-at-spec =

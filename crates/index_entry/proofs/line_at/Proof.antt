@@ -55,7 +55,13 @@ number-of-requires c κs = search needs
 cast-t14 : tie.Need-cast-t14 Inv-loop μ-loop
 cast-t14 c =
     let a = c .before .before .before .before .before .before .before .before .before .args in
-    omega (arith, c .before .before .before .before .loop-test .taken, c .before .before .before .before .before .before .looked-at .ensures, seen-below (a .table .now) (a .count))
+    omega (
+      arith,
+      c .before .before .before .before .loop-test .taken,
+      c .before .before .before .before .before .before .looked-at .ensures,
+      seen-below
+          (a .table .now) (a .count),
+    )
 
 place-of-requires : tie.Need-place-of-requires Inv-loop μ-loop
 place-of-requires c κs = search needs
@@ -64,8 +70,10 @@ returns-2 : tie.Need-returns-2 Inv-loop μ-loop
 returns-2 c =
     let a = c .before .before .before .before .before .before .before .before .before .before .args in
     let l = c .before .before .before .before .before .before .loop in
-    let h = rw (c .before .before .before .before .before .before .before .looked-at .ensures) at (c .before .before .before .before .before .loop-test .taken) in
-    rw (c .place-of .ensures) (passed-here (a .table .now) (a .count) (a .k) (l .i) (l .left) (l .inv) h (rw (c .before .before .before .number-of .ensures) at (c .before .before .if2 .taken)) (c .before .if3 .taken))
+    let h = rw (c .before .before .before .before .before .before .before .looked-at .ensures) at
+    (c .before .before .before .before .before .loop-test .taken) in
+    rw (c .place-of .ensures) (passed-here (a .table .now) (a .count) (a .k) (l .i) (l .left) (l .inv) h
+    (rw (c .before .before .before .number-of .ensures) at (c .before .before .if2 .taken)) (c .before .if3 .taken))
 
 sub-left-2 : tie.Need-sub-left-2 Inv-loop μ-loop
 sub-left-2 c = omega (arith, c .if3 .left)
@@ -73,7 +81,13 @@ sub-left-2 c = omega (arith, c .if3 .left)
 add-i : tie.Need-add-i Inv-loop μ-loop
 add-i c =
     let a = c .before .before .before .before .before .before .before .before .before .args in
-    omega (arith, c .before .before .before .before .loop-test .taken, c .before .before .before .before .before .before .looked-at .ensures, seen-below (a .table .now) (a .count))
+    omega (
+      arith,
+      c .before .before .before .before .loop-test .taken,
+      c .before .before .before .before .before .before .looked-at .ensures,
+      seen-below
+          (a .table .now) (a .count),
+    )
 
 loop-less : tie.Need-loop-less Inv-loop μ-loop
 loop-less c = omega (arith, c .before .before .before .before .loop-test .taken)
@@ -83,12 +97,19 @@ loop-again c =
     let a = c .before .before .before .before .before .before .before .before .before .args in
     let l = c .before .before .before .before .before .loop in
     let h = rw (c .before .before .before .before .before .before .looked-at .ensures) at (c .before .before .before .before .loop-test .taken) in
-    passed-line (a .table .now) (a .count) (a .k) (l .i) (l .left) (l .inv) h (rw (c .before .before .number-of .ensures) at (c .before .if2 .taken)) (omega (arith, c .if3 .left))
+    passed-line (a .table .now) (a .count) (a .k) (l .i) (l .left) (l .inv) h (rw (c .before .before .number-of .ensures) at (c .before .if2 .taken))
+    (omega (arith, c .if3 .left))
 
 add-i-2 : tie.Need-add-i-2 Inv-loop μ-loop
 add-i-2 c =
     let a = c .before .before .before .before .before .before .before .before .args in
-    omega (arith, c .before .before .before .loop-test .taken, c .before .before .before .before .before .looked-at .ensures, seen-below (a .table .now) (a .count))
+    omega (
+      arith,
+      c .before .before .before .loop-test .taken,
+      c .before .before .before .before .before .looked-at .ensures,
+      seen-below (a .table .now)
+          (a .count),
+    )
 
 loop-less-2 : tie.Need-loop-less-2 Inv-loop μ-loop
 loop-less-2 c = omega (arith, c .before .before .before .loop-test .taken)
@@ -107,7 +128,8 @@ returns-3 : tie.Need-returns-3 Inv-loop μ-loop
 returns-3 c =
     let a = c .before .before .before .before .before .before .args in
     let l = c .before .before .loop in
-    c .no-line2 .ensures ∙ passed-all (a .table .now) (a .count) (a .k) (l .i) (l .left) (l .inv) (rw (c .before .before .before .looked-at .ensures) at (c .before .loop-test .left))
+    c .no-line2 .ensures ∙ passed-all (a .table .now) (a .count) (a .k) (l .i) (l .left) (l .inv)
+    (rw (c .before .before .before .looked-at .ensures) at (c .before .loop-test .left))
 
 pub line-at-spec : {M : Type 1} → statement M
 line-at-spec =

@@ -29,7 +29,8 @@ is-too-long-requires c κs = tt
 returns-2 : tie.Need-returns-2
 unfolding callsOf
 returns-2 c =
-    let l : tooLong (c .before .before .before .args .assoc) (c .before .before .before .args .text) ≡ true = sym (c .before .is-too-long .ensures) ∙ c .if2 .taken in
+    let l : tooLong (c .before .before .before .args .assoc) (c .before .before .before .args .text) ≡ true = sym (c .before .is-too-long .ensures) ∙
+    c .if2 .taken in
     rw (le-ltb _ _ (c .before .before .if1 .left), l)
 
 div-result : tie.Need-div-result
@@ -56,7 +57,8 @@ add-result-5 c = let f = few c in omega arith
 returns-3 : tie.Need-returns-3
 unfolding callsOf
 returns-3 c =
-    let l : tooLong (c .before .before .before .args .assoc) (c .before .before .before .args .text) ≡ false = sym (c .before .is-too-long .ensures) ∙ c .if2 .left in
+    let l : tooLong (c .before .before .before .args .assoc) (c .before .before .before .args .text) ≡ false = sym (c .before .is-too-long .ensures) ∙
+    c .if2 .left in
     rw (le-ltb _ _ (c .before .before .if1 .left), l)
 
 pub calls-spec : {M : Type 1} → statement M

@@ -1,7 +1,8 @@
 -- `open` meets its promise: each return by its law, the refusals in their order, and the work step after step. Assumes nothing.
 use Rattle.ingage_spec.specs.declared.Instance.{Instance}
 use Rattle.ingage_spec.specs.Instances.{Fitting, named}
-use Rattle.ingage_call.proofs.Calls.{within, fits-known, held-in, open-met, open-unknown, open-known, open-sizes, open-long, open-room, open-done, open-wrong}
+use Rattle.ingage_call.proofs.Calls.{within, fits-known, held-in, open-met, open-unknown, open-known}
+use Rattle.ingage_call.proofs.Calls.{open-sizes, open-long, open-room, open-done, open-wrong}
 use Rattle.ingage_answers.specs.Answers.{OpenCall, openCall, openNamed}
 use Rattle.ingage_answers.specs.Exactly.{Within}
 use borrow.Author.Needs.{needs}
@@ -21,16 +22,23 @@ fits : (k : tie.After-known-told) → Fitting (z-of k)
 fits k = fits-known (begins k .args .instance) (k .before .before .before .sizes-of .ensures) (k .before .z .given .1)
 
 -- what the call at that instance is, the call with its number is
-known : (k : tie.After-known-told) {x : OpenCall} → openCall (z-of k) (begins k .args .key .now) (begins k .args .nonce .now) (begins k .args .assoc .now) (begins k .args .cipher .now) (begins k .args .seal .now) (begins k .args .out .now) ≡ x
-    → openNamed (named (begins k .args .instance)) (begins k .args .key .now) (begins k .args .nonce .now) (begins k .args .assoc .now) (begins k .args .cipher .now) (begins k .args .seal .now) (begins k .args .out .now) ≡ x
-known k h = open-known (begins k .args .instance) (k .before .before .before .sizes-of .ensures) (begins k .args .key .now) (begins k .args .nonce .now) (begins k .args .assoc .now) (begins k .args .cipher .now) (begins k .args .out .now) (begins k .args .seal .now) (k .before .z .given .1) h
+known : (k : tie.After-known-told) {x : OpenCall} → openCall (z-of k) (begins k .args .key .now) (begins k .args .nonce .now) (begins k .args .assoc .now)
+    (begins k .args .cipher .now) (begins k .args .seal .now) (begins k .args .out .now) ≡ x
+    → openNamed (named (begins k .args .instance)) (begins k .args .key .now) (begins k .args .nonce .now) (begins k .args .assoc .now)
+    (begins k .args .cipher .now) (begins k .args .seal .now) (begins k .args .out .now) ≡ x
+known k h = open-known (begins k .args .instance) (k .before .before .before .sizes-of .ensures) (begins k .args .key .now) (begins k .args .nonce .now)
+    (begins k .args .assoc .now) (begins k .args .cipher .now) (begins k .args .out .now) (begins k .args .seal .now) (k .before .z .given .1) h
 
 -- past the refusals: within the sizes and with room
 abbrev told : tie.Else3 → tie.After-known-told
 told c = c .before .before .before .before .before
 
-inside : (c : tie.Else3) → Within (z-of (told c)) (begins (told c) .args .key .now) (begins (told c) .args .nonce .now) (begins (told c) .args .assoc .now) (begins (told c) .args .cipher .now) (begins (told c) .args .seal .now) (begins (told c) .args .out .now)
-inside c = within (z-of (told c)) (begins (told c) .args .key .now) (begins (told c) .args .nonce .now) (begins (told c) .args .assoc .now) (begins (told c) .args .cipher .now) (begins (told c) .args .out .now) (begins (told c) .args .seal .now) (sym (c .before .before .before .before .is-sized .ensures) ∙ not-false _ (c .before .before .before .if1 .left)) (sym (c .before .before .is-too-long .ensures) ∙ c .before .if2 .left) (c .if3 .left)
+inside : (c : tie.Else3) → Within (z-of (told c)) (begins (told c) .args .key .now) (begins (told c) .args .nonce .now) (begins (told c) .args .assoc .now)
+    (begins (told c) .args .cipher .now) (begins (told c) .args .seal .now) (begins (told c) .args .out .now)
+inside c = within (z-of (told c)) (begins (told c) .args .key .now) (begins (told c) .args .nonce .now) (begins (told c) .args .assoc .now)
+    (begins (told c) .args .cipher .now) (begins (told c) .args .out .now) (begins (told c) .args .seal .now)
+    (sym (c .before .before .before .before .is-sized .ensures) ∙ not-false _ (c .before .before .before .if1 .left))
+    (sym (c .before .before .is-too-long .ensures) ∙ c .before .if2 .left) (c .if3 .left)
 
 sizes-of-requires : tie.Need-sizes-of-requires
 sizes-of-requires c κs = tt
@@ -42,7 +50,13 @@ enum-told : tie.Need-enum-told
 enum-told c = search needs
 
 returns : tie.Need-returns
-returns c = open-met (open-unknown (c .before .before .before .before .before .before .before .before .before .args .instance) (c .before .before .sizes-of .ensures) (c .before .before .before .before .before .before .before .before .before .args .key .now) (c .before .before .before .before .before .before .before .before .before .args .nonce .now) (c .before .before .before .before .before .before .before .before .before .args .assoc .now) (c .before .before .before .before .before .before .before .before .before .args .cipher .now) (c .before .before .before .before .before .before .before .before .before .args .out .now) (c .before .before .before .before .before .before .before .before .before .args .seal .now) (c .enum-told .given .1))
+returns c = open-met (open-unknown (c .before .before .before .before .before .before .before .before .before .args .instance)
+    (c .before .before .sizes-of .ensures) (c .before .before .before .before .before .before .before .before .before .args .key .now)
+    (c .before .before .before .before .before .before .before .before .before .args .nonce .now)
+    (c .before .before .before .before .before .before .before .before .before .args .assoc .now)
+    (c .before .before .before .before .before .before .before .before .before .args .cipher .now)
+    (c .before .before .before .before .before .before .before .before .before .args .out .now)
+    (c .before .before .before .before .before .before .before .before .before .args .seal .now) (c .enum-told .given .1))
 
 is-sized-requires : tie.Need-is-sized-requires
 is-sized-requires c κs = tt
@@ -54,10 +68,12 @@ is-too-long-requires : tie.Need-is-too-long-requires
 is-too-long-requires c κs = tt
 
 returns-3 : tie.Need-returns-3
-returns-3 c = open-met (known (c .before .before .before .before) (open-long _ _ _ _ _ _ _ (sym (c .before .before .before .is-sized .ensures) ∙ not-false _ (c .before .before .if1 .left)) (sym (c .before .is-too-long .ensures) ∙ c .if2 .taken)))
+returns-3 c = open-met (known (c .before .before .before .before) (open-long _ _ _ _ _ _ _ (sym (c .before .before .before .is-sized .ensures) ∙ not-false _
+    (c .before .before .if1 .left)) (sym (c .before .is-too-long .ensures) ∙ c .if2 .taken)))
 
 returns-4 : tie.Need-returns-4
-returns-4 c = open-met (known (c .before .before .before .before .before) (open-room _ _ _ _ _ _ _ (sym (c .before .before .before .before .is-sized .ensures) ∙ not-false _ (c .before .before .before .if1 .left)) (sym (c .before .before .is-too-long .ensures) ∙ c .before .if2 .left) (c .if3 .taken)))
+returns-4 c = open-met (known (c .before .before .before .before .before) (open-room _ _ _ _ _ _ _ (sym (c .before .before .before .before .is-sized .ensures)
+    ∙ not-false _ (c .before .before .before .if1 .left)) (sym (c .before .before .is-too-long .ensures) ∙ c .before .if2 .left) (c .if3 .taken)))
 
 calls-requires : tie.Need-calls-requires
 calls-requires c κs = tt
@@ -75,7 +91,8 @@ slice-aggregate-seal-of : tie.Need-slice-aggregate-seal-of
 slice-aggregate-seal-of c = sym (c .before .finish .ok .1 .0 .1)
 
 seal-of-requires : tie.Need-seal-of-requires
-seal-of-requires c κs = let k = c .before .before .before .before .before .before .before .before .before .before .before .before .before in (fits k, held-in (z-of k) (c .before .finish .result) (fits k) (c .before .finish .ok .1 .0 .1))
+seal-of-requires c κs = let k = c .before .before .before .before .before .before .before .before .before .before .before .before .before in
+    (fits k, held-in (z-of k) (c .before .finish .result) (fits k) (c .before .finish .ok .1 .0 .1))
 
 compare-requires : tie.Need-compare-requires
 compare-requires c κs = tt
@@ -88,13 +105,19 @@ same-length c = c .before .out2 .given ∙ c .before .before .before .before .be
 
 returns-5 : tie.Need-returns-5
 returns-5 c =
-    let k = c .before .before .before .before .before .before .before .before .before .before .before .before .before .before .before .before .before .before .before .before in
+    let k = c .before .before .before .before .before .before .before .before .before .before .before .before .before .before .before .before .before .before
+    .before .before in
     let e = c .before .before .before .before .before .before .before .before .before .before .before .before .before .before .before in
     let b = c .before .before .before .before .before .before .before .before .before .before .before .before .before in
     let t = c .before .before .before .before .before .before .before .before .before .before .before in
     let f = c .before .before .before .before .before .before .before .before in
     let n = c .before .before .before .before .before .before .before .before .before .before .before .before .before .before in
-    open-met (known k (open-wrong (z-of k) (fits k) (begins k .args .key .now) (begins k .args .nonce .now) (begins k .args .assoc .now) (begins k .args .cipher .now) (begins k .args .seal .now) (begins k .args .out .now) (inside e) (b .begin .result) (b .begin .ensures) (t .pass .result) (f .finish .result) _ _ (n .calls .result) (t .pass .ensures .0) (t .pass .ensures .1) (f .finish .ensures) (c .before .before .before .before .before .before .seal-of .ensures) (n .calls .ensures) _ (sym (c .before .before .before .before .before .compare .ensures) ∙ not-true _ (c .before .before .before .before .if4 .taken)) (c .before .before .clear .ensures)))
+    open-met (known k (open-wrong (z-of k) (fits k) (begins k .args .key .now) (begins k .args .nonce .now) (begins k .args .assoc .now)
+    (begins k .args .cipher .now) (begins k .args .seal .now) (begins k .args .out .now) (inside e) (b .begin .result) (b .begin .ensures)
+    (t .pass .result) (f .finish .result) _ _ (n .calls .result) (t .pass .ensures .0) (t .pass .ensures .1) (f .finish .ensures)
+    (c .before .before .before .before .before .before .seal-of .ensures) (n .calls .ensures) _
+    (sym (c .before .before .before .before .before .compare .ensures) ∙ not-true _ (c .before .before .before .before .if4 .taken))
+    (c .before .before .clear .ensures)))
 
 same-length-2 : tie.Need-same-length-2
 same-length-2 c = c .before .before .before .before .before .before .out .given
@@ -107,7 +130,10 @@ returns-6 c =
     let t = c .before .before .before .before .before .before .before in
     let f = c .before .before .before .before in
     let n = c .before .before .before .before .before .before .before .before .before .before in
-    open-met (known k (open-done (z-of k) (fits k) (begins k .args .key .now) (begins k .args .nonce .now) (begins k .args .assoc .now) (begins k .args .cipher .now) (begins k .args .seal .now) (begins k .args .out .now) (inside e) (b .begin .result) (b .begin .ensures) (t .pass .result) (f .finish .result) _ _ (n .calls .result) (t .pass .ensures .0) (t .pass .ensures .1) (f .finish .ensures) (c .before .before .seal-of .ensures) (n .calls .ensures) (sym (c .before .compare .ensures) ∙ not-false _ (c .if4 .left))))
+    open-met (known k (open-done (z-of k) (fits k) (begins k .args .key .now) (begins k .args .nonce .now) (begins k .args .assoc .now)
+    (begins k .args .cipher .now) (begins k .args .seal .now) (begins k .args .out .now) (inside e) (b .begin .result) (b .begin .ensures)
+    (t .pass .result) (f .finish .result) _ _ (n .calls .result) (t .pass .ensures .0) (t .pass .ensures .1) (f .finish .ensures)
+    (c .before .before .seal-of .ensures) (n .calls .ensures) (sym (c .before .compare .ensures) ∙ not-false _ (c .if4 .left))))
 
 pub open-spec : {M : Type 1} → statement M
 open-spec =

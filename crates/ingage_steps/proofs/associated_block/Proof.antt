@@ -39,7 +39,11 @@ array-write-m c = search needs
 
 returns-3 : tie.Need-returns-3
 unfolding markedOf lastOf
-returns-3 c = rw (lt-ltb _ _ (c .before .if1 .left), le-ltb (c .before .before .before .before .args .rate) 1 (omega arith), c .before .before .last-block .ensures)
+returns-3 c = rw (
+  lt-ltb _ _ (c .before .if1 .left),
+  le-ltb (c .before .before .before .before .args .rate) 1 (omega arith),
+  c .before .before .last-block .ensures,
+)
 
 pub associated-block-spec : {M : Type 1} → statement M
 associated-block-spec =

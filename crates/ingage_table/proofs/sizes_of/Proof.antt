@@ -38,7 +38,11 @@ array-read-t32 c = search needs
 
 returns-3 : tie.Need-returns-3
 unfolding named unknown instanceOf
-returns-3 c = rw (le-ltb (c .before .before .before .args .instance) 1 (c .before .before .if1 .left), le-ltb 6 (c .before .before .before .args .instance) (c .before .if2 .left))
+returns-3 c = rw (
+  le-ltb (c .before .before .before .args .instance) 1 (c .before .before .if1 .left),
+  le-ltb 6 (c .before .before .before .args .instance)
+      (c .before .if2 .left),
+)
 
 pub sizes-of-spec : {M : Type 1} → statement M
 sizes-of-spec =

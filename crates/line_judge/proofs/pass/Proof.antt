@@ -23,7 +23,8 @@ returns-2 : tie.Need-returns-2
 returns-2 c = c .at-digit .ensures ∙ at-digit _ _ (omega arith) (omega arith)
 
 returns-3 : tie.Need-returns-3
-returns-3 c = c .at-other .ensures ∙ at-other _ _ (c .before .before .match .rest .1) (⊎-elim (λ h l g. omega (arith, h)) (λ h l g. omega (arith, h)) (c .before .if1 .came))
+returns-3 c = c .at-other .ensures ∙ at-other _ _ (c .before .before .match .rest .1) (⊎-elim (λ h l g. omega (arith, h)) (λ h l g. omega (arith, h))
+    (c .before .if1 .came))
 
 pub pass-spec : {M : Type 1} → statement M
 pass-spec =

@@ -36,13 +36,16 @@ all-digits-requires : tie.Need-all-digits-requires
 all-digits-requires c κs = search needs
 
 returns-3 : tie.Need-returns-3
-returns-3 c = sym (no-nine _ _ (omega (arith, c .before .before .before .before .before .if1 .left)) (c .before .before .before .if2 .left) (sym (c .before .all-digits .ensures) ∙ not-true _ (c .if3 .taken)))
+returns-3 c = sym (no-nine _ _ (omega (arith, c .before .before .before .before .before .if1 .left)) (c .before .before .before .if2 .left)
+    (sym (c .before .all-digits .ensures) ∙ not-true _ (c .if3 .taken)))
 
 shared-slice-read-if4 : tie.Need-shared-slice-read-if4
 shared-slice-read-if4 c = search needs
 
 returns-4 : tie.Need-returns-4
-returns-4 c = sym (no-second _ _ (omega (arith, c .before .before .before .before .before .before .before .if1 .left)) (c .before .before .before .before .before .if2 .left) (sym (c .before .before .before .all-digits .ensures) ∙ not-false _ (c .before .before .if3 .left)) (c .if4 .taken))
+returns-4 c = sym (no-second _ _ (omega (arith, c .before .before .before .before .before .before .before .if1 .left))
+    (c .before .before .before .before .before .if2 .left) (sym (c .before .before .before .all-digits .ensures) ∙ not-false _ (c .before .before .if3 .left))
+    (c .if4 .taken))
 
 sub-all-digits-2 : tie.Need-sub-all-digits-2
 sub-all-digits-2 c = search needs
@@ -58,16 +61,26 @@ all-digits-requires-2 c κs = search needs
 
 returns-5 : tie.Need-returns-5
 returns-5 c =
-    sym (no-account _ _ (omega (arith, c .before .before .before .before .before .before .before .before .before .before .if1 .left)) (c .before .before .before .before .before .before .before .before .if2 .left) (sym (c .before .before .before .before .before .before .all-digits .ensures) ∙ not-false _ (c .before .before .before .before .before .if3 .left)) (c .before .before .before .if4 .left)
-    (account-part (c .before .before .before .before .before .before .before .before .before .before .before .before .args .digits) (c .before .before .before .before .before .before .before .before .before .before .before .before .args .line .now) ∙ sym (c .before .all-digits2 .ensures) ∙ not-true _ (c .if5 .taken)))
+    sym (no-account _ _ (omega (arith, c .before .before .before .before .before .before .before .before .before .before .if1 .left))
+    (c .before .before .before .before .before .before .before .before .if2 .left)
+    (sym (c .before .before .before .before .before .before .all-digits .ensures) ∙ not-false _ (c .before .before .before .before .before .if3 .left))
+    (c .before .before .before .if4 .left)
+    (account-part (c .before .before .before .before .before .before .before .before .before .before .before .before .args .digits)
+    (c .before .before .before .before .before .before .before .before .before .before .before .before .args .line .now) ∙ sym
+    (c .before .all-digits2 .ensures) ∙ not-true _ (c .if5 .taken)))
 
 shared-slice-read-result : tie.Need-shared-slice-read-result
 shared-slice-read-result c = search needs
 
 returns-6 : tie.Need-returns-6
 returns-6 c =
-    sym (by-last _ _ (omega (arith, c .before .before .before .before .before .before .before .before .before .before .before .if1 .left)) (c .before .before .before .before .before .before .before .before .before .if2 .left) (sym (c .before .before .before .before .before .before .before .all-digits .ensures) ∙ not-false _ (c .before .before .before .before .before .before .if3 .left)) (c .before .before .before .before .if4 .left)
-    (account-part (c .before .before .before .before .before .before .before .before .before .before .before .before .before .args .digits) (c .before .before .before .before .before .before .before .before .before .before .before .before .before .args .line .now) ∙ sym (c .before .before .all-digits2 .ensures) ∙ not-false _ (c .before .if5 .left)))
+    sym (by-last _ _ (omega (arith, c .before .before .before .before .before .before .before .before .before .before .before .if1 .left))
+    (c .before .before .before .before .before .before .before .before .before .if2 .left)
+    (sym (c .before .before .before .before .before .before .before .all-digits .ensures) ∙ not-false _
+    (c .before .before .before .before .before .before .if3 .left)) (c .before .before .before .before .if4 .left)
+    (account-part (c .before .before .before .before .before .before .before .before .before .before .before .before .before .args .digits)
+    (c .before .before .before .before .before .before .before .before .before .before .before .before .before .args .line .now) ∙ sym
+    (c .before .before .all-digits2 .ensures) ∙ not-false _ (c .before .if5 .left)))
 
 pub is-laid-spec : {M : Type 1} → statement M
 is-laid-spec =

@@ -27,10 +27,12 @@ has-layout-requires : tie.Need-has-layout-requires
 has-layout-requires c κs = search needs
 
 returns-3 : tie.Need-returns-3
-returns-3 c = sym (rule-accepted _ _ (sym (c .before .before .before .before .judge-line .ensures) ∙ c .before .before .enum-told3 .given .1) (sym (c .before .has-layout .ensures) ∙ c .if1 .taken))
+returns-3 c = sym (rule-accepted _ _ (sym (c .before .before .before .before .judge-line .ensures) ∙ c .before .before .enum-told3 .given .1)
+    (sym (c .before .has-layout .ensures) ∙ c .if1 .taken))
 
 returns-4 : tie.Need-returns-4
-returns-4 c = sym (rule-layout _ _ (sym (c .before .before .before .before .judge-line .ensures) ∙ c .before .before .enum-told3 .given .1) (sym (c .before .has-layout .ensures) ∙ c .if1 .left))
+returns-4 c = sym (rule-layout _ _ (sym (c .before .before .before .before .judge-line .ensures) ∙ c .before .before .enum-told3 .given .1)
+    (sym (c .before .has-layout .ensures) ∙ c .if1 .left))
 
 pub judge-line-spec : {M : Type 1} → statement M
 judge-line-spec =

@@ -36,7 +36,8 @@ returns-5 c =
 
 returns-6 : tie.Need-returns-6
 returns-6 c =
-    sym (none-of (c .before .before .before .before .before .args .b) (λ l h. omega arith) (λ l h. omega arith) (c .before .before .before .before .match .rest .1))
+    sym (none-of (c .before .before .before .before .before .args .b) (λ l h. omega arith) (λ l h. omega arith)
+    (c .before .before .before .before .match .rest .1))
 
 pub listed-spec : {M : Type 1} → statement M
 listed-spec = tie.close (tie.spec returns returns-2 returns-3 returns-4 returns-5 returns-6)

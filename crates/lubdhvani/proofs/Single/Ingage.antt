@@ -12,7 +12,8 @@ use Rattle.lubdhvani.proofs.ingage.lubdhvani_open.Reads as open-reads
 -- number with count, and both buffers
 pub lubdhvani-seal-single : (κs : Lfts 6) (a : Dens κs seal-kinds.ps) (r r′ : Counted)
     (x x′ : AtExit (endedOf 6 seal-kinds.ps seal-kinds.r) κs)
-    → seal-reads.Post κs a r x → seal-reads.Post κs a r′ x′ → (r ≡ r′) × (x .1 .1 .1 .1 .1 .0 .now ≡ x′ .1 .1 .1 .1 .1 .0 .now) × (x .1 .1 .1 .1 .1 .1 .0 .now ≡ x′ .1 .1 .1 .1 .1 .1 .0 .now)
+    → seal-reads.Post κs a r x → seal-reads.Post κs a r′ x′ → (r ≡ r′) × (x .1 .1 .1 .1 .1 .0 .now ≡ x′ .1 .1 .1 .1 .1 .0 .now)
+    × (x .1 .1 .1 .1 .1 .1 .0 .now ≡ x′ .1 .1 .1 .1 .1 .1 .0 .now)
 lubdhvani-seal-single κs a r r′ x x′ p q = (p .0 ∙ sym (q .0), p .1 .0 ∙ sym (q .1 .0), p .1 .1 ∙ sym (q .1 .1))
 
 -- number with count, and buffer

@@ -33,13 +33,16 @@ Finish κs a r x = (r ≡ finished (finishAnswer (now (a .0)) (now (a .1 .0)))) 
 
 -- the contracts that are checked say exactly that
 module _ {M : Type 1} (𝓤 : URA M) (H : Heap 𝓤) (A : Atoms 𝓤) (mem : Memory → SProp 𝓤) (run : Routine → Fun 𝓤) where
-  pub start-says : (κs : Lfts 1) (a : Args start.signature κs) (r : ℕ) (x : AtExit start.ended κs) → start.clauses 𝓤 H A mem run κs a .ensures tt r x ≡ fact 𝓤 (Start κs a r x)
+  pub start-says : (κs : Lfts 1) (a : Args start.signature κs) (r : ℕ) (x : AtExit start.ended κs)
+      → start.clauses 𝓤 H A mem run κs a .ensures tt r x ≡ fact 𝓤 (Start κs a r x)
   start-says κs a r x = refl
 
-  pub feed-says : (κs : Lfts 2) (a : Args feed.signature κs) (r : ℕ) (x : AtExit feed.ended κs) → feed.clauses 𝓤 H A mem run κs a .ensures tt r x ≡ fact 𝓤 (Feed κs a r x)
+  pub feed-says : (κs : Lfts 2) (a : Args feed.signature κs) (r : ℕ) (x : AtExit feed.ended κs)
+      → feed.clauses 𝓤 H A mem run κs a .ensures tt r x ≡ fact 𝓤 (Feed κs a r x)
   feed-says κs a r x = refl
 
-  pub finish-says : (κs : Lfts 2) (a : Args finish.signature κs) (r : Counted) (x : AtExit finish.ended κs) → finish.clauses 𝓤 H A mem run κs a .ensures tt r x ≡ fact 𝓤 (Finish κs a r x)
+  pub finish-says : (κs : Lfts 2) (a : Args finish.signature κs) (r : Counted) (x : AtExit finish.ended κs)
+      → finish.clauses 𝓤 H A mem run κs a .ensures tt r x ≡ fact 𝓤 (Finish κs a r x)
   finish-says κs a r x = refl
 
 -- number and record
@@ -52,6 +55,7 @@ pub lubdhvani-feed-single : (κs : Lfts 2) (a : Args feed.signature κs) (r r′
 lubdhvani-feed-single κs a r r′ x x′ p q = (p .0 ∙ sym (q .0), p .1 ∙ sym (q .1))
 
 -- number with count, record and buffer
-pub lubdhvani-finish-single : (κs : Lfts 2) (a : Args finish.signature κs) (r r′ : Counted) (x x′ : AtExit finish.ended κs) → Finish κs a r x → Finish κs a r′ x′
+pub lubdhvani-finish-single : (κs : Lfts 2) (a : Args finish.signature κs) (r r′ : Counted) (x x′ : AtExit finish.ended κs) → Finish κs a r x
+    → Finish κs a r′ x′
     → (r ≡ r′) × (now (x .0) ≡ now (x′ .0)) × (now (x .1 .0) ≡ now (x′ .1 .0))
 lubdhvani-finish-single κs a r r′ x x′ p q = (p .0 ∙ sym (q .0), p .1 ∙ sym (q .1), p .2 ∙ sym (q .2))

@@ -22,13 +22,16 @@ use Rattle.lubdhvani.proofs.walk.lubdhvani_next as next
 -- what the contract says of the parameters a, the reading r and the parameters at exit x
 abbrev pub Next : (κs : Lfts 5) → Args next.signature κs → Reading → AtExit next.ended κs → Type 0
 Next κs a r x =
-    (r ≡ readingOut (readAnswer (told (now (a .1 .0)) (now (a .1 .1 .0)) (layoutOf (a .1 .1 .1 .0 .layout))) (askedOf (a .1 .1 .1 .0)) (now (now (a .0) .stream)) (now (a .0) .at) (now (a .1 .1 .1 .1 .0))))
-    × (now (x .1 .1 .1 .1 .0) ≡ readOut (told (now (a .1 .0)) (now (a .1 .1 .0)) (layoutOf (a .1 .1 .1 .0 .layout))) (askedOf (a .1 .1 .1 .0)) (now (now (a .0) .stream)) (now (a .0) .at) (now (a .1 .1 .1 .1 .0)))
+    (r ≡ readingOut (readAnswer (told (now (a .1 .0)) (now (a .1 .1 .0)) (layoutOf (a .1 .1 .1 .0 .layout))) (askedOf (a .1 .1 .1 .0))
+    (now (now (a .0) .stream)) (now (a .0) .at) (now (a .1 .1 .1 .1 .0))))
+    × (now (x .1 .1 .1 .1 .0) ≡ readOut (told (now (a .1 .0)) (now (a .1 .1 .0)) (layoutOf (a .1 .1 .1 .0 .layout))) (askedOf (a .1 .1 .1 .0))
+    (now (now (a .0) .stream)) (now (a .0) .at) (now (a .1 .1 .1 .1 .0)))
     × (now (x .0) .stream ≡ now (a .0) .stream)
     × (now (x .0) .at ≡ r .closing)
 
 module _ {M : Type 1} (𝓤 : URA M) (H : Heap 𝓤) (A : Atoms 𝓤) (mem : Memory → SProp 𝓤) (run : Routine → Fun 𝓤) where
-  pub next-says : (κs : Lfts 5) (a : Args next.signature κs) (r : Reading) (x : AtExit next.ended κs) → next.clauses 𝓤 H A mem run κs a .ensures tt r x ≡ fact 𝓤 (Next κs a r x)
+  pub next-says : (κs : Lfts 5) (a : Args next.signature κs) (r : Reading) (x : AtExit next.ended κs)
+      → next.clauses 𝓤 H A mem run κs a .ensures tt r x ≡ fact 𝓤 (Next κs a r x)
   next-says κs a r x = refl
 
 -- the reading, the walker and the line

@@ -23,7 +23,9 @@ returns-2 : tie.Need-returns-2
 returns-2 c =
     let s = c .before .before .before .before .before .before in
     let a = s .args in
-    other-font (a .editions) (a .calls) (a .edition) (a .n) (a .digest .now) (a .font .now) (sym (c .before .before .before .allows .ensures) ∙ not-false _ (c .before .before .if1 .left)) (sym (c .before .compare .ensures) ∙ not-true _ (c .if2 .taken))
+    other-font (a .editions) (a .calls) (a .edition) (a .n) (a .digest .now) (a .font .now)
+    (sym (c .before .before .before .allows .ensures) ∙ not-false _ (c .before .before .if1 .left))
+    (sym (c .before .compare .ensures) ∙ not-true _ (c .if2 .taken))
 
 beside-line-requires : tie.Need-beside-line-requires
 beside-line-requires c κs = search needs
@@ -32,19 +34,28 @@ returns-3 : tie.Need-returns-3
 returns-3 c =
     let s = c .before .before .before .before .before .before .before .before in
     let a = s .args in
-    too-much (a .editions) (a .calls) (a .edition) (a .n) (a .digest .now) (a .font .now) (sym (c .before .before .before .before .before .allows .ensures) ∙ not-false _ (c .before .before .before .before .if1 .left)) (sym (c .before .before .before .compare .ensures) ∙ not-false _ (c .before .before .if2 .left)) (omega (arith, c .if3 .taken, c .before .beside-line .ensures))
+    too-much (a .editions) (a .calls) (a .edition) (a .n) (a .digest .now) (a .font .now)
+    (sym (c .before .before .before .before .before .allows .ensures) ∙ not-false _ (c .before .before .before .before .if1 .left))
+    (sym (c .before .before .before .compare .ensures) ∙ not-false _ (c .before .before .if2 .left))
+    (omega (arith, c .if3 .taken, c .before .beside-line .ensures))
 
 returns-4 : tie.Need-returns-4
 returns-4 c =
     let s = c .before .before .before .before .before .before .before .before .before in
     let a = s .args in
-    too-much (a .editions) (a .calls) (a .edition) (a .n) (a .digest .now) (a .font .now) (sym (c .before .before .before .before .before .before .allows .ensures) ∙ not-false _ (c .before .before .before .before .before .if1 .left)) (sym (c .before .before .before .before .compare .ensures) ∙ not-false _ (c .before .before .before .if2 .left)) (omega (arith, c .if4 .taken, c .before .if3 .left, c .before .before .beside-line .ensures))
+    too-much (a .editions) (a .calls) (a .edition) (a .n) (a .digest .now) (a .font .now)
+    (sym (c .before .before .before .before .before .before .allows .ensures) ∙ not-false _ (c .before .before .before .before .before .if1 .left))
+    (sym (c .before .before .before .before .compare .ensures) ∙ not-false _ (c .before .before .before .if2 .left))
+    (omega (arith, c .if4 .taken, c .before .if3 .left, c .before .before .beside-line .ensures))
 
 returns-5 : tie.Need-returns-5
 returns-5 c =
     let s = c .before .before .before .before .before .before .before .before .before in
     let a = s .args in
-    enough (a .editions) (a .calls) (a .edition) (a .n) (a .digest .now) (a .font .now) (sym (c .before .before .before .before .before .before .allows .ensures) ∙ not-false _ (c .before .before .before .before .before .if1 .left)) (sym (c .before .before .before .before .compare .ensures) ∙ not-false _ (c .before .before .before .if2 .left)) (omega (arith, c .if4 .left, c .before .if3 .left, c .before .before .beside-line .ensures))
+    enough (a .editions) (a .calls) (a .edition) (a .n) (a .digest .now) (a .font .now)
+    (sym (c .before .before .before .before .before .before .allows .ensures) ∙ not-false _ (c .before .before .before .before .before .if1 .left))
+    (sym (c .before .before .before .before .compare .ensures) ∙ not-false _ (c .before .before .before .if2 .left))
+    (omega (arith, c .if4 .left, c .before .if3 .left, c .before .before .beside-line .ensures))
 
 pub judge-asked-spec : {M : Type 1} → statement M
 judge-asked-spec =

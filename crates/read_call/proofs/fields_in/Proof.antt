@@ -22,21 +22,24 @@ enum-told c = search needs
 
 returns : tie.Need-returns
 returns c =
-    sym (ap judged (held-long (c .before .before .before .before .before .before .args .stretch .now) _ (sym (c .before .before .before .unstuff .ensures .0) ∙ c .enum-told .given .1)))
+    sym (ap judged (held-long (c .before .before .before .before .before .before .args .stretch .now) _
+    (sym (c .before .before .before .unstuff .ensures .0) ∙ c .enum-told .given .1)))
 
 enum-told-2 : tie.Need-enum-told-2
 enum-told-2 c = search needs
 
 returns-2 : tie.Need-returns-2
 returns-2 c =
-    sym (ap judged (held-bad (c .before .before .before .before .before .before .args .stretch .now) _ (sym (c .before .before .before .unstuff .ensures .0) ∙ c .enum-told2 .given .1)))
+    sym (ap judged (held-bad (c .before .before .before .before .before .before .args .stretch .now) _
+    (sym (c .before .before .before .unstuff .ensures .0) ∙ c .enum-told2 .given .1)))
 
 enum-told-3 : tie.Need-enum-told-3
 enum-told-3 c = search needs
 
 returns-3 : tie.Need-returns-3
 returns-3 c =
-    absurd (told-small (told [] [] Neither) 0 (c .before .before .before .before .before .before .args .stretch .now) _ (omega arith) (sym (c .before .before .before .unstuff .ensures .0) ∙ c .enum-told3 .given .1))
+    absurd (told-small (told [] [] Neither) 0 (c .before .before .before .before .before .before .args .stretch .now) _ (omega arith)
+    (sym (c .before .before .before .unstuff .ensures .0) ∙ c .enum-told3 .given .1))
 
 enum-known-n : tie.Need-enum-known-n
 enum-known-n c = search needs
@@ -50,7 +53,8 @@ part-judge-body-start c = search needs
 part-judge-body-end : tie.Need-part-judge-body-end
 part-judge-body-end c =
     let u = c .before .before .before .before .before .unstuff in
-    held-fits (c .before .before .before .before .before .before .before .before .args .stretch .now) _ _ _ (sym (u .ensures .0) ∙ c .before .before .n .given .1) (u .ensures .1)
+    held-fits (c .before .before .before .before .before .before .before .before .args .stretch .now) _ _ _
+    (sym (u .ensures .0) ∙ c .before .before .n .given .1) (u .ensures .1)
 
 judge-body-requires : tie.Need-judge-body-requires
 judge-body-requires c κs = search needs
@@ -59,7 +63,8 @@ returns-4 : tie.Need-returns-4
 returns-4 c =
     let u = c .before .before .before .before .before .before .before .unstuff in
     c .judge-body .ensures
-    ∙ sym (ap judged (held-body (c .before .before .before .before .before .before .before .before .before .before .args .stretch .now) _ _ _ (sym (u .ensures .0) ∙ c .before .before .before .before .n .given .1) (u .ensures .1)))
+    ∙ sym (ap judged (held-body (c .before .before .before .before .before .before .before .before .before .before .args .stretch .now) _ _ _
+    (sym (u .ensures .0) ∙ c .before .before .before .before .n .given .1) (u .ensures .1)))
 
 pub fields-in-spec : {M : Type 1} → statement M
 fields-in-spec =

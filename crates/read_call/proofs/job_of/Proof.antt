@@ -28,10 +28,22 @@ shared-slice-read-high-2 : tie.Need-shared-slice-read-high-2
 shared-slice-read-high-2 c = search needs
 
 cast-high-2 : tie.Need-cast-high-2
-cast-high-2 c = omega (arith, c .shared-slice-known2 .given 53, c .shared-slice-known2 .given 54, c .shared-slice-known2 .given 55, c .shared-slice-known2 .given 56)
+cast-high-2 c = omega (
+  arith,
+  c .shared-slice-known2 .given 53,
+  c .shared-slice-known2 .given 54,
+  c .shared-slice-known2 .given 55,
+  c .shared-slice-known2 .given 56,
+)
 
 add-high-2 : tie.Need-add-high-2
-add-high-2 c = omega (arith, c .shared-slice-known2 .given 53, c .shared-slice-known2 .given 54, c .shared-slice-known2 .given 55, c .shared-slice-known2 .given 56)
+add-high-2 c = omega (
+  arith,
+  c .shared-slice-known2 .given 53,
+  c .shared-slice-known2 .given 54,
+  c .shared-slice-known2 .given 55,
+  c .shared-slice-known2 .given 56,
+)
 
 add-low : tie.Need-add-low
 add-low c = search needs
@@ -40,10 +52,24 @@ shared-slice-read-low : tie.Need-shared-slice-read-low
 shared-slice-read-low c = search needs
 
 cast-low : tie.Need-cast-low
-cast-low c = omega (arith, c .shared-slice-known3 .given 53, c .shared-slice-known3 .given 54, c .shared-slice-known3 .given 55, c .shared-slice-known3 .given 56)
+cast-low c = omega (
+  arith,
+  c .shared-slice-known3 .given 53,
+  c .shared-slice-known3 .given 54,
+  c .shared-slice-known3 .given 55,
+  c .shared-slice-known3 .given
+      56,
+)
 
 mul-low : tie.Need-mul-low
-mul-low c = omega (arith, c .shared-slice-known3 .given 53, c .shared-slice-known3 .given 54, c .shared-slice-known3 .given 55, c .shared-slice-known3 .given 56)
+mul-low c = omega (
+  arith,
+  c .shared-slice-known3 .given 53,
+  c .shared-slice-known3 .given 54,
+  c .shared-slice-known3 .given 55,
+  c .shared-slice-known3 .given
+      56,
+)
 
 add-low-2 : tie.Need-add-low-2
 add-low-2 c = search needs
@@ -52,19 +78,50 @@ shared-slice-read-low-2 : tie.Need-shared-slice-read-low-2
 shared-slice-read-low-2 c = search needs
 
 cast-low-2 : tie.Need-cast-low-2
-cast-low-2 c = omega (arith, c .shared-slice-known4 .given 53, c .shared-slice-known4 .given 54, c .shared-slice-known4 .given 55, c .shared-slice-known4 .given 56)
+cast-low-2 c = omega (
+  arith,
+  c .shared-slice-known4 .given 53,
+  c .shared-slice-known4 .given 54,
+  c .shared-slice-known4 .given 55,
+  c .shared-slice-known4 .given 56,
+)
 
 add-low-3 : tie.Need-add-low-3
-add-low-3 c = omega (arith, c .shared-slice-known4 .given 53, c .shared-slice-known4 .given 54, c .shared-slice-known4 .given 55, c .shared-slice-known4 .given 56)
+add-low-3 c = omega (
+  arith,
+  c .shared-slice-known4 .given 53,
+  c .shared-slice-known4 .given 54,
+  c .shared-slice-known4 .given 55,
+  c .shared-slice-known4 .given
+      56,
+)
 
 mul-result : tie.Need-mul-result
-mul-result c = omega (arith, c .shared-slice-known4 .given 53, c .shared-slice-known4 .given 54, c .shared-slice-known4 .given 55, c .shared-slice-known4 .given 56)
+mul-result c = omega (
+  arith,
+  c .shared-slice-known4 .given 53,
+  c .shared-slice-known4 .given 54,
+  c .shared-slice-known4 .given 55,
+  c .shared-slice-known4 .given 56,
+)
 
 mul-result-2 : tie.Need-mul-result-2
-mul-result-2 c = omega (arith, c .shared-slice-known4 .given 53, c .shared-slice-known4 .given 54, c .shared-slice-known4 .given 55, c .shared-slice-known4 .given 56)
+mul-result-2 c = omega (
+  arith,
+  c .shared-slice-known4 .given 53,
+  c .shared-slice-known4 .given 54,
+  c .shared-slice-known4 .given 55,
+  c .shared-slice-known4 .given 56,
+)
 
 add-result : tie.Need-add-result
-add-result c = omega (arith, c .shared-slice-known4 .given 53, c .shared-slice-known4 .given 54, c .shared-slice-known4 .given 55, c .shared-slice-known4 .given 56)
+add-result c = omega (
+  arith,
+  c .shared-slice-known4 .given 53,
+  c .shared-slice-known4 .given 54,
+  c .shared-slice-known4 .given 55,
+  c .shared-slice-known4 .given 56,
+)
 
 returns : tie.Need-returns
 unfolding jobNumber

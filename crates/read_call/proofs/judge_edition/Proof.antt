@@ -41,8 +41,11 @@ returns : tie.Need-returns
 returns c =
     let s = c .before .before .before .before .before .before .before .before .before in
     let a = s .args in
-    shown (ceiling.within (a .asked .allowed) (judgeFields (told (a .key .now) (a .font .now) (a .asked .layout)) (among (a .asked .editions) (fieldsOf (a .body .now))))) (a .line .now) shape
-    (by-bar (told (a .key .now) (a .font .now) (a .asked .layout)) (a .asked .editions) (a .asked .allowed) (a .body .now) (a .edition) (a .n) (s .pre .0) _ (c .before .before .before .judge-asked .ensures) ∙ ap (λ (x : Bar). barred x (judgeParts (a .asked .layout) (a .edition) (a .n) (a .key .now) (a .body .now))) (c .before .enum-told .given .1)) _ (c .refused .ensures)
+    shown (ceiling.within (a .asked .allowed) (judgeFields (told (a .key .now) (a .font .now) (a .asked .layout))
+    (among (a .asked .editions) (fieldsOf (a .body .now))))) (a .line .now) shape
+    (by-bar (told (a .key .now) (a .font .now) (a .asked .layout)) (a .asked .editions) (a .asked .allowed) (a .body .now) (a .edition) (a .n) (s .pre .0) _
+    (c .before .before .before .judge-asked .ensures) ∙ ap (λ (x : Bar). barred x (judgeParts (a .asked .layout) (a .edition) (a .n) (a .key .now)
+    (a .body .now))) (c .before .enum-told .given .1)) _ (c .refused .ensures)
 
 enum-told-2 : tie.Need-enum-told-2
 enum-told-2 c = search needs
@@ -54,8 +57,11 @@ returns-2 : tie.Need-returns-2
 returns-2 c =
     let s = c .before .before .before .before .before .before .before .before .before in
     let a = s .args in
-    shown (ceiling.within (a .asked .allowed) (judgeFields (told (a .key .now) (a .font .now) (a .asked .layout)) (among (a .asked .editions) (fieldsOf (a .body .now))))) (a .line .now) font
-    (by-bar (told (a .key .now) (a .font .now) (a .asked .layout)) (a .asked .editions) (a .asked .allowed) (a .body .now) (a .edition) (a .n) (s .pre .0) _ (c .before .before .before .judge-asked .ensures) ∙ ap (λ (x : Bar). barred x (judgeParts (a .asked .layout) (a .edition) (a .n) (a .key .now) (a .body .now))) (c .before .enum-told2 .given .1)) _ (c .refused2 .ensures)
+    shown (ceiling.within (a .asked .allowed) (judgeFields (told (a .key .now) (a .font .now) (a .asked .layout))
+    (among (a .asked .editions) (fieldsOf (a .body .now))))) (a .line .now) font
+    (by-bar (told (a .key .now) (a .font .now) (a .asked .layout)) (a .asked .editions) (a .asked .allowed) (a .body .now) (a .edition) (a .n) (s .pre .0) _
+    (c .before .before .before .judge-asked .ensures) ∙ ap (λ (x : Bar). barred x (judgeParts (a .asked .layout) (a .edition) (a .n) (a .key .now)
+    (a .body .now))) (c .before .enum-told2 .given .1)) _ (c .refused2 .ensures)
 
 enum-told-3 : tie.Need-enum-told-3
 enum-told-3 c = search needs
@@ -67,8 +73,11 @@ returns-3 : tie.Need-returns-3
 returns-3 c =
     let s = c .before .before .before .before .before .before .before .before .before in
     let a = s .args in
-    shown (ceiling.within (a .asked .allowed) (judgeFields (told (a .key .now) (a .font .now) (a .asked .layout)) (among (a .asked .editions) (fieldsOf (a .body .now))))) (a .line .now) work
-    (by-bar (told (a .key .now) (a .font .now) (a .asked .layout)) (a .asked .editions) (a .asked .allowed) (a .body .now) (a .edition) (a .n) (s .pre .0) _ (c .before .before .before .judge-asked .ensures) ∙ ap (λ (x : Bar). barred x (judgeParts (a .asked .layout) (a .edition) (a .n) (a .key .now) (a .body .now))) (c .before .enum-told3 .given .1)) _ (c .refused3 .ensures)
+    shown (ceiling.within (a .asked .allowed) (judgeFields (told (a .key .now) (a .font .now) (a .asked .layout))
+    (among (a .asked .editions) (fieldsOf (a .body .now))))) (a .line .now) work
+    (by-bar (told (a .key .now) (a .font .now) (a .asked .layout)) (a .asked .editions) (a .asked .allowed) (a .body .now) (a .edition) (a .n) (s .pre .0) _
+    (c .before .before .before .judge-asked .ensures) ∙ ap (λ (x : Bar). barred x (judgeParts (a .asked .layout) (a .edition) (a .n) (a .key .now)
+    (a .body .now))) (c .before .enum-told3 .given .1)) _ (c .refused3 .ensures)
 
 enum-told-4 : tie.Need-enum-told-4
 enum-told-4 c = search needs
@@ -83,8 +92,11 @@ returns-4 : tie.Need-returns-4
 returns-4 c =
     let s = c .before .before .before .before .before .before .before .before .before .before .before .before in
     let a = s .args in
-    passed (ceiling.within (a .asked .allowed) (judgeFields (told (a .key .now) (a .font .now) (a .asked .layout)) (among (a .asked .editions) (fieldsOf (a .body .now))))) _ (a .line .now) _ _
-    (by-bar (told (a .key .now) (a .font .now) (a .asked .layout)) (a .asked .editions) (a .asked .allowed) (a .body .now) (a .edition) (a .n) (s .pre .0) _ (c .before .before .before .before .before .before .judge-asked .ensures) ∙ ap (λ (x : Bar). barred x (judgeParts (a .asked .layout) (a .edition) (a .n) (a .key .now) (a .body .now))) (c .before .before .before .before .enum-told4 .given .1))
+    passed (ceiling.within (a .asked .allowed) (judgeFields (told (a .key .now) (a .font .now) (a .asked .layout))
+    (among (a .asked .editions) (fieldsOf (a .body .now))))) _ (a .line .now) _ _
+    (by-bar (told (a .key .now) (a .font .now) (a .asked .layout)) (a .asked .editions) (a .asked .allowed) (a .body .now) (a .edition) (a .n) (s .pre .0) _
+    (c .before .before .before .before .before .before .judge-asked .ensures) ∙ ap (λ (x : Bar). barred x
+    (judgeParts (a .asked .layout) (a .edition) (a .n) (a .key .now) (a .body .now))) (c .before .before .before .before .enum-told4 .given .1))
     (c .before .before .open-fields .ensures)
 
 pub judge-edition-spec : {M : Type 1} → statement M

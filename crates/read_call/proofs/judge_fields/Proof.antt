@@ -27,8 +27,10 @@ returns : tie.Need-returns
 returns c =
     let s = c .before .before .before .before .before .before .before .before in
     let a = s .args in
-    shown (ceiling.within (a .asked .allowed) (judgeFields (told (a .key .now) (a .font .now) (a .asked .layout)) (among (a .asked .editions) (fieldsOf (a .body .now))))) (a .line .now) shape
-    (no-fields (told (a .key .now) (a .font .now) (a .asked .layout)) (a .asked .editions) (a .asked .allowed) (a .body .now) (sym (c .before .before .before .judge-body .ensures) ∙ c .before .enum-told .given .1)) _ (c .refused .ensures)
+    shown (ceiling.within (a .asked .allowed) (judgeFields (told (a .key .now) (a .font .now) (a .asked .layout))
+    (among (a .asked .editions) (fieldsOf (a .body .now))))) (a .line .now) shape
+    (no-fields (told (a .key .now) (a .font .now) (a .asked .layout)) (a .asked .editions) (a .asked .allowed) (a .body .now)
+    (sym (c .before .before .before .judge-body .ensures) ∙ c .before .enum-told .given .1)) _ (c .refused .ensures)
 
 enum-known-edition : tie.Need-enum-known-edition
 enum-known-edition c = search needs

@@ -31,7 +31,8 @@ returns c =
     let s = c .before .before .before .before .before .before .before .before .before .before in
     let a = s .args in
     shown (judgedWithin (told (a .key .now) (a .font .now) (a .asked .layout)) (a .asked) (a .stretch .now)) (a .line .now) shape
-    (no-ceiling (a .asked .allowed) shape (told-long (told (a .key .now) (a .font .now) (a .asked .layout)) (a .asked .editions) (a .stretch .now) _ (sym (c .before .before .before .before .unstuff .ensures .0) ∙ c .before .enum-told .given .1)) refl) _ (c .refused .ensures)
+    (no-ceiling (a .asked .allowed) shape (told-long (told (a .key .now) (a .font .now) (a .asked .layout)) (a .asked .editions) (a .stretch .now) _
+    (sym (c .before .before .before .before .unstuff .ensures .0) ∙ c .before .enum-told .given .1)) refl) _ (c .refused .ensures)
 
 enum-told-2 : tie.Need-enum-told-2
 enum-told-2 c = search needs
@@ -45,7 +46,8 @@ returns-2 c =
     let s = c .before .before .before .before .before .before .before .before .before .before in
     let a = s .args in
     shown (judgedWithin (told (a .key .now) (a .font .now) (a .asked .layout)) (a .asked) (a .stretch .now)) (a .line .now) stuffing
-    (no-ceiling (a .asked .allowed) stuffing (told-bad (told (a .key .now) (a .font .now) (a .asked .layout)) (a .asked .editions) (a .stretch .now) _ (sym (c .before .before .before .before .unstuff .ensures .0) ∙ c .before .enum-told2 .given .1)) refl) _ (c .refused2 .ensures)
+    (no-ceiling (a .asked .allowed) stuffing (told-bad (told (a .key .now) (a .font .now) (a .asked .layout)) (a .asked .editions) (a .stretch .now) _
+    (sym (c .before .before .before .before .unstuff .ensures .0) ∙ c .before .enum-told2 .given .1)) refl) _ (c .refused2 .ensures)
 
 enum-told-3 : tie.Need-enum-told-3
 enum-told-3 c = search needs
@@ -57,7 +59,8 @@ returns-3 : tie.Need-returns-3
 returns-3 c =
     let s = c .before .before .before .before .before .before .before .before .before .before in
     let a = s .args in
-    absurd (told-small (told (a .key .now) (a .font .now) (a .asked .layout)) (a .asked .editions) (a .stretch .now) _ (omega arith) (sym (c .before .before .before .before .unstuff .ensures .0) ∙ c .before .enum-told3 .given .1))
+    absurd (told-small (told (a .key .now) (a .font .now) (a .asked .layout)) (a .asked .editions) (a .stretch .now) _ (omega arith)
+    (sym (c .before .before .before .before .unstuff .ensures .0) ∙ c .before .enum-told3 .given .1))
 
 enum-known-n : tie.Need-enum-known-n
 enum-known-n c = search needs
@@ -72,7 +75,9 @@ part-judge-fields-end : tie.Need-part-judge-fields-end
 part-judge-fields-end c =
     let s = c .before .before .before .before .before .before .before .before .before .before .before in
     let a = s .args in
-    told-fits (told (a .key .now) (a .font .now) (a .asked .layout)) (a .asked .editions) (a .stretch .now) _ _ _ (sym (c .before .before .before .before .before .unstuff .ensures .0) ∙ c .before .before .n .given .1) (c .before .before .before .before .before .unstuff .ensures .1)
+    told-fits (told (a .key .now) (a .font .now) (a .asked .layout)) (a .asked .editions) (a .stretch .now) _ _ _
+    (sym (c .before .before .before .before .before .unstuff .ensures .0) ∙ c .before .before .n .given .1)
+    (c .before .before .before .before .before .unstuff .ensures .1)
 
 judge-fields-requires : tie.Need-judge-fields-requires
 judge-fields-requires c κs = search needs
@@ -86,7 +91,10 @@ returns-4 c =
     let s = c .before .before .before .before .before .before .before .before .before .before .before .before .before .before .before .before in
     let a = s .args in
     passed (judgedWithin (told (a .key .now) (a .font .now) (a .asked .layout)) (a .asked) (a .stretch .now)) _ (a .line .now) _ _
-    (ap (ceiling.within (a .asked .allowed)) (told-body (told (a .key .now) (a .font .now) (a .asked .layout)) (a .asked .editions) (a .stretch .now) _ _ _ (sym (c .before .before .before .before .before .before .before .before .before .before .unstuff .ensures .0) ∙ c .before .before .before .before .before .before .before .n .given .1) (c .before .before .before .before .before .before .before .before .before .before .unstuff .ensures .1))) (c .before .before .judge-fields .ensures)
+    (ap (ceiling.within (a .asked .allowed)) (told-body (told (a .key .now) (a .font .now) (a .asked .layout)) (a .asked .editions) (a .stretch .now) _ _ _
+    (sym (c .before .before .before .before .before .before .before .before .before .before .unstuff .ensures .0) ∙
+    c .before .before .before .before .before .before .before .n .given .1)
+    (c .before .before .before .before .before .before .before .before .before .before .unstuff .ensures .1))) (c .before .before .judge-fields .ensures)
 
 pub judge-stretch-spec : {M : Type 1} → statement M
 judge-stretch-spec =

@@ -23,7 +23,8 @@ returns : tie.Need-returns
 returns c =
     let s = c .before .before .before .before .before .before .before .before .before .before in
     let a = s .args in
-    opened-fields (a .layout) (a .body .now) (a .key .now) (a .edition) (a .n) (s .pre .0) (s .pre .1 .0) (a .line .now) (s .pre .1 .1) _ _ (c .before .before .before .before .before .before .number-of .ensures) (c .before .before .before .before .before .job-of .ensures)
+    opened-fields (a .layout) (a .body .now) (a .key .now) (a .edition) (a .n) (s .pre .0) (s .pre .1 .0) (a .line .now) (s .pre .1 .1) _ _
+    (c .before .before .before .before .before .before .number-of .ensures) (c .before .before .before .before .before .job-of .ensures)
     _ (c .before .before .before .open-parts .ensures .0) _ (c .before .before .before .open-parts .ensures .1) _ (c .verdict-on .ensures)
 
 pub open-fields-spec : {M : Type 1} → statement M

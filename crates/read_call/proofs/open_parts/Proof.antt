@@ -77,7 +77,9 @@ returns : tie.Need-returns
 returns c =
     let s = c .before .before .before .before .before .before .before .before .before .before .before .before in
     let a = s .args in
-    as-cut (a .layout) (a .body .now) (a .key .now) (a .edition) (a .n) (s .pre) _ (c .before .before .before .before .before .before .before .before .job-field-length .ensures) (a .line .now) _ _ (c .before .before .open-line .ensures .0) (c .before .before .open-line .ensures .1)
+    as-cut (a .layout) (a .body .now) (a .key .now) (a .edition) (a .n) (s .pre) _
+    (c .before .before .before .before .before .before .before .before .job-field-length .ensures) (a .line .now) _ _
+    (c .before .before .open-line .ensures .0) (c .before .before .open-line .ensures .1)
 
 pub open-parts-spec : {M : Type 1} → statement M
 open-parts-spec =

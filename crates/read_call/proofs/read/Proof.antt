@@ -22,7 +22,8 @@ returns-2 : tie.Need-returns-2
 returns-2 c =
     let s = c .before .before .before .before .before .before .before in
     let a = s .args in
-    bad-font (a .key .now) (a .font .now) (a .asked) (a .stream .now) (a .from) (a .line .now) (c .before .before .if1 .left) (c .before .if2 .taken) _ (c .at2 .ensures)
+    bad-font (a .key .now) (a .font .now) (a .asked) (a .stream .now) (a .from) (a .line .now) (c .before .before .if1 .left) (c .before .if2 .taken) _
+    (c .at2 .ensures)
 
 at-requires-3 : tie.Need-at-requires-3
 at-requires-3 c κs = search needs
@@ -31,7 +32,8 @@ returns-3 : tie.Need-returns-3
 returns-3 c =
     let s = c .before .before .before .before .before .before .before .before in
     let a = s .args in
-    too-long (a .key .now) (a .font .now) (a .asked) (a .stream .now) (a .from) (a .line .now) (omega arith) (omega arith) (c .before .if3 .taken) _ (c .at3 .ensures)
+    too-long (a .key .now) (a .font .now) (a .asked) (a .stream .now) (a .from) (a .line .now) (omega arith) (omega arith) (c .before .if3 .taken) _
+    (c .at3 .ensures)
 
 at-requires-4 : tie.Need-at-requires-4
 at-requires-4 c κs = search needs
@@ -40,7 +42,8 @@ returns-4 : tie.Need-returns-4
 returns-4 c =
     let s = c .before .before .before .before .before .before .before .before .before in
     let a = s .args in
-    no-room (a .key .now) (a .font .now) (a .asked) (a .stream .now) (a .from) (a .line .now) (omega arith) (omega arith) (omega arith) (c .before .if4 .taken) _ (c .at4 .ensures)
+    no-room (a .key .now) (a .font .now) (a .asked) (a .stream .now) (a .from) (a .line .now) (omega arith) (omega arith) (omega arith) (c .before .if4 .taken)
+    _ (c .at4 .ensures)
 
 at-requires-5 : tie.Need-at-requires-5
 at-requires-5 c κs = search needs
@@ -49,7 +52,8 @@ returns-5 : tie.Need-returns-5
 returns-5 c =
     let s = c .before .before .before .before .before .before .before .before .before .before in
     let a = s .args in
-    beyond (a .key .now) (a .font .now) (a .asked) (a .stream .now) (a .from) (a .line .now) (omega arith) (omega arith) (omega arith) (omega arith) (c .before .if5 .taken) _ (c .at5 .ensures)
+    beyond (a .key .now) (a .font .now) (a .asked) (a .stream .now) (a .from) (a .line .now) (omega arith) (omega arith) (omega arith) (omega arith)
+    (c .before .if5 .taken) _ (c .at5 .ensures)
 
 next-span-requires : tie.Need-next-span-requires
 next-span-requires c κs = search needs
@@ -61,7 +65,8 @@ returns-6 : tie.Need-returns-6
 returns-6 c =
     let s = c .before .before .before .before .before .before .before .before .before .before .before .before in
     let a = s .args in
-    at-end (a .key .now) (a .font .now) (a .asked) (a .stream .now) (a .from) (a .line .now) (omega arith) (omega arith) (omega arith) (omega arith) (omega arith) (c .before .before .next-span .result) (c .before .before .next-span .ensures) (c .before .if6 .taken) _ (c .at6 .ensures)
+    at-end (a .key .now) (a .font .now) (a .asked) (a .stream .now) (a .from) (a .line .now) (omega arith) (omega arith) (omega arith) (omega arith)
+    (omega arith) (c .before .before .next-span .result) (c .before .before .next-span .ensures) (c .before .if6 .taken) _ (c .at6 .ensures)
 
 sub-judge-stretch : tie.Need-sub-judge-stretch
 sub-judge-stretch c =
@@ -92,7 +97,9 @@ returns-7 c =
     let s = c .before .before .before .before .before .before .before .before .before .before .before .before .before .before .before .before in
     let a = s .args in
     let m = c .before .before .judge-stretch .ensures in
-    at-stretch (a .key .now) (a .font .now) (a .asked) (a .stream .now) (a .from) (a .line .now) (omega arith) (omega arith) (omega arith) (omega arith) (omega arith) (c .before .before .before .before .before .before .next-span .result) (c .before .before .before .before .before .before .next-span .ensures)
+    at-stretch (a .key .now) (a .font .now) (a .asked) (a .stream .now) (a .from) (a .line .now) (omega arith) (omega arith) (omega arith) (omega arith)
+    (omega arith) (c .before .before .before .before .before .before .next-span .result)
+    (c .before .before .before .before .before .before .next-span .ensures)
     (c .before .before .before .before .before .if6 .left) _ _ (m .0) (m .1)
 
 pub read-spec : {M : Type 1} → statement M

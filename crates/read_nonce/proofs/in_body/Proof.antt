@@ -19,7 +19,8 @@ none-requires : tie.Need-none-requires
 none-requires c κs = search needs
 
 returns : tie.Need-returns
-returns c = c .none .ensures ∙ body-none (c .before .before .before .before .before .args .body .now) (sym (c .before .before .before .judge-body .ensures) ∙ c .before .enum-told .given .1)
+returns c = c .none .ensures ∙ body-none (c .before .before .before .before .before .args .body .now)
+    (sym (c .before .before .before .judge-body .ensures) ∙ c .before .enum-told .given .1)
 
 enum-told-2 : tie.Need-enum-told-2
 enum-told-2 c = search needs
@@ -27,13 +28,15 @@ enum-told-2 c = search needs
 nonce-part-requires : tie.Need-nonce-part-requires
 nonce-part-requires c κs =
     let b = c .before .before .before .before .args .body .now in
-    body-placed b (below-all 256 b (λ k h. omega (arith, c .before .before .before .shared-slice-known .given k))) _ _ (sym (c .before .before .judge-body .ensures) ∙ c .enum-told2 .given .1) .room
+    body-placed b (below-all 256 b (λ k h. omega (arith, c .before .before .before .shared-slice-known .given k))) _ _
+    (sym (c .before .before .judge-body .ensures) ∙ c .enum-told2 .given .1) .room
 
 returns-2 : tie.Need-returns-2
 returns-2 c =
     let b = c .before .before .before .before .before .args .body .now in
     ap (λ (x : List ℕ). record { found = 1; bytes = x }) (c .nonce-part .ensures)
-    ∙ sym (body-placed b (below-all 256 b (λ k h. omega (arith, c .before .before .before .before .shared-slice-known .given k))) _ _ (sym (c .before .before .before .judge-body .ensures) ∙ c .before .enum-told2 .given .1) .nonce-is)
+    ∙ sym (body-placed b (below-all 256 b (λ k h. omega (arith, c .before .before .before .before .shared-slice-known .given k))) _ _
+    (sym (c .before .before .before .judge-body .ensures) ∙ c .before .enum-told2 .given .1) .nonce-is)
 
 pub in-body-spec : {M : Type 1} → statement M
 in-body-spec =

@@ -20,7 +20,8 @@ none-requires c κs = search needs
 
 returns : tie.Need-returns
 returns c =
-    c .none .ensures ∙ none-long (c .before .before .before .before .before .before .before .args .stretch .now) _ (sym (c .before .before .before .before .unstuff .ensures .0) ∙ c .before .enum-told .given .1)
+    c .none .ensures ∙ none-long (c .before .before .before .before .before .before .before .args .stretch .now) _
+    (sym (c .before .before .before .before .unstuff .ensures .0) ∙ c .before .enum-told .given .1)
 
 enum-told-2 : tie.Need-enum-told-2
 enum-told-2 c = search needs
@@ -30,7 +31,8 @@ none-requires-2 c κs = search needs
 
 returns-2 : tie.Need-returns-2
 returns-2 c =
-    c .none2 .ensures ∙ none-bad (c .before .before .before .before .before .before .before .args .stretch .now) _ (sym (c .before .before .before .before .unstuff .ensures .0) ∙ c .before .enum-told2 .given .1)
+    c .none2 .ensures ∙ none-bad (c .before .before .before .before .before .before .before .args .stretch .now) _
+    (sym (c .before .before .before .before .unstuff .ensures .0) ∙ c .before .enum-told2 .given .1)
 
 enum-told-3 : tie.Need-enum-told-3
 enum-told-3 c = search needs
@@ -40,7 +42,8 @@ none-requires-3 c κs = search needs
 
 returns-3 : tie.Need-returns-3
 returns-3 c =
-    absurd (not-small (c .before .before .before .before .before .before .before .args .stretch .now) _ (omega arith) (sym (c .before .before .before .before .unstuff .ensures .0) ∙ c .before .enum-told3 .given .1))
+    absurd (not-small (c .before .before .before .before .before .before .before .args .stretch .now) _ (omega arith)
+    (sym (c .before .before .before .before .unstuff .ensures .0) ∙ c .before .enum-told3 .given .1))
 
 enum-known-n : tie.Need-enum-known-n
 enum-known-n c = search needs
@@ -54,7 +57,8 @@ part-in-body-start c = search needs
 part-in-body-end : tie.Need-part-in-body-end
 part-in-body-end c =
     let u = c .before .before .before .before .before .unstuff in
-    body-fits (c .before .before .before .before .before .before .before .before .args .stretch .now) _ _ _ (sym (u .ensures .0) ∙ c .before .before .n .given .1) (u .ensures .1)
+    body-fits (c .before .before .before .before .before .before .before .before .args .stretch .now) _ _ _
+    (sym (u .ensures .0) ∙ c .before .before .n .given .1) (u .ensures .1)
 
 in-body-requires : tie.Need-in-body-requires
 in-body-requires c κs = search needs
@@ -63,7 +67,8 @@ returns-4 : tie.Need-returns-4
 returns-4 c =
     let u = c .before .before .before .before .before .before .before .unstuff in
     c .in-body .ensures
-    ∙ body-holds (c .before .before .before .before .before .before .before .before .before .before .args .stretch .now) _ _ _ (sym (u .ensures .0) ∙ c .before .before .before .before .n .given .1) (u .ensures .1)
+    ∙ body-holds (c .before .before .before .before .before .before .before .before .before .before .args .stretch .now) _ _ _
+    (sym (u .ensures .0) ∙ c .before .before .before .before .n .given .1) (u .ensures .1)
 
 pub nonce-of-spec : {M : Type 1} → statement M
 nonce-of-spec =

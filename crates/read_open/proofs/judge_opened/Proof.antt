@@ -28,7 +28,8 @@ returns-2 : tie.Need-returns-2
 returns-2 c =
     let s = c .before .before .before .before .before .before .before .before in
     let a = s .args in
-    by-unlisted (a .layout) (a .opened) (a .found .now) (a .line .now) _ (c .before .before .before .before .opened2 .given .1) _ (c .before .before .judge-line .ensures) (c .enum-told .given .1)
+    by-unlisted (a .layout) (a .opened) (a .found .now) (a .line .now) _ (c .before .before .before .before .opened2 .given .1) _
+    (c .before .before .judge-line .ensures) (c .enum-told .given .1)
 
 enum-told-2 : tie.Need-enum-told-2
 enum-told-2 c = search needs
@@ -37,7 +38,8 @@ returns-3 : tie.Need-returns-3
 returns-3 c =
     let s = c .before .before .before .before .before .before .before .before in
     let a = s .args in
-    by-trade (a .layout) (a .opened) (a .found .now) (a .line .now) _ (c .before .before .before .before .opened2 .given .1) _ (c .before .before .judge-line .ensures) (c .enum-told2 .given .1)
+    by-trade (a .layout) (a .opened) (a .found .now) (a .line .now) _ (c .before .before .before .before .opened2 .given .1) _
+    (c .before .before .judge-line .ensures) (c .enum-told2 .given .1)
 
 enum-told-3 : tie.Need-enum-told-3
 enum-told-3 c = search needs
@@ -46,7 +48,8 @@ returns-4 : tie.Need-returns-4
 returns-4 c =
     let s = c .before .before .before .before .before .before .before .before in
     let a = s .args in
-    by-layout (a .layout) (a .opened) (a .found .now) (a .line .now) _ (c .before .before .before .before .opened2 .given .1) _ (c .before .before .judge-line .ensures) (c .enum-told3 .given .1)
+    by-layout (a .layout) (a .opened) (a .found .now) (a .line .now) _ (c .before .before .before .before .opened2 .given .1) _
+    (c .before .before .judge-line .ensures) (c .enum-told3 .given .1)
 
 enum-told-4 : tie.Need-enum-told-4
 enum-told-4 c = search needs
@@ -61,7 +64,9 @@ returns-5 : tie.Need-returns-5
 returns-5 c =
     let s = c .before .before .before .before .before .before .before .before .before .before .before .before in
     let a = s .args in
-    by-line (a .layout) (a .opened) (a .found .now) (a .line .now) _ (c .before .before .before .before .before .before .before .before .opened2 .given .1) _ (c .before .before .before .before .before .before .judge-line .ensures) (c .before .before .before .before .enum-told4 .given .1) _ (c .before .before .hand-out .ensures)
+    by-line (a .layout) (a .opened) (a .found .now) (a .line .now) _ (c .before .before .before .before .before .before .before .before .opened2 .given .1) _
+    (c .before .before .before .before .before .before .judge-line .ensures) (c .before .before .before .before .enum-told4 .given .1) _
+    (c .before .before .hand-out .ensures)
 
 returns-6 : tie.Need-returns-6
 returns-6 c =

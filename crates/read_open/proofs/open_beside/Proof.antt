@@ -29,7 +29,10 @@ returns : tie.Need-returns
 returns c =
     let s = c .before .before .before .before .before .before .before .before .before .before .before .before .before .before .before .before .before in
     let a = s .args in
-    judged (a .layout) (a .key .now) (a .nonce .now) (a .assoc .now) (a .cipher .now) (a .seal .now) (a .line .now) (a .text .now) _ _ (c .before .before .before .before .before .before .before .before .«open» .ensures .0) (c .before .before .before .before .before .before .before .before .«open» .ensures .1) _ _ (c .before .before .judge-opened .ensures .0) (c .before .before .judge-opened .ensures .1)
+    judged (a .layout) (a .key .now) (a .nonce .now) (a .assoc .now) (a .cipher .now) (a .seal .now) (a .line .now) (a .text .now) _ _
+    (c .before .before .before .before .before .before .before .before .«open» .ensures .0)
+    (c .before .before .before .before .before .before .before .before .«open» .ensures .1) _ _ (c .before .before .judge-opened .ensures .0)
+    (c .before .before .judge-opened .ensures .1)
 
 pub open-beside-spec : {M : Type 1} → statement M
 open-beside-spec =

@@ -29,7 +29,9 @@ returns-3 : tie.Need-returns-3
 returns-3 c =
     let s = c .before .before .before .before .before .before .before .before .before .before .before .before .before .before in
     let a = s .args in
-    beside (a .layout) (a .key .now) (a .nonce .now) (a .assoc .now) (a .cipher .now) (a .seal .now) (a .line .now) (c .before .before .before .before .before .before .before .if1 .left) (c .before .before .before .before .before .before .if2 .left) _ _ (c .before .before .before .open-beside .ensures .0) (c .before .before .before .open-beside .ensures .1)
+    beside (a .layout) (a .key .now) (a .nonce .now) (a .assoc .now) (a .cipher .now) (a .seal .now) (a .line .now)
+    (c .before .before .before .before .before .before .before .if1 .left) (c .before .before .before .before .before .before .if2 .left) _ _
+    (c .before .before .before .open-beside .ensures .0) (c .before .before .before .open-beside .ensures .1)
 
 pub open-line-spec : {M : Type 1} → statement M
 open-line-spec =

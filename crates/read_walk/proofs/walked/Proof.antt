@@ -19,9 +19,11 @@ use contract.BorrowLft.{meet-⊑-right}
 use contract.Lifetimes.{Lfts}
 use contract.Monad.{Fun, fact}
 use contract.Running.{givenOf, tables, tablesOf}
-use types.Kit.{Given, Item, ‵, raw, _⊛_, ⋆, some, later, _$_, _∵_, !, qed, by, move, keep, drop, use1, use2, use3, split, join, pick, rewrite, fsplit, fjoin, fpick, fpack, feqL, suffices, frame, await, done}
+use types.Kit.{Given, Item, ‵, raw, _⊛_, ⋆, some, later, _$_, _∵_, !, qed, by, move, keep, drop}
+use types.Kit.{use1, use2, use3, split, join, pick, rewrite, fsplit, fjoin, fpick, fpack, feqL, suffices, frame, await, done}
 use types.Part.{whole, sub, look-in, agg}
-use types.Run.{look, init, forget, stop, hop, fld, from, load, of-opd, addr, and-then, no-more, assigns, land, returns, enter, alloc1, alloc0, params1, pass1, pass0, free1, free0}
+use types.Run.{look, init, forget, stop, hop, fld, from, load, of-opd, addr, and-then, no-more}
+use types.Run.{assigns, land, returns, enter, alloc1, alloc0, params1, pass1, pass0, free1, free0}
 use types.SemTy.{Body}
 use types.Tokens.{lft-new}
 use sound.WpLaws.{FmC, fmOf, WpFn-mono}
@@ -45,7 +47,8 @@ use denote.Triple.Call.{calls-at}
 use denote.Triple.Entry.{Vals, onEntry}
 use denote.Triple.Spec.{Meets, tripleOf}
 use denote.Triple.Table.{entered, cited}
-use denote.Triple.Walked.{says, Stays, stay-none, stay-dropped, gave-slice, walkOf, goes-none, goes-dropped, goes-gave-slice, Walks, ends-at, walked as walked-by, walk-meets}
+use denote.Triple.Walked.{says, Stays, stay-none, stay-dropped, gave-slice, walkOf, goes-none}
+use denote.Triple.Walked.{goes-dropped, goes-gave-slice, Walks, ends-at, walked as walked-by, walk-meets}
 use denote.Exit.{yes}
 use denote.Triple.Clauses.{ensured, lasts}
 use Rattle.frame_spec.specs.Told.{Told, told}
@@ -73,14 +76,32 @@ use Rattle.read_walk.proofs.walked.Statement as stated
 use Rattle.read_walk.proofs.walked.Code as code
 
 abbrev stayed : Stays (walked.ended .signature .params) (walked.ended .kept)
-stayed = (stay-dropped (shrSliceOf (0 ∷ []) tt (plain (λ _. u8))) yes, (stay-none (λ _. usize) yes, (stay-dropped (shrSliceOf (1 ∷ []) tt (plain (λ _. u8))) yes, (stay-dropped (shrSliceOf (2 ∷ []) tt (plain (λ _. u8))) yes, (stay-dropped (plain (λ _. Q.the-row)) yes, (gave-slice (3 ∷ []) tt (plain (λ _. u8)), tt))))))
+stayed = (
+  stay-dropped (shrSliceOf (0 ∷ []) tt (plain (λ _. u8))) yes,
+  (
+    stay-none (λ _. usize) yes,
+    (
+      stay-dropped (shrSliceOf (1 ∷ []) tt (plain (λ _. u8)))
+          yes,
+      (
+        stay-dropped (shrSliceOf (2 ∷ []) tt (plain (λ _. u8))) yes,
+        (
+          stay-dropped (plain (λ _. Q.the-row)) yes,
+          (gave-slice (3 ∷ []) tt (plain (λ _. u8)), tt),
+        ),
+      ),
+    ),
+  ),
+)
 
 module _ {M : Type 1} (𝓤 : URA M) (H : Heap 𝓤) (A : Atoms 𝓤) (at-mem : Memory → SProp 𝓤) (run : Routine → Fun 𝓤) where
   -- the contract that the proof cites
   abbrev Next : Contract 𝓤
   Next = tripleOf 𝓤 H A next.signature (next.spec 𝓤 H A at-mem run)
 
-module _ {M : Type 1} (𝓤 : URA M) (H : Heap 𝓤) (A : Atoms 𝓤) (W : Given 𝓤 H A) (at-mem : Memory → SProp 𝓤) (run : Routine → Fun 𝓤) (κ₀ κ₁ κ₂ κ₃ : Lft) (q₀ q₁ q₂ q₃ : Share) (stream : RefT (List ℕ)) (n : ℕ) (n-fits : n < 2 ^ 64) (key font : RefT (List ℕ)) (asked : Asked) (b o : ℕ) (γ : GName) (ys : List ℕ) where
+module _ {M : Type 1} (𝓤 : URA M) (H : Heap 𝓤) (A : Atoms 𝓤) (W : Given 𝓤 H A) (at-mem : Memory → SProp 𝓤) (run : Routine → Fun 𝓤) (κ₀ κ₁ κ₂ κ₃ : Lft)
+    (q₀ q₁ q₂ q₃ : Share) (stream : RefT (List ℕ)) (n : ℕ) (n-fits : n < 2 ^ 64) (key font : RefT (List ℕ)) (asked : Asked) (b o : ℕ) (γ : GName)
+    (ys : List ℕ) where
   abbrev κs : Lfts 4
   κs = (κ₀, (κ₁, (κ₂, (κ₃, tt))))
 
@@ -153,11 +174,13 @@ module _ {M : Type 1} (𝓤 : URA M) (H : Heap 𝓤) (A : Atoms 𝓤) (W : Given
 
   lies : (w : Walker) (l : ℕ) → ent 𝓤 (⋆ 𝓤 H A (‵ (Cell w l) ∷ ‵ (Own w) ∷ [])) (sem 𝓤 H A (partAt B fullShare w l 0))
   unfolding partOf
-  lies w l = qed W (‵ (Cell w l) ∷ ‵ (Own w) ∷ []) ∵ fjoin ! $ fpack ! (List Val) (λ us. base.Fml.fsep (cellAt fullShare (B .mir) us l 0) (B .own w us)) (mach w ∷ []) $ done !
+  lies w l = qed W (‵ (Cell w l) ∷ ‵ (Own w) ∷ []) ∵ fjoin ! $ fpack ! (List Val) (λ us. base.Fml.fsep (cellAt fullShare (B .mir) us l 0) (B .own w us))
+      (mach w ∷ []) $ done !
 
   lay : (w : Walker) (l : ℕ) → ent 𝓤 (sem 𝓤 H A (partAt B fullShare w l 0)) (⋆ 𝓤 H A (‵ (Cell w l) ∷ ‵ (Own w) ∷ []))
   unfolding partOf
-  lay w l = qed W (‵ (partAt B fullShare w l 0) ∷ []) ∵ fpick ! (λ vs. fsplit ! $ spelt ! B (Is B) (shows 𝓤 H A B) (LL.vals D L) (LL.tells D L) fullShare w vs l 0 $ frame ! $ done !)
+  lay w l = qed W (‵ (partAt B fullShare w l 0) ∷ []) ∵ fpick ! (λ vs. fsplit ! $ spelt ! B (Is B) (shows 𝓤 H A B) (LL.vals D L) (LL.tells D L) fullShare w vs
+      l 0 $ frame ! $ done !)
 
   abbrev tokens : Item 𝓤
   tokens = ‵ (flft κ₁ q₁) ⊛ ‵ (flft κ₂ q₂) ⊛ ‵ (flft κ₃ q₃) ⊛ ‵ ftrue
@@ -182,7 +205,8 @@ module _ {M : Type 1} (𝓤 : URA M) (H : Heap 𝓤) (A : Atoms 𝓤) (W : Given
   to ν l δ = ((κs′ ν, (PosShare·left q₀, (PosShare·right q₀, (q₁, (q₂, (q₃, tt))))), (meet-⊑-right (ν ∷ []) κ₀, tt), a′ l δ, (vptr l 0 ∷ [], other-vals)), tt)
 
   abbrev owned′ : ℕ → ℕ → GName → Fml
-  owned′ ν l δ = owns (MutRef (named 0) (ν ∷ κ₀) B ∷ ShrSlice (named 2) κ₁ u8 ∷ ShrSlice (named 3) κ₂ u8 ∷ Q.the-row ∷ MutSlice (named 4) κ₃ u8 ∷ []) (a′ l δ) (vptr l 0 ∷ [], other-vals)
+  owned′ ν l δ = owns (MutRef (named 0) (ν ∷ κ₀) B ∷ ShrSlice (named 2) κ₁ u8 ∷ ShrSlice (named 3) κ₂ u8 ∷ Q.the-row ∷ MutSlice (named 4) κ₃ u8 ∷ []) (a′ l δ)
+      (vptr l 0 ∷ [], other-vals)
 
   goes : (ν l : ℕ) (δ : GName) → ent 𝓤 (⋆ 𝓤 H A (tokens′ ν ∷ ‵ (owned′ ν l δ) ∷ [])) (Next 𝓤 H A at-mem run .pre (to ν l δ))
   goes ν l δ = qed W (tokens′ ν ∷ ‵ (owned′ ν l δ) ∷ []) ∵ join ! $ frame ! $ done !
@@ -205,61 +229,89 @@ module _ {M : Type 1} (𝓤 : URA M) (H : Heap 𝓤) (A : Atoms 𝓤) (W : Given
       → ent 𝓤 (⋆ 𝓤 H A ((‵ (flft κ₀ q₀) ⊛ tokens) ∷ ‵ (finally u8 γ zs) ∷ ‵ (P.the-row .own (stepAt r w) (stepVal r w ∷ [])) ∷ [])) (Post (stepVal r w))
   exits r w zs e l =
       qed W ((‵ (flft κ₀ q₀) ⊛ tokens) ∷ ‵ (finally u8 γ zs) ∷ ‵ (P.the-row .own (stepAt r w) (stepVal r w ∷ [])) ∷ []) ∵
-      suffices ! _ (ends-at 𝓤 H A walked.ended stayed (walked.clauses 𝓤 H A at-mem run) W ((κs, (q₀, (q₁, (q₂, (q₃, tt)))), tt, a, vals), tt) (stepVal r w) (stepAt r w) (tt, (tt, (tt, (tt, (tt, (zs, tt)))))) (tt, (tt, (tt, (tt, (tt, (l, tt))))))) $
+      suffices ! _ (ends-at 𝓤 H A walked.ended stayed (walked.clauses 𝓤 H A at-mem run) W ((κs, (q₀, (q₁, (q₂, (q₃, tt)))), tt, a, vals), tt) (stepVal r w)
+      (stepAt r w) (tt, (tt, (tt, (tt, (tt, (zs, tt)))))) (tt, (tt, (tt, (tt, (tt, (l, tt))))))) $
       says ! (λ i. record { reading = e .0 i; at = (e .3 ∙ ap (λ (x : Reading). x .closing) (e .0)) i }, e .1) $ frame ! $
-      nothing ! $ move ! (1 ∷ 0 ∷ []) $ fjoin ! $ nothing ! $ fjoin ! $ nothing ! $ fjoin ! $ nothing ! $ fjoin ! $ owned ! usize (Is usize) (uint-makes 𝓤 H A W w64) n _ (refl, n-fits) $ fjoin ! $ nothing ! $ fjoin ! $ done !
+      nothing ! $ move ! (1 ∷ 0 ∷ []) $ fjoin ! $ nothing ! $ fjoin ! $ nothing ! $ fjoin ! $ nothing ! $ fjoin ! $ owned ! usize (Is usize)
+      (uint-makes 𝓤 H A W w64) n _ (refl, n-fits) $ fjoin ! $ nothing ! $ fjoin ! $ done !
 
   module _ (C : Calls 𝓤 H) (Λ : Loops 𝓤 H) (fm : FmC 𝓤 H (W .laws) C) (known : Triple 𝓤 (C #read-walk·next) (Next 𝓤 H A at-mem run)) where
     walk : Room u8 (length (stream .now)) → Room u8 (length (key .now)) → Room u8 (length (font .now)) → Is Q.the-row asked (qv ∷ []) → Room u8 (length ys)
-        → ent 𝓤 (onEntry 𝓤 H A walked.signature κs (q₀, (q₁, (q₂, (q₃, tt)))) a vals) (WpFn 𝓤 H C Λ code.function (sv ∷ vint w64 n ∷ kv ∷ fv ∷ qv ∷ lv ∷ []) Post)
+        → ent 𝓤 (onEntry 𝓤 H A walked.signature κs (q₀, (q₁, (q₂, (q₃, tt)))) a vals) (WpFn 𝓤 H C Λ code.function (sv ∷ vint w64 n ∷ kv ∷ fv ∷ qv ∷ lv ∷ [])
+        Post)
     walk sroom kroom froom asking room =
-        qed W ((‵ (flft κ₀ q₀) ⊛ tokens) ∷ ‵ (owns (ShrSlice (named 0) κ₀ u8 ∷ usize ∷ ShrSlice (named 1) κ₁ u8 ∷ ShrSlice (named 2) κ₂ u8 ∷ Q.the-row ∷ MutSlice (named 3) κ₃ u8 ∷ []) a vals) ∷ []) ∵ enter ! C Λ code.function (sv ∷ vint w64 n ∷ kv ∷ fv ∷ qv ∷ lv ∷ []) _ $
-        alloc1 ! (λ l₀. alloc1 ! (λ l₁. alloc1 ! (λ l₂. alloc1 ! (λ l₃. alloc1 ! (λ l₄. alloc1 ! (λ l₅. alloc1 ! (λ l₆. alloc1 ! (λ l₇. alloc1 ! (λ l₈. alloc1 ! (λ l₉. alloc1 ! (λ l₁₀. alloc1 ! (λ l₁₁. alloc1 ! (λ l₁₂. alloc0 ! $ params1 ! $
-        pass1 ! (init ! 22 refl (tt, (tt, (record { fits = sroom .0 }, tt)))) $ pass1 ! (init ! 20 refl (tt, record { fits = n-fits })) $ pass1 ! (init ! 18 refl (tt, (tt, (record { fits = kroom .0 }, tt)))) $
-        pass1 ! (init ! 16 refl (tt, (tt, (record { fits = froom .0 }, tt)))) $ pass1 ! (init ! 14 refl (LL.lawful Q.the-type Q′.the-laws 𝓤 H A W .typed asked _ asking .0)) $
+        qed W ((‵ (flft κ₀ q₀) ⊛ tokens) ∷ ‵ (owns (ShrSlice (named 0) κ₀ u8 ∷ usize ∷ ShrSlice (named 1) κ₁ u8 ∷ ShrSlice (named 2) κ₂ u8 ∷ Q.the-row ∷
+        MutSlice (named 3) κ₃ u8 ∷ []) a vals) ∷ []) ∵ enter ! C Λ code.function (sv ∷ vint w64 n ∷ kv ∷ fv ∷ qv ∷ lv ∷ []) _ $
+        alloc1 ! (λ l₀. alloc1 ! (λ l₁. alloc1 ! (λ l₂. alloc1 ! (λ l₃. alloc1 ! (λ l₄. alloc1 ! (λ l₅. alloc1 !
+        (λ l₆. alloc1 ! (λ l₇. alloc1 ! (λ l₈. alloc1 ! (λ l₉. alloc1 ! (λ l₁₀. alloc1 ! (λ l₁₁. alloc1 ! (λ l₁₂. alloc0 ! $ params1 ! $
+        pass1 ! (init ! 22 refl (tt, (tt, (record { fits = sroom .0 }, tt)))) $ pass1 ! (init ! 20 refl (tt, record { fits = n-fits })) $ pass1 !
+        (init ! 18 refl (tt, (tt, (record { fits = kroom .0 }, tt)))) $
+        pass1 ! (init ! 16 refl (tt, (tt, (record { fits = froom .0 }, tt)))) $ pass1 ! (init ! 14 refl
+        (LL.lawful Q.the-type Q′.the-laws 𝓤 H A W .typed asked _ asking .0)) $
         pass1 ! (init ! 12 refl (tt, (tt, (record { fits = room .0 }, tt)))) $ pass0 ! $
         -- [_12; …; _11; …; _10; …; _9; …; _8; …; _7; …; _6; …; _5; …; _4; …; _3; …; _2; …; _1; …; room for _0; …; the tokens; what the parameters own]
-        assigns ! (agg ! (and-then ! (load ! (from ! (stop !)) (look ! 22 refl)) (and-then ! (load ! (from ! (stop !)) (look ! 20 refl)) (no-more !)))) (from ! (stop !)) (init ! 10 refl (tt, ((tt, (record { fits = sroom .0 }, tt)), (record { fits = n-fits }, tt)))) $
+        assigns ! (agg ! (and-then ! (load ! (from ! (stop !)) (look ! 22 refl)) (and-then ! (load ! (from ! (stop !)) (look ! 20 refl)) (no-more !))))
+        (from ! (stop !)) (init ! 10 refl (tt, ((tt, (record { fits = sroom .0 }, tt)), (record { fits = n-fits }, tt)))) $
         assigns ! (addr ! (from ! (stop !))) (from ! (stop !)) (init ! 6 refl (tt, tt)) $
         assigns ! (addr ! (from ! (fld ! refl (hop ! (look-in ! 12 (sub ! 0 refl (whole !))) (stop !))))) (from ! (stop !)) (init ! 4 refl (tt, tt)) $
-        assigns ! (agg ! (and-then ! (load ! (from ! (stop !)) (look ! 4 refl)) (and-then ! (load ! (from ! (fld ! refl (stop !))) (look-in ! 12 (sub ! 1 refl (whole !)))) (no-more !)))) (from ! (stop !)) (init ! 2 refl (tt, (tt, (record { fits = room .0 }, tt)))) $
+        assigns ! (agg ! (and-then ! (load ! (from ! (stop !)) (look ! 4 refl)) (and-then ! (load ! (from ! (fld ! refl (stop !)))
+        (look-in ! 12 (sub ! 1 refl (whole !)))) (no-more !)))) (from ! (stop !)) (init ! 2 refl (tt, (tt, (record { fits = room .0 }, tt)))) $
         -- what stream and from own is what the walker owns, and with its cell it lies in memory
         move ! (27 ∷ []) $ fsplit ! $ move ! (1 ∷ []) $ fsplit ! $ drop ! $ move ! (1 ∷ []) $
-        nothing ! $ owned ! usize (Is usize) (uint-makes 𝓤 H A W w64) n _ (refl, n-fits) $ fjoin ! $ move ! (1 ∷ 0 ∷ []) $ fjoin ! $ use1 W (‵ (Own h)) (own-shut 𝓤 H A W D L (stream, (n, tt))) $
-        move ! (12 ∷ []) $ use1 W (‵ (Cell h l₇)) (W .laws .at-raw fullShare (T′.mir erased) l₇ 0 (mach h)) $ use2 W (‵ (partAt B fullShare h l₇ 0)) (lies h l₇) $
+        nothing ! $ owned ! usize (Is usize) (uint-makes 𝓤 H A W w64) n _ (refl, n-fits) $ fjoin ! $ move ! (1 ∷ 0 ∷ []) $ fjoin ! $ use1 W (‵ (Own h))
+        (own-shut 𝓤 H A W D L (stream, (n, tt))) $
+        move ! (12 ∷ []) $ use1 W (‵ (Cell h l₇)) (W .laws .at-raw fullShare (T′.mir erased) l₇ 0 (mach h)) $ use2 W (‵ (partAt B fullShare h l₇ 0))
+        (lies h l₇) $
         -- [the walker in memory; what the others own; _12; …; _8; …; …; _6; …; _0; …; the tokens]: it is lent for a lifetime ν within the stream's
-        move ! (27 ∷ []) $ split ! $ use1 W (‵ (flft κ₀ (PosShare·left q₀)) ⊛ ‵ (flft κ₀ (PosShare·right q₀))) (W .lfts .lft-split κ₀ q₀) $ split ! $ lft-new ! tt (λ ν.
-        use2 W (‵ (flft (ν ∷ κ₀) (PosShare·left q₀)) ⊛ raw (Rest 𝓤 H A W ν (PosShare·left q₀))) (within-token 𝓤 H A W ν κ₀ (PosShare·left q₀)) $ split ! $ move ! (4 ∷ []) $
-        use1 W (later (some (λ (δ : GName). ‵ (MutRef (named 0) (ν ∷ κ₀) B .own (lent l₇ δ) (vptr l₇ 0 ∷ [])) ⊛ ‵ (flent (ν ∷ κ₀) (Body (mem B) l₇ 0 δ))))) (lends-ref 𝓤 H A W B (named 0) (ν ∷ κ₀) h l₇ 0) $ await ! tt $ pick ! (λ δ. split ! $
+        move ! (27 ∷ []) $ split ! $ use1 W (‵ (flft κ₀ (PosShare·left q₀)) ⊛ ‵ (flft κ₀ (PosShare·right q₀))) (W .lfts .lft-split κ₀ q₀) $ split ! $ lft-new !
+        tt (λ ν.
+        use2 W (‵ (flft (ν ∷ κ₀) (PosShare·left q₀)) ⊛ raw (Rest 𝓤 H A W ν (PosShare·left q₀))) (within-token 𝓤 H A W ν κ₀ (PosShare·left q₀)) $ split ! $ move
+        ! (4 ∷ []) $
+        use1 W (later (some (λ (δ : GName). ‵ (MutRef (named 0) (ν ∷ κ₀) B .own (lent l₇ δ) (vptr l₇ 0 ∷ [])) ⊛ ‵ (flent (ν ∷ κ₀) (Body (mem B) l₇ 0 δ)))))
+        (lends-ref 𝓤 H A W B (named 0) (ν ∷ κ₀) h l₇ 0) $ await ! tt $ pick ! (λ δ. split ! $
         -- [the reference; the lender's part; ν's token; the rest of it; the stream's; the others'; what they own; _12; …]
         move ! (2 ∷ 4 ∷ 5 ∷ 0 ∷ 6 ∷ []) $ move ! (1 ∷ 2 ∷ []) $ join ! $ move ! (1 ∷ 0 ∷ []) $ join ! $ move ! (1 ∷ 2 ∷ []) $ fjoin ! $ move ! (1 ∷ 0 ∷ []) $
         use2 W (raw (Next 𝓤 H A at-mem run .pre (to ν l₇ δ))) (goes ν l₇ δ) $
-        calls-at ! fm (Next 𝓤 H A at-mem run) known (to ν l₇ δ) (and-then ! (load ! (from ! (stop !)) (look ! 9 refl)) (and-then ! (load ! (from ! (stop !)) (look ! 20 refl)) (and-then ! (load ! (from ! (stop !)) (look ! 18 refl)) (and-then ! (load ! (from ! (stop !)) (look ! 16 refl)) (and-then ! (load ! (from ! (stop !)) (look ! 5 refl)) (no-more !)))))) (λ u.
-        use1 W (later (some (λ (r : Reading). (tokens′ ν ⊛ ‵ (S.the-row .own r (u ∷ []))) ⊛ raw (ensured 𝓤 H A next.ended (next.clauses 𝓤 H A at-mem run) (κs′ ν) (a′ l₇ δ) tt r)))) (id⊢ 𝓤 _) $ await ! tt $ pick ! (λ r.
+        calls-at ! fm (Next 𝓤 H A at-mem run) known (to ν l₇ δ) (and-then ! (load ! (from ! (stop !)) (look ! 9 refl))
+        (and-then ! (load ! (from ! (stop !)) (look ! 20 refl)) (and-then ! (load ! (from ! (stop !)) (look ! 18 refl))
+        (and-then ! (load ! (from ! (stop !)) (look ! 16 refl)) (and-then ! (load ! (from ! (stop !)) (look ! 5 refl)) (no-more !)))))) (λ u.
+        use1 W (later (some (λ (r : Reading). (tokens′ ν ⊛ ‵ (S.the-row .own r (u ∷ []))) ⊛ raw
+        (ensured 𝓤 H A next.ended (next.clauses 𝓤 H A at-mem run) (κs′ ν) (a′ l₇ δ) tt r)))) (id⊢ 𝓤 _) $ await ! tt $ pick ! (λ r.
         -- what `next` ensures, at some last walker and list
-        split ! $ move ! (1 ∷ []) $ use1 W (some (λ (zs : Walker × (Unit {0} × (Unit {0} × (Unit {0} × (List ℕ × Unit {0}))))). ‵ (lasts next.ended (κs′ ν) (a′ l₇ δ) zs) ⊛ raw (fact 𝓤 (Said r (zs .0) (zs .1 .1 .1 .1 .0))))) (id⊢ 𝓤 _) $ pick ! (λ zs.
-        split ! $ move ! (1 ∷ []) $ heard ! (Said r (zs .0) (zs .1 .1 .1 .1 .0)) (λ e. fsplit ! $ move ! (1 ∷ []) $ fsplit ! $ drop ! $ fsplit ! $ drop ! $ fsplit ! $ drop ! $ fsplit ! $ fsplit ! $ move ! (1 ∷ []) $ feqL ! (λ l.
+        split ! $ move ! (1 ∷ []) $ use1 W (some (λ (zs : Walker × (Unit {0} × (Unit {0} × (Unit {0} × (List ℕ × Unit {0}))))). ‵
+        (lasts next.ended (κs′ ν) (a′ l₇ δ) zs) ⊛ raw (fact 𝓤 (Said r (zs .0) (zs .1 .1 .1 .1 .0))))) (id⊢ 𝓤 _) $ pick ! (λ zs.
+        split ! $ move ! (1 ∷ []) $ heard ! (Said r (zs .0) (zs .1 .1 .1 .1 .0)) (λ e. fsplit ! $ move ! (1 ∷ []) $ fsplit ! $ drop ! $ fsplit ! $ drop ! $
+        fsplit ! $ drop ! $ fsplit ! $ fsplit ! $ move ! (1 ∷ []) $ feqL ! (λ l.
         -- [the last list; true; the walker's last; the tokens and the result; the lender's part; the rest of ν's token; _12; …]
         move ! (3 ∷ []) $ split ! $ move ! (1 ∷ []) $ peeks ! S.the-row (Is S.the-row) (shows 𝓤 H A S.the-row) r (u ∷ []) (λ is.
         land ! (from ! (stop !)) (init ! 15 refl (LL.lawful S.the-type S′.the-laws 𝓤 H A W .typed r _ is .0)) $
         rewrite ! 15 (λ (v : Val). ‵ (fat fullShare S′.mir l₈ 0 v)) (ap only (LL.tells S.the-type S′.the-laws r _ is)) refl $
         rewrite ! 0 (λ (v : Val). ‵ (S.the-row .own r (v ∷ []))) (ap only (LL.tells S.the-type S′.the-laws r _ is)) refl $
         -- ν is ended, and the walker is taken back as it was left
-        move ! (1 ∷ []) $ split ! $ move ! (0 ∷ 7 ∷ []) $ use2 W (later (‵ (fdead (ν ∷ κ₀)) ⊛ ‵ (flft κ₀ (PosShare·left q₀)))) (within-end 𝓤 H A W ν κ₀ (PosShare·left q₀)) $ await ! tt $ split ! $
+        move ! (1 ∷ []) $ split ! $ move ! (0 ∷ 7 ∷ []) $ use2 W (later (‵ (fdead (ν ∷ κ₀)) ⊛ ‵ (flft κ₀ (PosShare·left q₀))))
+        (within-end 𝓤 H A W ν κ₀ (PosShare·left q₀)) $ await ! tt $ split ! $
         move ! (0 ∷ 7 ∷ 6 ∷ []) $ use3 W (later (‵ (partAt B fullShare (zs .0) l₇ 0))) (ref-back 𝓤 H A W B (ν ∷ κ₀) δ (zs .0) l₇ 0) $ await ! tt $
-        use1 W (‵ (Cell (zs .0) l₇) ⊛ ‵ (Own (zs .0))) (lay (zs .0) l₇) $ split ! $ use1 W (‵ (fat fullShare (T′.mir erased) l₇ 0 (mach (zs .0)))) (W .laws .raw-at fullShare (T′.mir erased) l₇ 0 (mach (zs .0))) $
+        use1 W (‵ (Cell (zs .0) l₇) ⊛ ‵ (Own (zs .0))) (lay (zs .0) l₇) $ split ! $ use1 W (‵ (fat fullShare (T′.mir erased) l₇ 0 (mach (zs .0))))
+        (W .laws .raw-at fullShare (T′.mir erased) l₇ 0 (mach (zs .0))) $
         move ! (1 ∷ []) $ peeks ! B (Is B) (shows 𝓤 H A B) (zs .0) (mach (zs .0) ∷ []) (λ was.
         -- [what it owns; _7; the stream's token in two; what the reading owns; the last list; true; _12; …]
-        assigns ! (of-opd ! (load ! (from ! (fld ! refl (stop !))) (look-in ! 1 (sub ! 1 refl (whole !))))) (from ! (stop !)) (init ! 7 refl (tt, LL.lawful D L 𝓤 H A W .typed (zs .0) _ was .0 .1 .1 .0)) $
-        drop ! $ nothing ! $ owned ! usize (Is usize) (uint-makes 𝓤 H A W w64) (zs .0 .at) _ (refl, LL.lawful D L 𝓤 H A W .typed (zs .0) _ was .0 .1 .1 .0 .fits) $ fjoin ! $ move ! (4 ∷ 0 ∷ []) $ fjoin ! $
+        assigns ! (of-opd ! (load ! (from ! (fld ! refl (stop !))) (look-in ! 1 (sub ! 1 refl (whole !))))) (from ! (stop !))
+        (init ! 7 refl (tt, LL.lawful D L 𝓤 H A W .typed (zs .0) _ was .0 .1 .1 .0)) $
+        drop ! $ nothing ! $ owned ! usize (Is usize) (uint-makes 𝓤 H A W w64) (zs .0 .at) _
+        (refl, LL.lawful D L 𝓤 H A W .typed (zs .0) _ was .0 .1 .1 .0 .fits) $ fjoin ! $ move ! (4 ∷ 0 ∷ []) $ fjoin ! $
         use1 W (‵ (P.the-row .own (stepAt r (zs .0)) (stepVal r (zs .0) ∷ []))) (own-shut 𝓤 H A W P.the-type P′.the-laws (r, (zs .0 .at, tt))) $
         peeks ! P.the-row (Is P.the-row) (shows 𝓤 H A P.the-row) (stepAt r (zs .0)) (stepVal r (zs .0) ∷ []) (λ made.
         -- [what the step owns; _7; the stream's token in two; the last list; true; _12; …; _8 at 14; …; room for _0 at 29; …]
-        assigns ! (agg ! (and-then ! (load ! (from ! (stop !)) (look ! 14 refl)) (and-then ! (load ! (from ! (stop !)) (look ! 6 refl)) (no-more !)))) (from ! (stop !)) (init ! 29 refl (LL.lawful P.the-type P′.the-laws 𝓤 H A W .typed (stepAt r (zs .0)) _ made .0)) $
+        assigns ! (agg ! (and-then ! (load ! (from ! (stop !)) (look ! 14 refl)) (and-then ! (load ! (from ! (stop !)) (look ! 6 refl)) (no-more !))))
+        (from ! (stop !)) (init ! 29 refl (LL.lawful P.the-type P′.the-laws 𝓤 H A W .typed (stepAt r (zs .0)) _ made .0)) $
         move ! (3 ∷ []) $ split ! $ move ! (4 ∷ 0 ∷ []) $ use2 W (‵ (flft κ₀ q₀)) (W .lfts .lft-join κ₀ q₀) $ join ! $
         -- [the tokens; what the step owns; _7; the last list; true; _12; …]
-        returns ! (look ! 28 refl) $ forget ! 2 refl $ forget ! 5 refl $ forget ! 7 refl $ forget ! 9 refl $ forget ! 11 refl $ forget ! 13 refl $ forget ! 16 refl $ forget ! 18 refl $ forget ! 20 refl $ forget ! 22 refl $ forget ! 24 refl $ forget ! 26 refl $ forget ! 28 refl $
-        move ! (28 ∷ 29 ∷ []) $ free1 ! $ move ! (26 ∷ 27 ∷ []) $ free1 ! $ move ! (24 ∷ 25 ∷ []) $ free1 ! $ move ! (22 ∷ 23 ∷ []) $ free1 ! $ move ! (20 ∷ 21 ∷ []) $ free1 ! $ move ! (18 ∷ 19 ∷ []) $ free1 ! $ move ! (16 ∷ 17 ∷ []) $ free1 ! $ move ! (2 ∷ 15 ∷ []) $ free1 ! $ move ! (12 ∷ 13 ∷ []) $ free1 ! $ move ! (10 ∷ 11 ∷ []) $ free1 ! $ move ! (8 ∷ 9 ∷ []) $ free1 ! $ move ! (6 ∷ 7 ∷ []) $ free1 ! $ move ! (4 ∷ 5 ∷ []) $ free1 ! $ free0 ! $
+        returns ! (look ! 28 refl) $ forget ! 2 refl $ forget ! 5 refl $ forget ! 7 refl $ forget ! 9 refl $ forget ! 11 refl $ forget ! 13 refl $ forget ! 16
+        refl $ forget ! 18 refl $ forget ! 20 refl $ forget ! 22 refl $ forget ! 24 refl $ forget ! 26 refl $ forget ! 28 refl $
+        move ! (28 ∷ 29 ∷ []) $ free1 ! $ move ! (26 ∷ 27 ∷ []) $ free1 ! $ move ! (24 ∷ 25 ∷ []) $ free1 ! $ move ! (22 ∷ 23 ∷ []) $ free1 ! $ move !
+        (20 ∷ 21 ∷ []) $ free1 ! $ move ! (18 ∷ 19 ∷ []) $ free1 ! $ move ! (16 ∷ 17 ∷ []) $ free1 ! $ move ! (2 ∷ 15 ∷ []) $ free1 ! $ move !
+        (12 ∷ 13 ∷ []) $ free1 ! $ move ! (10 ∷ 11 ∷ []) $ free1 ! $ move ! (8 ∷ 9 ∷ []) $ free1 ! $ move ! (6 ∷ 7 ∷ []) $ free1 ! $ move ! (4 ∷ 5 ∷ []) $
+        free1 ! $ free0 ! $
         keep ! (0 ∷ 2 ∷ 1 ∷ []) $ by ! (exits r (zs .0) (zs .1 .1 .1 .1 .0) e l))))))))))))))))))))))))
 
 module _ {M : Type 1} (𝓤 : URA M) (H : Heap 𝓤) (A : Atoms 𝓤) (W : Given 𝓤 H A) (mem : Memory → SProp 𝓤) (run : Routine → Fun 𝓤) where
@@ -267,15 +319,38 @@ module _ {M : Type 1} (𝓤 : URA M) (H : Heap 𝓤) (A : Atoms 𝓤) (W : Given
       → Walks 𝓤 H A walked.ended stayed (WpFn 𝓤 H C Λ code.function) (walked.clauses 𝓤 H A mem run)
   walked-walks C Λ fm known = walked-by 𝓤 H A walked.ended stayed (walked.clauses 𝓤 H A mem run) (WpFn 𝓤 H C Λ code.function)
       (λ κs. (slice-vals, (uint-vals w64, (slice-vals, (slice-vals, (LL.vals Q.the-type Q′.the-laws, (slice-vals, tt)))))))
-      (λ κs. (shr-slice-tells (named 0) (κs .0) u8, (uint-tells w64, (shr-slice-tells (named 1) (κs .1 .0) u8, (shr-slice-tells (named 2) (κs .1 .1 .0) u8, (LL.tells Q.the-type Q′.the-laws, (mut-slice-tells (named 3) (κs .1 .1 .1 .0) u8, tt)))))))
-      (λ κs qs bounds a g are. via 𝓤 _ (fst∗ 𝓤 _ (emp 𝓤)) (walk 𝓤 H A W mem run (κs .0) (κs .1 .0) (κs .1 .1 .0) (κs .1 .1 .1 .0) (qs .0) (qs .1 .0) (qs .1 .1 .0) (qs .1 .1 .1 .0) (a .0) (a .1 .0) (are .1 .0 .1) (a .1 .1 .0) (a .1 .1 .1 .0) (a .1 .1 .1 .1 .0) (a .1 .1 .1 .1 .1 .0 .ptr .0) (a .1 .1 .1 .1 .1 .0 .ptr .1) (a .1 .1 .1 .1 .1 .0 .name) (a .1 .1 .1 .1 .1 .0 .now) C Λ fm known
+      (λ κs. (
+        shr-slice-tells (named 0) (κs .0) u8,
+        (
+          uint-tells w64,
+          (
+            shr-slice-tells (named 1) (κs .1 .0) u8,
+            (shr-slice-tells (named 2) (κs .1 .1 .0) u8, (LL.tells Q.the-type Q′.the-laws, (mut-slice-tells (named 3) (κs .1 .1 .1 .0) u8, tt))),
+          ),
+        ),
+      ))
+      (λ κs qs bounds a g are. via 𝓤 _ (fst∗ 𝓤 _ (emp 𝓤)) (walk 𝓤 H A W mem run (κs .0) (κs .1 .0) (κs .1 .1 .0) (κs .1 .1 .1 .0) (qs .0) (qs .1 .0)
+      (qs .1 .1 .0) (qs .1 .1 .1 .0) (a .0) (a .1 .0) (are .1 .0 .1) (a .1 .1 .0) (a .1 .1 .1 .0) (a .1 .1 .1 .1 .0) (a .1 .1 .1 .1 .1 .0 .ptr .0)
+      (a .1 .1 .1 .1 .1 .0 .ptr .1) (a .1 .1 .1 .1 .1 .0 .name) (a .1 .1 .1 .1 .1 .0 .now) C Λ fm known
       (are .0 .0 .1) (are .1 .1 .0 .0 .1) (are .1 .1 .1 .0 .0 .1) (are .1 .1 .1 .1 .0) (are .1 .1 .1 .1 .1 .0 .0 .1)))
 
 walked-meets : {M : Type 1} (𝓤 : URA M) (H : Heap 𝓤) (A : Atoms 𝓤) (W : Given 𝓤 H A) (mem : Memory → SProp 𝓤) (run : Routine → Fun 𝓤) (𝓣 : Tables 𝓤 H)
     → Triple 𝓤 (𝓣 .C #read-walk·next) (Next 𝓤 H A mem run)
     → Meets 𝓤 H A walked.signature (WpFn 𝓤 H (𝓣 .C) (𝓣 .Λ) code.function) (walked.spec 𝓤 H A mem run)
 walked-meets 𝓤 H A W mem run 𝓣 known =
-    walk-meets 𝓤 H A walked.ended stayed W (goes-dropped 𝓤 H A W 4 (shrSliceOf (0 ∷ []) tt (plain (λ _. u8))) yes (λ κs x f. refl), (goes-none 𝓤 H A W 4 (λ _. usize) yes (λ κs x f. refl), (goes-dropped 𝓤 H A W 4 (shrSliceOf (1 ∷ []) tt (plain (λ _. u8))) yes (λ κs x f. refl), (goes-dropped 𝓤 H A W 4 (shrSliceOf (2 ∷ []) tt (plain (λ _. u8))) yes (λ κs x f. refl), (goes-dropped 𝓤 H A W 4 (plain (λ _. Q.the-row)) yes (λ κs x f. refl), (goes-gave-slice 𝓤 H A W 4 3 tt (plain (λ _. u8)), tt))))))
+    walk-meets 𝓤 H A walked.ended stayed W (
+      goes-dropped 𝓤 H A W 4 (shrSliceOf (0 ∷ []) tt (plain (λ _. u8))) yes (λ κs x f. refl),
+      (
+        goes-none 𝓤 H A W 4 (λ _. usize) yes (λ κs x f. refl),
+        (
+          goes-dropped 𝓤 H A W 4 (shrSliceOf (1 ∷ []) tt (plain (λ _. u8))) yes (λ κs x f. refl),
+          (
+            goes-dropped 𝓤 H A W 4 (shrSliceOf (2 ∷ []) tt (plain (λ _. u8))) yes (λ κs x f. refl),
+            (goes-dropped 𝓤 H A W 4 (plain (λ _. Q.the-row)) yes (λ κs x f. refl), (goes-gave-slice 𝓤 H A W 4 3 tt (plain (λ _. u8)), tt)),
+          ),
+        ),
+      ),
+    )
     (walked.clauses 𝓤 H A mem run) (WpFn 𝓤 H (𝓣 .C) (𝓣 .Λ) code.function) (WpFn-mono 𝓤 H (W .laws) 𝓣 code.function)
     (walked-walks 𝓤 H A W mem run (𝓣 .C) (𝓣 .Λ) (fmOf 𝓤 H (W .laws) 𝓣) known)
 

@@ -21,7 +21,8 @@ request-requires c κs = search needs
 returns : tie.Need-returns
 returns c =
     let s = c .before .before .before .before .before .before in
-    kept-given (s .args .s) (s .args .buf .now) (s .pre .0) (told (s .args .key .now) (s .args .font .now) (s .args .layout)) (s .args .editions) (s .pre .1) (c .before .request .result) (c .before .request .ensures)
+    kept-given (s .args .s) (s .args .buf .now) (s .pre .0) (told (s .args .key .now) (s .args .font .now) (s .args .layout)) (s .args .editions) (s .pre .1)
+    (c .before .request .result) (c .before .request .ensures)
 
 pub give-spec : {M : Type 1} → statement M
 give-spec =

@@ -10,7 +10,8 @@ fail-requires : tie.Need-fail-requires
 fail-requires c κs = search needs
 
 returns : tie.Need-returns
-returns c = c .fail .ensures ∙ print-none (c .before .before .before .before .args .s) (c .before .before .before .before .args .value .now) (c .before .if1 .taken)
+returns c = c .fail .ensures ∙ print-none (c .before .before .before .before .args .s) (c .before .before .before .before .args .value .now)
+    (c .before .if1 .taken)
 
 slice-aggregate-front-is : tie.Need-slice-aggregate-front-is
 slice-aggregate-front-is c = search needs
@@ -26,12 +27,14 @@ returns-2 c =
 returns-3 : tie.Need-returns-3
 returns-3 c =
     let s = c .before .before .before .before .before .before .before .before .before in
-    print-first (s .args .s) (s .args .value .now) (c .before .before .before .before .before .before .if1 .left) (sym (c .before .before .before .front-is .ensures) ∙ c .before .before .if2 .left) (c .if3 .taken)
+    print-first (s .args .s) (s .args .value .now) (c .before .before .before .before .before .before .if1 .left)
+    (sym (c .before .before .before .front-is .ensures) ∙ c .before .before .if2 .left) (c .if3 .taken)
 
 returns-4 : tie.Need-returns-4
 returns-4 c =
     let s = c .before .before .before .before .before .before .before .before .before in
-    print-later (s .args .s) (s .args .value .now) (c .before .before .before .before .before .before .if1 .left) (sym (c .before .before .before .front-is .ensures) ∙ c .before .before .if2 .left) (c .if3 .left)
+    print-later (s .args .s) (s .args .value .now) (c .before .before .before .before .before .before .if1 .left)
+    (sym (c .before .before .before .front-is .ensures) ∙ c .before .before .if2 .left) (c .if3 .left)
 
 pub print-spec : {M : Type 1} → statement M
 print-spec =

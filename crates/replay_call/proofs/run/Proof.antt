@@ -21,37 +21,95 @@ begin-requires : tie.Need-begin-requires Inv-loop μ-loop
 begin-requires c κs = search needs
 
 loop-holds : tie.Need-loop-holds Inv-loop μ-loop
-loop-holds c = running-none (judging (told (c .before .before .before .before .before .args .key .now) (c .before .before .before .before .before .args .font .now) (c .before .before .before .before .before .args .layout)) (c .before .before .before .before .before .args .editions)) (c .before .before .before .before .before .args .trace .now) (c .before .before .before .before .before .args .buf .now) (c .before .before .before .before .before .args .limit) (c .before .before .before .before .before .pre .0) _ (c .begin .ensures)
+loop-holds c = running-none (judging (told (c .before .before .before .before .before .args .key .now)
+    (c .before .before .before .before .before .args .font .now) (c .before .before .before .before .before .args .layout))
+    (c .before .before .before .before .before .args .editions)) (c .before .before .before .before .before .args .trace .now)
+    (c .before .before .before .before .before .args .buf .now) (c .before .before .before .before .before .args .limit)
+    (c .before .before .before .before .before .pre .0) _ (c .begin .ensures)
 
 same-length : tie.Need-same-length Inv-loop μ-loop
 same-length c = c .before .before .before .before .loop .inv .long
 
 returns : tie.Need-returns Inv-loop μ-loop
-returns c = running-out (judging (told (c .before .before .before .before .before .before .before .before .before .before .args .key .now) (c .before .before .before .before .before .before .before .before .before .before .args .font .now) (c .before .before .before .before .before .before .before .before .before .before .args .layout)) (c .before .before .before .before .before .before .before .before .before .before .args .editions)) (c .before .before .before .before .before .before .before .before .before .before .args .trace .now) (c .before .before .before .before .before .before .before .before .before .before .args .buf .now) (c .before .before .before .before .before .before .before .before .before .before .args .limit) (c .before .before .before .before .loop .inv) (c .if2 .taken)
+returns c = running-out (judging (told (c .before .before .before .before .before .before .before .before .before .before .args .key .now)
+    (c .before .before .before .before .before .before .before .before .before .before .args .font .now)
+    (c .before .before .before .before .before .before .before .before .before .before .args .layout))
+    (c .before .before .before .before .before .before .before .before .before .before .args .editions))
+    (c .before .before .before .before .before .before .before .before .before .before .args .trace .now)
+    (c .before .before .before .before .before .before .before .before .before .before .args .buf .now)
+    (c .before .before .before .before .before .before .before .before .before .before .args .limit) (c .before .before .before .before .loop .inv)
+    (c .if2 .taken)
 
 step-requires : tie.Need-step-requires Inv-loop μ-loop
-step-requires c κs = (c .before .before .before .before .before .loop .inv .sound, (omega (arith, c .before .before .before .before .before .loop .inv .events-few, c .before .if2 .left), c .before .before .before .before .before .before .before .before .before .before .before .pre .1))
+step-requires c κs = (
+  c .before .before .before .before .before .loop .inv .sound,
+  (
+    omega (arith, c .before .before .before .before .before .loop .inv .events-few, c .before .if2 .left),
+    c .before .before .before .before .before .before .before .before .before .before .before .pre .1,
+  ),
+)
 
 is-done-requires : tie.Need-is-done-requires Inv-loop μ-loop
 is-done-requires c κs = search needs
 
 same-length-2 : tie.Need-same-length-2 Inv-loop μ-loop
-same-length-2 c = c .before .before .before .before .step .ensures .long ∙ c .before .before .before .before .before .before .before .before .before .before .loop .inv .long
+same-length-2 c = c .before .before .before .before .step .ensures .long ∙
+    c .before .before .before .before .before .before .before .before .before .before .loop .inv .long
 
 returns-2 : tie.Need-returns-2 Inv-loop μ-loop
-returns-2 c = running-stops (judging (told (c .before .before .before .before .before .before .before .before .before .before .before .before .before .before .before .before .args .key .now) (c .before .before .before .before .before .before .before .before .before .before .before .before .before .before .before .before .args .font .now) (c .before .before .before .before .before .before .before .before .before .before .before .before .before .before .before .before .args .layout)) (c .before .before .before .before .before .before .before .before .before .before .before .before .before .before .before .before .args .editions)) (c .before .before .before .before .before .before .before .before .before .before .before .before .before .before .before .before .args .trace .now) (c .before .before .before .before .before .before .before .before .before .before .before .before .before .before .before .before .args .buf .now) (c .before .before .before .before .before .before .before .before .before .before .before .before .before .before .before .before .args .limit) (c .before .before .before .before .before .before .before .before .before .before .loop .inv) (c .before .before .before .before .before .before .before .before .if1 .taken) (c .before .before .before .before .before .before .if2 .left) _ _ (c .before .before .before .before .step .ensures) (sym (c .before .is-done .ensures) ∙ not-true _ (c .if3 .taken))
+returns-2 c = running-stops
+    (judging (told (c .before .before .before .before .before .before .before .before .before .before .before .before .before .before .before .before .args
+    .key .now) (c .before .before .before .before .before .before .before .before .before .before .before .before .before .before .before .before .args
+    .font .now) (c .before .before .before .before .before .before .before .before .before .before .before .before .before .before .before .before .args
+    .layout)) (c .before .before .before .before .before .before .before .before .before .before .before .before .before .before .before .before .args
+    .editions)) (c .before .before .before .before .before .before .before .before .before .before .before .before .before .before .before .before .args
+    .trace .now) (c .before .before .before .before .before .before .before .before .before .before .before .before .before .before .before .before .args
+    .buf .now) (c .before .before .before .before .before .before .before .before .before .before .before .before .before .before .before .before .args
+    .limit) (c .before .before .before .before .before .before .before .before .before .before .loop .inv)
+    (c .before .before .before .before .before .before .before .before .if1 .taken) (c .before .before .before .before .before .before .if2 .left) _ _
+    (c .before .before .before .before .step .ensures) (sym (c .before .is-done .ensures) ∙ not-true _ (c .if3 .taken))
 
 loop-less : tie.Need-loop-less Inv-loop μ-loop
-loop-less c = omega (arith, c .before .before .before .before .before .before .before .before .if1 .taken, counts (judging (told (c .before .before .before .before .before .before .before .before .before .before .before .before .before .before .before .before .args .key .now) (c .before .before .before .before .before .before .before .before .before .before .before .before .before .before .before .before .args .font .now) (c .before .before .before .before .before .before .before .before .before .before .before .before .before .before .before .before .args .layout)) (c .before .before .before .before .before .before .before .before .before .before .before .before .before .before .before .before .args .editions)) (c .before .before .before .before .before .before .before .before .before .before .before .before .before .before .before .before .args .trace .now) (c .before .before .before .before .before .before .before .before .before .before .before .before .before .before .before .before .args .buf .now) (c .before .before .before .before .before .before .before .before .before .before .before .before .before .before .before .before .args .limit) (c .before .before .before .before .before .before .before .before .before .before .loop .inv) (c .before .before .before .before .before .before .before .before .if1 .taken) (c .before .before .before .before .before .before .if2 .left) _ _ (c .before .before .before .before .step .ensures))
+loop-less c = omega (
+  arith,
+  c .before .before .before .before .before .before .before .before .if1 .taken,
+  counts
+      (judging (told (c .before .before .before .before .before .before .before .before .before .before .before .before .before .before .before .before .args
+      .key .now) (c .before .before .before .before .before .before .before .before .before .before .before .before .before .before .before .before .args
+      .font .now) (c .before .before .before .before .before .before .before .before .before .before .before .before .before .before .before .before .args
+      .layout)) (c .before .before .before .before .before .before .before .before .before .before .before .before .before .before .before .before .args
+      .editions)) (c .before .before .before .before .before .before .before .before .before .before .before .before .before .before .before .before .args
+      .trace .now) (c .before .before .before .before .before .before .before .before .before .before .before .before .before .before .before .before .args
+      .buf .now) (c .before .before .before .before .before .before .before .before .before .before .before .before .before .before .before .before .args
+      .limit) (c .before .before .before .before .before .before .before .before .before .before .loop .inv)
+      (c .before .before .before .before .before .before .before .before .if1 .taken) (c .before .before .before .before .before .before .if2 .left) _ _
+      (c .before .before .before .before .step .ensures),
+)
 
 loop-again : tie.Need-loop-again Inv-loop μ-loop
-loop-again c = running-more (judging (told (c .before .before .before .before .before .before .before .before .before .before .before .before .before .before .before .before .args .key .now) (c .before .before .before .before .before .before .before .before .before .before .before .before .before .before .before .before .args .font .now) (c .before .before .before .before .before .before .before .before .before .before .before .before .before .before .before .before .args .layout)) (c .before .before .before .before .before .before .before .before .before .before .before .before .before .before .before .before .args .editions)) (c .before .before .before .before .before .before .before .before .before .before .before .before .before .before .before .before .args .trace .now) (c .before .before .before .before .before .before .before .before .before .before .before .before .before .before .before .before .args .buf .now) (c .before .before .before .before .before .before .before .before .before .before .before .before .before .before .before .before .args .limit) (c .before .before .before .before .before .before .before .before .before .before .loop .inv) (c .before .before .before .before .before .before .before .before .if1 .taken) (c .before .before .before .before .before .before .if2 .left) _ _ (c .before .before .before .before .step .ensures) (sym (c .before .is-done .ensures) ∙ not-false _ (c .if3 .left))
+loop-again c = running-more
+    (judging (told (c .before .before .before .before .before .before .before .before .before .before .before .before .before .before .before .before .args
+    .key .now) (c .before .before .before .before .before .before .before .before .before .before .before .before .before .before .before .before .args
+    .font .now) (c .before .before .before .before .before .before .before .before .before .before .before .before .before .before .before .before .args
+    .layout)) (c .before .before .before .before .before .before .before .before .before .before .before .before .before .before .before .before .args
+    .editions)) (c .before .before .before .before .before .before .before .before .before .before .before .before .before .before .before .before .args
+    .trace .now) (c .before .before .before .before .before .before .before .before .before .before .before .before .before .before .before .before .args
+    .buf .now) (c .before .before .before .before .before .before .before .before .before .before .before .before .before .before .before .before .args
+    .limit) (c .before .before .before .before .before .before .before .before .before .before .loop .inv)
+    (c .before .before .before .before .before .before .before .before .if1 .taken) (c .before .before .before .before .before .before .if2 .left) _ _
+    (c .before .before .before .before .step .ensures) (sym (c .before .is-done .ensures) ∙ not-false _ (c .if3 .left))
 
 same-length-3 : tie.Need-same-length-3 Inv-loop μ-loop
 same-length-3 c = c .before .before .loop .inv .long
 
 returns-3 : tie.Need-returns-3 Inv-loop μ-loop
-returns-3 c = running-all (judging (told (c .before .before .before .before .before .before .before .before .args .key .now) (c .before .before .before .before .before .before .before .before .args .font .now) (c .before .before .before .before .before .before .before .before .args .layout)) (c .before .before .before .before .before .before .before .before .args .editions)) (c .before .before .before .before .before .before .before .before .args .trace .now) (c .before .before .before .before .before .before .before .before .args .buf .now) (c .before .before .before .before .before .before .before .before .args .limit) (c .before .before .loop .inv) (c .if1 .left)
+returns-3 c = running-all (judging (told (c .before .before .before .before .before .before .before .before .args .key .now)
+    (c .before .before .before .before .before .before .before .before .args .font .now)
+    (c .before .before .before .before .before .before .before .before .args .layout))
+    (c .before .before .before .before .before .before .before .before .args .editions))
+    (c .before .before .before .before .before .before .before .before .args .trace .now)
+    (c .before .before .before .before .before .before .before .before .args .buf .now)
+    (c .before .before .before .before .before .before .before .before .args .limit) (c .before .before .loop .inv) (c .if1 .left)
 
 pub run-spec : {M : Type 1} → statement M
 run-spec =

@@ -21,17 +21,23 @@ enum-told c = search needs
 
 sub-take-in : tie.Need-sub-take-in
 sub-take-in c =
-    let g = received-inside (c .before .before .before .before .before .before .before .before .args .trace .now) (c .before .before .before .before .before .before .before .before .args .s .at) (c .before .before .before .event-at .result) (c .before .before .before .event-at .ensures) (c .enum-told .given .1) in
+    let g = received-inside (c .before .before .before .before .before .before .before .before .args .trace .now)
+    (c .before .before .before .before .before .before .before .before .args .s .at) (c .before .before .before .event-at .result)
+    (c .before .before .before .event-at .ensures) (c .enum-told .given .1) in
     omega (arith, g .order, g .within)
 
 part-take-in-start : tie.Need-part-take-in-start
 part-take-in-start c =
-    let g = received-inside (c .before .before .before .before .before .before .before .before .args .trace .now) (c .before .before .before .before .before .before .before .before .args .s .at) (c .before .before .before .event-at .result) (c .before .before .before .event-at .ensures) (c .enum-told .given .1) in
+    let g = received-inside (c .before .before .before .before .before .before .before .before .args .trace .now)
+    (c .before .before .before .before .before .before .before .before .args .s .at) (c .before .before .before .event-at .result)
+    (c .before .before .before .event-at .ensures) (c .enum-told .given .1) in
     omega (arith, g .order, g .within)
 
 part-take-in-end : tie.Need-part-take-in-end
 part-take-in-end c =
-    let g = received-inside (c .before .before .before .before .before .before .before .before .args .trace .now) (c .before .before .before .before .before .before .before .before .args .s .at) (c .before .before .before .event-at .result) (c .before .before .before .event-at .ensures) (c .enum-told .given .1) in
+    let g = received-inside (c .before .before .before .before .before .before .before .before .args .trace .now)
+    (c .before .before .before .before .before .before .before .before .args .s .at) (c .before .before .before .event-at .result)
+    (c .before .before .before .event-at .ensures) (c .enum-told .given .1) in
     omega (arith, g .order, g .within)
 
 take-in-requires : tie.Need-take-in-requires
@@ -48,17 +54,23 @@ enum-told-3 c = search needs
 
 sub-print : tie.Need-sub-print
 sub-print c =
-    let g = printed-inside (c .before .before .before .before .before .before .before .before .args .trace .now) (c .before .before .before .before .before .before .before .before .args .s .at) (c .before .before .before .event-at .result) (c .before .before .before .event-at .ensures) (c .enum-told3 .given .1) in
+    let g = printed-inside (c .before .before .before .before .before .before .before .before .args .trace .now)
+    (c .before .before .before .before .before .before .before .before .args .s .at) (c .before .before .before .event-at .result)
+    (c .before .before .before .event-at .ensures) (c .enum-told3 .given .1) in
     omega (arith, g .order, g .within)
 
 part-print-start : tie.Need-part-print-start
 part-print-start c =
-    let g = printed-inside (c .before .before .before .before .before .before .before .before .args .trace .now) (c .before .before .before .before .before .before .before .before .args .s .at) (c .before .before .before .event-at .result) (c .before .before .before .event-at .ensures) (c .enum-told3 .given .1) in
+    let g = printed-inside (c .before .before .before .before .before .before .before .before .args .trace .now)
+    (c .before .before .before .before .before .before .before .before .args .s .at) (c .before .before .before .event-at .result)
+    (c .before .before .before .event-at .ensures) (c .enum-told3 .given .1) in
     omega (arith, g .order, g .within)
 
 part-print-end : tie.Need-part-print-end
 part-print-end c =
-    let g = printed-inside (c .before .before .before .before .before .before .before .before .args .trace .now) (c .before .before .before .before .before .before .before .before .args .s .at) (c .before .before .before .event-at .result) (c .before .before .before .event-at .ensures) (c .enum-told3 .given .1) in
+    let g = printed-inside (c .before .before .before .before .before .before .before .before .args .trace .now)
+    (c .before .before .before .before .before .before .before .before .args .s .at) (c .before .before .before .event-at .result)
+    (c .before .before .before .event-at .ensures) (c .enum-told3 .given .1) in
     omega (arith, g .order, g .within)
 
 print-requires : tie.Need-print-requires
@@ -77,7 +89,9 @@ returns : tie.Need-returns
 returns c =
     let s = c .before .before .before .before .before .before .before .before .before .before .before .before .before in
     let e = c .before .before .before .before .before .before .before .before .event-at .result in
-    step-kept (judging (told (s .args .key .now) (s .args .font .now) (s .args .layout)) (s .args .editions)) (s .args .trace .now) (s .args .s) (s .args .buf .now) _ _ e (c .before .before .before .before .before .before .before .before .event-at .ensures) Received (c .before .before .before .before .before .enum-told .given .1) (c .before .before .take-in .ensures)
+    step-kept (judging (told (s .args .key .now) (s .args .font .now) (s .args .layout)) (s .args .editions)) (s .args .trace .now) (s .args .s)
+    (s .args .buf .now) _ _ e (c .before .before .before .before .before .before .before .before .event-at .ensures) Received
+    (c .before .before .before .before .before .enum-told .given .1) (c .before .before .take-in .ensures)
 
 same-length-2 : tie.Need-same-length-2
 same-length-2 c = search needs
@@ -86,19 +100,26 @@ returns-2 : tie.Need-returns-2
 returns-2 c =
     let s = c .before .before .before .before .before .before .before .before .before .before in
     let e = c .before .before .before .before .before .event-at .result in
-    step-kept (judging (told (s .args .key .now) (s .args .font .now) (s .args .layout)) (s .args .editions)) (s .args .trace .now) (s .args .s) (s .args .buf .now) _ _ e (c .before .before .before .before .before .event-at .ensures) Asked (c .before .before .enum-told2 .given .1) (c .give .ensures)
+    step-kept (judging (told (s .args .key .now) (s .args .font .now) (s .args .layout)) (s .args .editions)) (s .args .trace .now) (s .args .s)
+    (s .args .buf .now) _ _ e (c .before .before .before .before .before .event-at .ensures) Asked (c .before .before .enum-told2 .given .1)
+    (c .give .ensures)
 
 returns-3 : tie.Need-returns-3
 returns-3 c =
     let s = c .before .before .before .before .before .before .before .before .before .before in
     let e = c .before .before .before .before .before .event-at .result in
-    rw (c .print .ensures) (step-kept (judging (told (s .args .key .now) (s .args .font .now) (s .args .layout)) (s .args .editions)) (s .args .trace .now) (s .args .s) (s .args .buf .now) _ _ e (c .before .before .before .before .before .event-at .ensures) Printed (c .before .before .enum-told3 .given .1) (kept-printed (moved (s .args .s) e) (bytesOf (s .args .trace .now) e) (s .args .buf .now) (moved-sound (s .args .s) e (s .args .buf .now) (s .pre .0))))
+    rw (c .print .ensures) (step-kept (judging (told (s .args .key .now) (s .args .font .now) (s .args .layout)) (s .args .editions)) (s .args .trace .now)
+    (s .args .s) (s .args .buf .now) _ _ e (c .before .before .before .before .before .event-at .ensures) Printed (c .before .before .enum-told3 .given .1)
+    (kept-printed (moved (s .args .s) e) (bytesOf (s .args .trace .now) e) (s .args .buf .now)
+    (moved-sound (s .args .s) e (s .args .buf .now) (s .pre .0))))
 
 returns-4 : tie.Need-returns-4
 returns-4 c =
     let s = c .before .before .before .before .before .before .before .before .before in
     let e = c .before .before .before .before .event-at .result in
-    rw (c .fail .ensures) (step-kept (judging (told (s .args .key .now) (s .args .font .now) (s .args .layout)) (s .args .editions)) (s .args .trace .now) (s .args .s) (s .args .buf .now) _ _ e (c .before .before .before .before .event-at .ensures) Bad (c .before .enum-told4 .given .1) (kept-failed Field (moved (s .args .s) e) (s .args .buf .now) (moved-sound (s .args .s) e (s .args .buf .now) (s .pre .0))))
+    rw (c .fail .ensures) (step-kept (judging (told (s .args .key .now) (s .args .font .now) (s .args .layout)) (s .args .editions)) (s .args .trace .now)
+    (s .args .s) (s .args .buf .now) _ _ e (c .before .before .before .before .event-at .ensures) Bad (c .before .enum-told4 .given .1)
+    (kept-failed Field (moved (s .args .s) e) (s .args .buf .now) (moved-sound (s .args .s) e (s .args .buf .now) (s .pre .0))))
 
 pub step-spec : {M : Type 1} → statement M
 step-spec =

@@ -29,7 +29,11 @@ copy-requires : tie.Need-copy-requires
 copy-requires c κs = search needs
 
 add-s : tie.Need-add-s
-add-s c = omega (arith, c .before .before .before .before .before .before .before .pre .few, c .before .before .before .before .before .before .before .pre .room)
+add-s c = omega (
+  arith,
+  c .before .before .before .before .before .before .before .pre .few,
+  c .before .before .before .before .before .before .before .pre .room,
+)
 
 same-length : tie.Need-same-length
 same-length c = search needs

@@ -58,7 +58,12 @@ returns-3 c =
     let s = c .before .before .before .before .before .before .before .before .before .before .before in
     let said = c .before .before .before .length-said .ensures in
     let kind = c .before .before .before .before .before .before .kind-of .ensures in
-    c .bad3 .ensures ∙ other-length (s .args .trace .now) (s .args .at) (omega (arith, c .before .before .before .before .before .before .before .before .if2 .left, c .before .before .before .before .before .before .before .before .before .if1 .left))
+    c .bad3 .ensures ∙ other-length (s .args .trace .now) (s .args .at)
+    (omega (
+      arith,
+      c .before .before .before .before .before .before .before .before .if2 .left,
+      c .before .before .before .before .before .before .before .before .before .if1 .left,
+    ))
     (rw (said, kind) at (sym (c .before .before .rule-takes .ensures) ∙ not-true _ (c .before .if3 .taken)))
 
 bad-requires-4 : tie.Need-bad-requires-4
@@ -70,7 +75,12 @@ returns-4 c =
     let said = c .before .before .before .before .length-said .ensures in
     let kind = c .before .before .before .before .before .before .before .kind-of .ensures in
     let short : length (s .args .trace .now) - s .args .at - headLength < c .before .before .before .before .length-said .result = c .before .if4 .taken in
-    c .bad4 .ensures ∙ too-short (s .args .trace .now) (s .args .at) (omega (arith, c .before .before .before .before .before .before .before .before .before .if2 .left, c .before .before .before .before .before .before .before .before .before .before .if1 .left))
+    c .bad4 .ensures ∙ too-short (s .args .trace .now) (s .args .at)
+    (omega (
+      arith,
+      c .before .before .before .before .before .before .before .before .before .if2 .left,
+      c .before .before .before .before .before .before .before .before .before .before .if1 .left,
+    ))
     (rw (said, kind) at (sym (c .before .before .before .rule-takes .ensures) ∙ not-false _ (c .before .before .if3 .left))) (rw said at short)
 
 add-start : tie.Need-add-start
@@ -85,7 +95,11 @@ returns-5 c =
     let said = c .before .before .before .length-said .ensures in
     let kind = c .before .before .before .before .before .before .kind-of .ensures in
     let long : c .before .before .before .length-said .result ≤ length (s .args .trace .now) - s .args .at - headLength = c .if4 .left in
-    rw (said, kind) (whole (s .args .trace .now) (s .args .at) (omega (arith, c .before .before .before .before .before .before .before .before .if2 .left, c .before .before .before .before .before .before .before .before .before .if1 .left))
+    rw (said, kind) (whole (s .args .trace .now) (s .args .at) (omega (
+      arith,
+      c .before .before .before .before .before .before .before .before .if2 .left,
+      c .before .before .before .before .before .before .before .before .before .if1 .left,
+    ))
     (rw (said, kind) at (sym (c .before .before .rule-takes .ensures) ∙ not-false _ (c .before .if3 .left))) (rw said at long))
 
 pub event-at-spec : {M : Type 1} → statement M

@@ -31,7 +31,9 @@ returns : tie.Need-returns Inv-loop μ-loop
 returns c =
     let s = c .before .before .before .before .before .before .before .before .before in
     let l = c .before .before .before .before .before .loop in
-    line-told (told (s .args .key .now) (s .args .font .now) (s .args .layout)) (s .args .editions) (s .args .stream .now) (s .pre .0) (s .pre .1) (l .at) (c .before .before .before .before .loop-test .taken) (c .before .before .before .look-at .result) (c .before .before .before .look-at .ensures) (c .before .if1 .taken)
+    line-told (told (s .args .key .now) (s .args .font .now) (s .args .layout)) (s .args .editions) (s .args .stream .now) (s .pre .0) (s .pre .1) (l .at)
+    (c .before .before .before .before .loop-test .taken) (c .before .before .before .look-at .result) (c .before .before .before .look-at .ensures)
+    (c .before .if1 .taken)
     ∙ sym (ap reachedOf (l .inv))
 
 nothing-at-requires : tie.Need-nothing-at-requires Inv-loop μ-loop
@@ -43,14 +45,17 @@ returns-2 c =
     let l = c .before .before .before .before .before .before .before .loop in
     let k = c .before .before .before .before .before .look-at in
     c .nothing-at .ensures
-    ∙ sym (ap reachedOf (l .inv ∙ end-told (told (s .args .key .now) (s .args .font .now) (s .args .layout)) (s .args .editions) (s .args .stream .now) (s .pre .0) (s .pre .1) (l .at) (c .before .before .before .before .before .before .loop-test .taken) (k .result) (k .ensures) (c .before .before .before .if1 .left) (c .before .if2 .taken)))
+    ∙ sym (ap reachedOf (l .inv ∙ end-told (told (s .args .key .now) (s .args .font .now) (s .args .layout)) (s .args .editions) (s .args .stream .now)
+    (s .pre .0) (s .pre .1) (l .at) (c .before .before .before .before .before .before .loop-test .taken) (k .result) (k .ensures)
+    (c .before .before .before .if1 .left) (c .before .if2 .taken)))
 
 loop-less : tie.Need-loop-less Inv-loop μ-loop
 loop-less c =
     let s = c .before .before .before .before .before .before .before .before .before .before in
     let l = c .before .before .before .before .before .before .loop in
     let k = c .before .before .before .before .look-at in
-    let g = pass-told (told (s .args .key .now) (s .args .font .now) (s .args .layout)) (s .args .editions) (s .args .stream .now) (s .pre .0) (s .pre .1) (l .at) (c .before .before .before .before .before .loop-test .taken) (k .result) (k .ensures) (c .before .before .if1 .left) (c .if2 .left) in
+    let g = pass-told (told (s .args .key .now) (s .args .font .now) (s .args .layout)) (s .args .editions) (s .args .stream .now) (s .pre .0) (s .pre .1)
+    (l .at) (c .before .before .before .before .before .loop-test .taken) (k .result) (k .ensures) (c .before .before .if1 .left) (c .if2 .left) in
     omega (arith, g .on, g .within)
 
 loop-again : tie.Need-loop-again Inv-loop μ-loop
@@ -58,7 +63,8 @@ loop-again c =
     let s = c .before .before .before .before .before .before .before .before .before .before in
     let l = c .before .before .before .before .before .before .loop in
     let k = c .before .before .before .before .look-at in
-    l .inv ∙ pass-told (told (s .args .key .now) (s .args .font .now) (s .args .layout)) (s .args .editions) (s .args .stream .now) (s .pre .0) (s .pre .1) (l .at) (c .before .before .before .before .before .loop-test .taken) (k .result) (k .ensures) (c .before .before .if1 .left) (c .if2 .left) .same
+    l .inv ∙ pass-told (told (s .args .key .now) (s .args .font .now) (s .args .layout)) (s .args .editions) (s .args .stream .now) (s .pre .0) (s .pre .1)
+    (l .at) (c .before .before .before .before .before .loop-test .taken) (k .result) (k .ensures) (c .before .before .if1 .left) (c .if2 .left) .same
 
 nothing-at-requires-2 : tie.Need-nothing-at-requires-2 Inv-loop μ-loop
 nothing-at-requires-2 c κs = search needs
@@ -68,7 +74,8 @@ returns-3 c =
     let s = c .before .before .before .before .before .before in
     let l = c .before .before .loop in
     c .nothing-at2 .ensures
-    ∙ sym (ap reachedOf (l .inv ∙ request-end (judging (told (s .args .key .now) (s .args .font .now) (s .args .layout)) (s .args .editions)) (s .args .stream .now) (l .at) (c .before .loop-test .left)))
+    ∙ sym (ap reachedOf (l .inv ∙ request-end (judging (told (s .args .key .now) (s .args .font .now) (s .args .layout)) (s .args .editions))
+    (s .args .stream .now) (l .at) (c .before .loop-test .left)))
 
 pub read-on-spec : {M : Type 1} → statement M
 read-on-spec =

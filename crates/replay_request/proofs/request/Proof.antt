@@ -34,7 +34,8 @@ returns-3 c =
     let s = c .before .before .before .before .before .before .before in
     let t = (told (s .args .key .now) (s .args .font .now) (s .args .layout)) in
     c .nothing-at3 .ensures
-    ∙ sym (ap reachedOf (too-long t (s .args .editions) (s .args .stream .now) (s .args .from) (both-sized t (c .before .before .before .if1 .left) (c .before .before .if2 .left)) (c .before .if3 .taken)))
+    ∙ sym (ap reachedOf (too-long t (s .args .editions) (s .args .stream .now) (s .args .from)
+    (both-sized t (c .before .before .before .if1 .left) (c .before .before .if2 .left)) (c .before .if3 .taken)))
 
 read-on-requires : tie.Need-read-on-requires
 read-on-requires c κs =
@@ -46,7 +47,8 @@ returns-4 c =
     let s = c .before .before .before .before .before .before .before in
     let t = (told (s .args .key .now) (s .args .font .now) (s .args .layout)) in
     c .read-on .ensures
-    ∙ sym (ap reachedOf (reads-on t (s .args .editions) (s .args .stream .now) (s .args .from) (both-sized t (c .before .before .before .if1 .left) (c .before .before .if2 .left)) (c .before .if3 .left)))
+    ∙ sym (ap reachedOf (reads-on t (s .args .editions) (s .args .stream .now) (s .args .from)
+    (both-sized t (c .before .before .before .if1 .left) (c .before .before .if2 .left)) (c .before .if3 .left)))
 
 pub request-spec : {M : Type 1} → statement M
 request-spec =

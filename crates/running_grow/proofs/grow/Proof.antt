@@ -18,21 +18,42 @@ sponge-of-requires : tie.Need-sponge-of-requires
 sponge-of-requires c κs = search needs
 
 rem-held : tie.Need-rem-held
-rem-held c = omega (arith, some (c .before .before .before .before .before .args .instance) (c .before .before .before .before .before .args .total) (sym (c .before .before .before .is-unknown .ensures) ∙ c .before .before .if1 .left) (c .before .sponge-of .ensures))
+rem-held c = omega (
+  arith,
+  some (c .before .before .before .before .before .args .instance) (c .before .before .before .before .before .args .total)
+      (sym (c .before .before .before .is-unknown .ensures) ∙ c .before .before .if1 .left) (c .before .sponge-of .ensures),
+)
 
 sub-missing : tie.Need-sub-missing
-sub-missing c = omega (arith, held-less (c .before .before .before .before .before .before .args .instance) (c .before .before .before .before .before .before .args .total) (sym (c .before .before .before .before .is-unknown .ensures) ∙ c .before .before .before .if1 .left) (c .before .before .sponge-of .ensures))
+sub-missing c = omega (
+  arith,
+  held-less (c .before .before .before .before .before .before .args .instance)
+      (c .before .before .before .before .before .before .args .total) (sym (c .before .before .before .before .is-unknown .ensures) ∙
+      c .before .before .before .if1 .left) (c .before .before .sponge-of .ensures),
+)
 
 grow-state-requires : tie.Need-grow-state-requires
-grow-state-requires c κs = growing (c .before .before .before .before .before .before .args .instance) (c .before .before .before .before .before .before .args .total) (sym (c .before .before .before .before .is-unknown .ensures) ∙ c .before .before .before .if1 .left) (c .before .before .sponge-of .ensures)
+grow-state-requires c κs = growing (c .before .before .before .before .before .before .args .instance)
+    (c .before .before .before .before .before .before .args .total) (sym (c .before .before .before .before .is-unknown .ensures) ∙
+    c .before .before .before .if1 .left) (c .before .before .sponge-of .ensures)
 
 grow-block-requires : tie.Need-grow-block-requires
-grow-block-requires c κs = growing (c .before .before .before .before .before .before .before .args .instance) (c .before .before .before .before .before .before .before .args .total) (sym (c .before .before .before .before .before .is-unknown .ensures) ∙ c .before .before .before .before .if1 .left) (c .before .before .before .sponge-of .ensures)
+grow-block-requires c κs = growing (c .before .before .before .before .before .before .before .args .instance)
+    (c .before .before .before .before .before .before .before .args .total) (sym (c .before .before .before .before .before .is-unknown .ensures) ∙
+    c .before .before .before .before .if1 .left) (c .before .before .before .sponge-of .ensures)
 
 returns-2 : tie.Need-returns-2
 unfolding grownBy
 returns-2 c =
-    rw (sym (c .before .before .before .before .before .before .is-unknown .ensures) ∙ c .before .before .before .before .before .if1 .left, c .before .grow-state .ensures, c .grow-block .ensures, rate-is (c .before .before .before .before .before .before .before .before .args .instance) (c .before .before .before .before .before .before .before .before .args .total) (sym (c .before .before .before .before .before .before .is-unknown .ensures) ∙ c .before .before .before .before .before .if1 .left) (c .before .before .before .before .sponge-of .ensures))
+    rw (
+      sym (c .before .before .before .before .before .before .is-unknown .ensures) ∙ c .before .before .before .before .before .if1 .left,
+      c .before .grow-state .ensures,
+      c .grow-block .ensures,
+      rate-is (c .before .before .before .before .before .before .before .before .args .instance)
+          (c .before .before .before .before .before .before .before .before .args .total)
+          (sym (c .before .before .before .before .before .before .is-unknown .ensures) ∙ c .before .before .before .before .before .if1 .left)
+          (c .before .before .before .before .sponge-of .ensures),
+    )
 
 pub grow-spec : {M : Type 1} → statement M
 grow-spec =

@@ -14,7 +14,8 @@ joined-requires c κs = omega (arith, sizes (c .before .before .args .instance) 
 
 returns : tie.Need-returns
 returns c =
-    c .joined .ensures ∙ block-kept (c .before .before .before .args .instance) (c .before .before .before .pre) (c .before .before .before .args .block) (c .before .before .before .args .bytes .now) (search needs) (c .before .if1 .taken)
+    c .joined .ensures ∙ block-kept (c .before .before .before .args .instance) (c .before .before .before .pre) (c .before .before .before .args .block)
+    (c .before .before .before .args .bytes .now) (search needs) (c .before .if1 .taken)
 
 add-rate : tie.Need-add-rate
 add-rate c = omega (arith, sizes (c .before .before .args .instance) (c .before .before .pre))
@@ -46,7 +47,8 @@ joined-requires-2 c κs = omega (arith, sizes (c .before .before .before .args .
 
 returns-2 : tie.Need-returns-2
 returns-2 c =
-    block-grown (c .before .before .before .before .args .instance) (c .before .before .before .before .pre) (c .before .before .before .before .args .block) (c .before .before .before .before .args .bytes .now) (search needs) (c .before .before .if1 .left) _ refl (c .joined2 .ensures)
+    block-grown (c .before .before .before .before .args .instance) (c .before .before .before .before .pre) (c .before .before .before .before .args .block)
+    (c .before .before .before .before .args .bytes .now) (search needs) (c .before .before .if1 .left) _ refl (c .joined2 .ensures)
 
 pub grow-block-spec : {M : Type 1} → statement M
 grow-block-spec =

@@ -20,7 +20,9 @@ take-in-requires c κs = search needs
 
 returns : tie.Need-returns
 returns c =
-    c .take-in .ensures ∙ state-kept (c .before .before .before .before .before .args .instance) (c .before .before .before .before .before .pre) (c .before .before .before .before .before .args .t3) (c .before .before .before .before .before .args .bytes .now) (search needs) (c .before .before .before .if1 .taken) (c .before .before .before .before .before .args .state)
+    c .take-in .ensures ∙ state-kept (c .before .before .before .before .before .args .instance) (c .before .before .before .before .before .pre)
+    (c .before .before .before .before .before .args .t3) (c .before .before .before .before .before .args .bytes .now) (search needs)
+    (c .before .before .before .if1 .taken) (c .before .before .before .before .before .args .state)
 
 sub-joined : tie.Need-sub-joined
 sub-joined c = search needs
@@ -63,7 +65,14 @@ take-in-requires-3 c κs = search needs
 
 returns-2 : tie.Need-returns-2
 returns-2 c =
-    state-grown (c .before .before .before .before .before .before .before .before .before .args .instance) (c .before .before .before .before .before .before .before .before .before .pre) (c .before .before .before .before .before .before .before .before .before .args .t3) (c .before .before .before .before .before .before .before .before .before .args .bytes .now) (search needs) (c .before .before .before .before .before .before .before .if1 .left) (c .before .before .before .before .before .before .before .before .before .args .state) (search needs) (c .before .before .before .before .before .joined .result) (c .before .before .take-in2 .result) _ (c .before .before .before .before .before .joined .ensures) (c .before .before .take-in2 .ensures) (c .take-in3 .ensures)
+    state-grown (c .before .before .before .before .before .before .before .before .before .args .instance)
+    (c .before .before .before .before .before .before .before .before .before .pre)
+    (c .before .before .before .before .before .before .before .before .before .args .t3)
+    (c .before .before .before .before .before .before .before .before .before .args .bytes .now) (search needs)
+    (c .before .before .before .before .before .before .before .if1 .left)
+    (c .before .before .before .before .before .before .before .before .before .args .state) (search needs)
+    (c .before .before .before .before .before .joined .result) (c .before .before .take-in2 .result) _
+    (c .before .before .before .before .before .joined .ensures) (c .before .before .take-in2 .ensures) (c .take-in3 .ensures)
 
 pub grow-state-spec : {M : Type 1} → statement M
 grow-state-spec =

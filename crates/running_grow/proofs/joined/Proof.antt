@@ -33,7 +33,11 @@ copy-requires-2 c κs = search needs
 
 returns : tie.Need-returns
 returns c =
-    block-joined (c .before .before .before .before .before .before .before .before .before .args .t1) (c .before .before .before .before .before .before .before .before .before .args .bytes .now) (c .before .before .before .before .before .before .before .before .before .args .held) _ _ (search needs) (c .before .before .before .before .before .before .before .before .before .pre) (c .before .before .before .before .copy .ensures) (c .before .copy2 .ensures)
+    block-joined (c .before .before .before .before .before .before .before .before .before .args .t1)
+    (c .before .before .before .before .before .before .before .before .before .args .bytes .now)
+    (c .before .before .before .before .before .before .before .before .before .args .held) _ _ (search needs)
+    (c .before .before .before .before .before .before .before .before .before .pre) (c .before .before .before .before .copy .ensures)
+    (c .before .copy2 .ensures)
 
 pub joined-spec : {M : Type 1} → statement M
 joined-spec =

@@ -14,7 +14,8 @@ enum-told : tie.Need-enum-told
 enum-told c = search needs
 
 returns : tie.Need-returns
-returns c = feed-refused (c .before .before .before .args .running) (c .before .before .before .args .bytes .now) (c .before .feed-answer .result) (c .match .keys2) (c .before .feed-answer .ensures)
+returns c = feed-refused (c .before .before .before .args .running) (c .before .before .before .args .bytes .now) (c .before .feed-answer .result)
+    (c .match .keys2) (c .before .feed-answer .ensures)
 
 cast-instance : tie.Need-cast-instance
 cast-instance c = search needs
@@ -25,14 +26,17 @@ grow-requires c κs = search needs
 add-t12 : tie.Need-add-t12
 add-t12 c =
     let a = c .before .before .before .before .before .before .before .before .before .before .args in
-    let e = sym (c .before .before .before .before .before .before .enum-told .given .1) ∙ c .before .before .before .before .before .before .before .before .feed-answer .ensures in
+    let e = sym (c .before .before .before .before .before .before .enum-told .given .1) ∙
+    c .before .before .before .before .before .before .before .before .feed-answer .ensures in
     omega (arith, (feed-tested (a .running) (a .bytes .now) e) .fits)
 
 returns-2 : tie.Need-returns-2
 returns-2 c =
     let a = c .before .before .before .before .before .before .before .before .before .before .args in
-    let e = sym (c .before .before .before .before .before .before .enum-told .given .1) ∙ c .before .before .before .before .before .before .before .before .feed-answer .ensures in
-    feed-done (a .running) (known-of (a .running) ((feed-tested (a .running) (a .bytes .now) e) .usable) .0) (a .bytes .now) (c .before .before .grow .result) e (c .before .before .grow .ensures)
+    let e = sym (c .before .before .before .before .before .before .enum-told .given .1) ∙
+    c .before .before .before .before .before .before .before .before .feed-answer .ensures in
+    feed-done (a .running) (known-of (a .running) ((feed-tested (a .running) (a .bytes .now) e) .usable) .0) (a .bytes .now) (c .before .before .grow .result)
+    e (c .before .before .grow .ensures)
 
 pub after-feed-spec : {M : Type 1} → statement M
 after-feed-spec =

@@ -20,10 +20,15 @@ is-unfeedable-requires c κs = search needs
 
 returns-2 : tie.Need-returns-2
 unfolding feedAnswer
-returns-2 c = rw (le-ltb 0 (c .before .before .before .before .before .args .running .finished) (c .before .before .if1 .left), sym (c .before .is-unfeedable .ensures) ∙ c .if2 .taken)
+returns-2 c = rw (
+  le-ltb 0 (c .before .before .before .before .before .args .running .finished) (c .before .before .if1 .left),
+  sym
+      (c .before .is-unfeedable .ensures) ∙ c .if2 .taken,
+)
 
 sub-if3 : tie.Need-sub-if3
-sub-if3 c = known-of (c .before .before .before .before .before .before .args .running) (sym (c .before .before .is-unfeedable .ensures) ∙ c .before .if2 .left) .1
+sub-if3 c = known-of (c .before .before .before .before .before .before .args .running) (sym (c .before .before .is-unfeedable .ensures) ∙
+    c .before .if2 .left) .1
 
 returns-3 : tie.Need-returns-3
 unfolding feedAnswer
@@ -31,8 +36,14 @@ returns-3 c =
     let r = c .before .before .before .before .before .before .before .args .running in
     let fit = sym (c .before .before .before .is-unfeedable .ensures) ∙ c .before .before .if2 .left in
     let most = known-of r fit .1 in
-    let over : LONGEST-MESSAGE < r .total + length (c .before .before .before .before .before .before .before .args .bytes .now) = omega (arith, most, c .if3 .taken) in
-    rw (le-ltb 0 (r .finished) (c .before .before .before .before .if1 .left), fit, lt-ltb LONGEST-MESSAGE (r .total + length (c .before .before .before .before .before .before .before .args .bytes .now)) over)
+    let over : LONGEST-MESSAGE < r .total + length (c .before .before .before .before .before .before .before .args .bytes .now) = omega
+    (arith, most, c .if3 .taken) in
+    rw (
+      le-ltb 0 (r .finished) (c .before .before .before .before .if1 .left),
+      fit,
+      lt-ltb LONGEST-MESSAGE
+          (r .total + length (c .before .before .before .before .before .before .before .args .bytes .now)) over,
+    )
 
 returns-4 : tie.Need-returns-4
 unfolding feedAnswer
@@ -40,8 +51,14 @@ returns-4 c =
     let r = c .before .before .before .before .before .before .before .args .running in
     let fit = sym (c .before .before .before .is-unfeedable .ensures) ∙ c .before .before .if2 .left in
     let most = known-of r fit .1 in
-    let fits : r .total + length (c .before .before .before .before .before .before .before .args .bytes .now) ≤ LONGEST-MESSAGE = omega (arith, most, c .if3 .left) in
-    rw (le-ltb 0 (r .finished) (c .before .before .before .before .if1 .left), fit, le-ltb LONGEST-MESSAGE (r .total + length (c .before .before .before .before .before .before .before .args .bytes .now)) fits)
+    let fits : r .total + length (c .before .before .before .before .before .before .before .args .bytes .now) ≤ LONGEST-MESSAGE = omega
+    (arith, most, c .if3 .left) in
+    rw (
+      le-ltb 0 (r .finished) (c .before .before .before .before .if1 .left),
+      fit,
+      le-ltb LONGEST-MESSAGE
+          (r .total + length (c .before .before .before .before .before .before .before .args .bytes .now)) fits,
+    )
 
 pub feed-answer-spec : {M : Type 1} → statement M
 feed-answer-spec =

@@ -21,12 +21,22 @@ is-unfeedable-requires c κs = search needs
 
 returns-2 : tie.Need-returns-2
 unfolding finishAnswer finishOut
-returns-2 c = rw (le-ltb 0 (c .before .before .before .before .before .args .running .finished) (c .before .before .if1 .left), sym (c .before .is-unfeedable .ensures) ∙ c .if2 .taken) (refl, refl)
+returns-2 c = rw (
+  le-ltb 0 (c .before .before .before .before .before .args .running .finished) (c .before .before .if1 .left),
+  sym
+      (c .before .is-unfeedable .ensures) ∙ c .if2 .taken,
+) (refl, refl)
 
 returns-3 : tie.Need-returns-3
 unfolding finishAnswer finishOut
 returns-3 c =
-    rw (le-ltb 0 (c .before .before .before .before .before .before .args .running .finished) (c .before .before .before .if1 .left), sym (c .before .before .is-unfeedable .ensures) ∙ c .before .if2 .left, lt-ltb (length (c .before .before .before .before .before .before .args .out .now)) DIGEST (c .if3 .taken)) (refl, refl)
+    rw (
+      le-ltb 0 (c .before .before .before .before .before .before .args .running .finished) (c .before .before .before .if1 .left),
+      sym
+          (c .before .before .is-unfeedable .ensures) ∙ c .before .if2 .left,
+      lt-ltb (length (c .before .before .before .before .before .before .args .out .now))
+          DIGEST (c .if3 .taken),
+    ) (refl, refl)
 
 cast-instance : tie.Need-cast-instance
 cast-instance c = search needs
@@ -35,10 +45,20 @@ sponge-of-requires : tie.Need-sponge-of-requires
 sponge-of-requires c κs = search needs
 
 rem-held : tie.Need-rem-held
-rem-held c = omega (arith, some (c .before .before .before .before .before .before .before .before .args .running .instance) (c .before .before .before .before .before .before .before .before .args .running .total) (known-of (c .before .before .before .before .before .before .before .before .args .running) (sym (c .before .before .before .before .is-unfeedable .ensures) ∙ c .before .before .before .if2 .left) .0) (c .sponge-of .ensures))
+rem-held c = omega (
+  arith,
+  some (c .before .before .before .before .before .before .before .before .args .running .instance)
+      (c .before .before .before .before .before .before .before .before .args .running .total)
+      (known-of (c .before .before .before .before .before .before .before .before .args .running)
+      (sym (c .before .before .before .before .is-unfeedable .ensures) ∙ c .before .before .before .if2 .left) .0) (c .sponge-of .ensures),
+)
 
 hash-of-requires : tie.Need-hash-of-requires
-hash-of-requires c κs = held-fits (c .before .before .before .before .before .before .before .before .before .before .args .running .instance) (c .before .before .before .before .before .before .before .before .before .before .args .running .total) (known-of (c .before .before .before .before .before .before .before .before .before .before .args .running) (sym (c .before .before .before .before .before .before .is-unfeedable .ensures) ∙ c .before .before .before .before .before .if2 .left) .0) (c .before .before .sponge-of .ensures)
+hash-of-requires c κs = held-fits (c .before .before .before .before .before .before .before .before .before .before .args .running .instance)
+    (c .before .before .before .before .before .before .before .before .before .before .args .running .total)
+    (known-of (c .before .before .before .before .before .before .before .before .before .before .args .running)
+    (sym (c .before .before .before .before .before .before .is-unfeedable .ensures) ∙ c .before .before .before .before .before .if2 .left) .0)
+    (c .before .before .sponge-of .ensures)
 
 slice-aggregate-copy : tie.Need-slice-aggregate-copy
 slice-aggregate-copy c = search needs
@@ -47,22 +67,64 @@ copy-requires : tie.Need-copy-requires
 copy-requires c κs = search needs
 
 div-t13 : tie.Need-div-t13
-div-t13 c = omega (arith, some (c .before .before .before .before .before .before .before .before .before .before .before .before .before .before .before .before .args .running .instance) (c .before .before .before .before .before .before .before .before .before .before .before .before .before .before .before .before .args .running .total) (known-of (c .before .before .before .before .before .before .before .before .before .before .before .before .before .before .before .before .args .running) (sym (c .before .before .before .before .before .before .before .before .before .before .before .before .is-unfeedable .ensures) ∙ c .before .before .before .before .before .before .before .before .before .before .before .if2 .left) .0) (c .before .before .before .before .before .before .before .before .sponge-of .ensures))
+div-t13 c = omega (
+  arith,
+  some
+      (c .before .before .before .before .before .before .before .before .before .before .before .before .before .before .before .before .args .running
+      .instance) (c .before .before .before .before .before .before .before .before .before .before .before .before .before .before .before .before .args
+      .running .total) (known-of (c .before .before .before .before .before .before .before .before .before .before .before .before .before .before .before
+      .before .args .running) (sym (c .before .before .before .before .before .before .before .before .before .before .before .before .is-unfeedable
+      .ensures) ∙ c .before .before .before .before .before .before .before .before .before .before .before .if2 .left) .0)
+      (c .before .before .before .before .before .before .before .before .sponge-of .ensures),
+)
 
 add-t20 : tie.Need-add-t20
 add-t20 c =
-    omega (arith, count-fits (c .before .before .before .before .before .before .before .before .before .before .before .before .before .before .before .before .args .running) (known-of (c .before .before .before .before .before .before .before .before .before .before .before .before .before .before .before .before .args .running) (sym (c .before .before .before .before .before .before .before .before .before .before .before .before .is-unfeedable .ensures) ∙ c .before .before .before .before .before .before .before .before .before .before .before .if2 .left) .0) (c .before .before .before .before .before .before .before .before .sponge-of .ensures) (known-of (c .before .before .before .before .before .before .before .before .before .before .before .before .before .before .before .before .args .running) (sym (c .before .before .before .before .before .before .before .before .before .before .before .before .is-unfeedable .ensures) ∙ c .before .before .before .before .before .before .before .before .before .before .before .if2 .left) .1))
+    omega (
+      arith,
+      count-fits
+          (c .before .before .before .before .before .before .before .before .before .before .before .before .before .before .before .before .args .running)
+          (known-of (c .before .before .before .before .before .before .before .before .before .before .before .before .before .before .before .before .args
+          .running) (sym (c .before .before .before .before .before .before .before .before .before .before .before .before .is-unfeedable .ensures) ∙
+          c .before .before .before .before .before .before .before .before .before .before .before .if2 .left) .0)
+          (c .before .before .before .before .before .before .before .before .sponge-of .ensures)
+          (known-of (c .before .before .before .before .before .before .before .before .before .before .before .before .before .before .before .before
+          .args .running) (sym (c .before .before .before .before .before .before .before .before .before .before .before .before .is-unfeedable .ensures)
+          ∙ c .before .before .before .before .before .before .before .before .before .before .before .if2 .left) .1),
+    )
 
 add-t21 : tie.Need-add-t21
 add-t21 c =
-    omega (arith, count-fits (c .before .before .before .before .before .before .before .before .before .before .before .before .before .before .before .before .before .args .running) (known-of (c .before .before .before .before .before .before .before .before .before .before .before .before .before .before .before .before .before .args .running) (sym (c .before .before .before .before .before .before .before .before .before .before .before .before .before .is-unfeedable .ensures) ∙ c .before .before .before .before .before .before .before .before .before .before .before .before .if2 .left) .0) (c .before .before .before .before .before .before .before .before .before .sponge-of .ensures) (known-of (c .before .before .before .before .before .before .before .before .before .before .before .before .before .before .before .before .before .args .running) (sym (c .before .before .before .before .before .before .before .before .before .before .before .before .before .is-unfeedable .ensures) ∙ c .before .before .before .before .before .before .before .before .before .before .before .before .if2 .left) .1))
+    omega (
+      arith,
+      count-fits
+          (c .before .before .before .before .before .before .before .before .before .before .before .before .before .before .before .before .before .args
+          .running) (known-of (c .before .before .before .before .before .before .before .before .before .before .before .before .before .before .before
+          .before .before .args .running) (sym (c .before .before .before .before .before .before .before .before .before .before .before .before .before
+          .is-unfeedable .ensures) ∙ c .before .before .before .before .before .before .before .before .before .before .before .before .if2 .left) .0)
+          (c .before .before .before .before .before .before .before .before .before .sponge-of .ensures)
+          (known-of (c .before .before .before .before .before .before .before .before .before .before .before .before .before .before .before .before
+          .before .args .running) (sym (c .before .before .before .before .before .before .before .before .before .before .before .before .before
+          .is-unfeedable .ensures) ∙ c .before .before .before .before .before .before .before .before .before .before .before .before .if2 .left) .1),
+    )
 
 same-length : tie.Need-same-length
 same-length c = search needs
 
 returns-4 : tie.Need-returns-4
 returns-4 c =
-    finish-done (c .before .before .before .before .before .before .before .before .before .before .before .before .before .before .before .before .before .args .running) (known-of (c .before .before .before .before .before .before .before .before .before .before .before .before .before .before .before .before .before .args .running) (sym (c .before .before .before .before .before .before .before .before .before .before .before .before .before .is-unfeedable .ensures) ∙ c .before .before .before .before .before .before .before .before .before .before .before .before .if2 .left) .0) (c .before .before .before .before .before .before .before .before .before .sponge-of .ensures) (c .before .before .before .before .before .before .before .before .before .before .before .before .before .before .before .before .before .args .out .now) (c .before .before .before .before .before .before .hash-of .result) _ (search needs) (sym (c .before .before .before .before .before .before .before .before .before .before .before .before .before .is-unfeedable .ensures) ∙ c .before .before .before .before .before .before .before .before .before .before .before .before .if2 .left) (c .before .before .before .before .before .before .before .before .before .before .before .before .before .before .if1 .left) (c .before .before .before .before .before .before .before .before .before .before .before .if3 .left) (c .before .before .before .before .before .before .hash-of .ensures) (c .before .before .before .copy .ensures)
+    finish-done (c .before .before .before .before .before .before .before .before .before .before .before .before .before .before .before .before .before
+    .args .running) (known-of (c .before .before .before .before .before .before .before .before .before .before .before .before .before .before .before
+    .before .before .args .running) (sym (c .before .before .before .before .before .before .before .before .before .before .before .before .before
+    .is-unfeedable .ensures) ∙ c .before .before .before .before .before .before .before .before .before .before .before .before .if2 .left) .0)
+    (c .before .before .before .before .before .before .before .before .before .sponge-of .ensures)
+    (c .before .before .before .before .before .before .before .before .before .before .before .before .before .before .before .before .before .args .out
+    .now) (c .before .before .before .before .before .before .hash-of .result) _ (search needs)
+    (sym (c .before .before .before .before .before .before .before .before .before .before .before .before .before .is-unfeedable .ensures) ∙
+    c .before .before .before .before .before .before .before .before .before .before .before .before .if2 .left)
+    (c .before .before .before .before .before .before .before .before .before .before .before .before .before .before .if1 .left)
+    (c .before .before .before .before .before .before .before .before .before .before .before .if3 .left)
+    (c .before .before .before .before .before .before .hash-of .ensures) (c .before .before .before .copy .ensures)
 
 pub give-spec : {M : Type 1} → statement M
 give-spec =

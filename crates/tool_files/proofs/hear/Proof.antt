@@ -17,7 +17,8 @@ same-length : tie.Need-same-length
 same-length c = search needs
 
 returns : tie.Need-returns
-returns c = let r = c .before .before .before .before .read in heard-by (r .result) _ _ _ _ (record { sfits = r .ok }) (c .judge-read .ensures) (r .ensures) (r .kept .1 .0)
+returns c = let r = c .before .before .before .before .read in heard-by (r .result) _ _ _ _ (record { sfits = r .ok }) (c .judge-read .ensures) (r .ensures)
+    (r .kept .1 .0)
 
 pub hear-spec : {M : Type 1} → statement M
 hear-spec =

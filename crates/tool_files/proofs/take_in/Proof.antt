@@ -32,7 +32,8 @@ enum-known-n : tie.Need-enum-known-n Inv-loop μ-loop
 enum-known-n c = search needs
 
 sub-more : tie.Need-sub-more Inv-loop μ-loop
-sub-more c = went _ _ _ _ _ (sym (c .before .before .before .after-read .ensures) ∙ c .before .n .given .1) (c .before .before .before .before .before .hear .ensures) (c .before .before .before .before .before .before .before .before .loop .inv .0 .within) .0
+sub-more c = went _ _ _ _ _ (sym (c .before .before .before .after-read .ensures) ∙ c .before .n .given .1)
+    (c .before .before .before .before .before .hear .ensures) (c .before .before .before .before .before .before .before .before .loop .inv .0 .within) .0
 
 sub-put : tie.Need-sub-put Inv-loop μ-loop
 sub-put c = search needs
@@ -41,10 +42,15 @@ part-put-start : tie.Need-part-put-start Inv-loop μ-loop
 part-put-start c = search needs
 
 part-put-end : tie.Need-part-put-end Inv-loop μ-loop
-part-put-end c = let w = went _ _ _ _ _ (sym (c .before .before .before .before .after-read .ensures) ∙ c .before .before .n .given .1) (c .before .before .before .before .before .before .hear .ensures) (c .before .before .before .before .before .before .before .before .before .loop .inv .0 .within) in omega (arith, w .1)
+part-put-end c = let w = went _ _ _ _ _ (sym (c .before .before .before .before .after-read .ensures) ∙ c .before .before .n .given .1)
+    (c .before .before .before .before .before .before .hear .ensures)
+    (c .before .before .before .before .before .before .before .before .before .loop .inv .0 .within) in omega (arith, w .1)
 
 put-requires : tie.Need-put-requires Inv-loop μ-loop
-put-requires c κs = fits _ _ _ (c .before .before .before .before .before .before .before .before .before .before .before .loop .buf) (went _ _ _ _ _ (sym (c .before .before .before .before .before .before .after-read .ensures) ∙ c .before .before .before .before .n .given .1) (c .before .before .before .before .before .before .before .before .hear .ensures) (c .before .before .before .before .before .before .before .before .before .before .before .loop .inv .0 .within))
+put-requires c κs = fits _ _ _ (c .before .before .before .before .before .before .before .before .before .before .before .loop .buf)
+    (went _ _ _ _ _ (sym (c .before .before .before .before .before .before .after-read .ensures) ∙ c .before .before .before .before .n .given .1)
+    (c .before .before .before .before .before .before .before .before .hear .ensures)
+    (c .before .before .before .before .before .before .before .before .before .before .before .loop .inv .0 .within))
 
 enum-known-loaded : tie.Need-enum-known-loaded Inv-loop μ-loop
 enum-known-loaded c = search needs
@@ -53,7 +59,8 @@ same-length : tie.Need-same-length Inv-loop μ-loop
 same-length c = c .before .before .before .before .before .before .before .before .loop .inv .0 .same
 
 returns : tie.Need-returns Inv-loop μ-loop
-returns c = came (c .before .before .before .before .before .before .before .before .loop .inv .0) _ _ _ (sym (c .before .before .before .after-read .ensures) ∙ c .before .loaded .given .1)
+returns c = came (c .before .before .before .before .before .before .before .before .loop .inv .0) _ _ _
+    (sym (c .before .before .before .after-read .ensures) ∙ c .before .loaded .given .1)
 
 sub-turns : tie.Need-sub-turns Inv-loop μ-loop
 sub-turns c = search needs
@@ -62,7 +69,15 @@ loop-less : tie.Need-loop-less Inv-loop μ-loop
 loop-less c = search needs
 
 loop-again : tie.Need-loop-again Inv-loop μ-loop
-loop-again c = (taken-on _ _ _ _ (went _ _ _ _ _ (sym (c .before .before .before .before .before .before .before .before .before .after-read .ensures) ∙ c .before .before .before .before .before .before .before .n .given .1) (c .before .before .before .before .before .before .before .before .before .before .before .hear .ensures) (c .before .before .before .before .before .before .before .before .before .before .before .before .before .before .loop .inv .0 .within)) (c .before .before .before .before .before .before .before .before .before .before .before .before .before .before .loop .inv .0) (c .before .before .put .ensures), search needs)
+loop-again c = (
+  taken-on _ _ _ _ (went _ _ _ _ _ (sym (c .before .before .before .before .before .before .before .before .before .after-read .ensures) ∙
+      c .before .before .before .before .before .before .before .n .given .1)
+      (c .before .before .before .before .before .before .before .before .before .before .before .hear .ensures)
+      (c .before .before .before .before .before .before .before .before .before .before .before .before .before .before .loop .inv .0 .within))
+      (c .before .before .before .before .before .before .before .before .before .before .before .before .before .before .loop .inv .0)
+      (c .before .before .put .ensures),
+  search needs,
+)
 
 same-length-2 : tie.Need-same-length-2 Inv-loop μ-loop
 same-length-2 c = c .before .loop .inv .0 .same

@@ -23,7 +23,8 @@ enum-told-2 : tie.Need-enum-told-2
 enum-told-2 c = search needs
 
 returns-2 : tie.Need-returns-2
-returns-2 c = no-font _ (c .before .before .before .before .before .args .buffer .now) _ _ _ (c .before .before .held .ensures) (c .enum-told2 .given .1) refl refl
+returns-2 c = no-font _ (c .before .before .before .before .before .args .buffer .now) _ _ _ (c .before .before .held .ensures) (c .enum-told2 .given .1) refl
+    refl
 
 sub-digest : tie.Need-sub-digest
 sub-digest c = search needs
@@ -53,25 +54,37 @@ same-length : tie.Need-same-length
 same-length c = search needs
 
 returns-3 : tie.Need-returns-3
-returns-3 c = let d = c .before .before .before .before .digest .ensures in asked _ (c .before .before .before .before .before .before .before .before .before .before .before .before .before .args .buffer .now) _ _ _ _ (c .before .before .before .before .before .before .before .before .before .before .held .ensures) (c .before .before .before .before .before .before .before .before .n .given .1) _ _ (d .0) (d .1) (c .enum-told3 .given .1)
+returns-3 c = let d = c .before .before .before .before .digest .ensures in asked _
+    (c .before .before .before .before .before .before .before .before .before .before .before .before .before .args .buffer .now) _ _ _ _
+    (c .before .before .before .before .before .before .before .before .before .before .held .ensures)
+    (c .before .before .before .before .before .before .before .before .n .given .1) _ _ (d .0) (d .1) (c .enum-told3 .given .1)
 
 same-length-2 : tie.Need-same-length-2
 same-length-2 c = search needs
 
 returns-4 : tie.Need-returns-4
-returns-4 c = let d = c .before .before .before .before .digest .ensures in asked _ (c .before .before .before .before .before .before .before .before .before .before .before .before .before .args .buffer .now) _ _ _ _ (c .before .before .before .before .before .before .before .before .before .before .held .ensures) (c .before .before .before .before .before .before .before .before .n .given .1) _ _ (d .0) (d .1) (c .enum-told4 .given .1)
+returns-4 c = let d = c .before .before .before .before .digest .ensures in asked _
+    (c .before .before .before .before .before .before .before .before .before .before .before .before .before .args .buffer .now) _ _ _ _
+    (c .before .before .before .before .before .before .before .before .before .before .held .ensures)
+    (c .before .before .before .before .before .before .before .before .n .given .1) _ _ (d .0) (d .1) (c .enum-told4 .given .1)
 
 same-length-3 : tie.Need-same-length-3
 same-length-3 c = search needs
 
 returns-5 : tie.Need-returns-5
-returns-5 c = let d = c .before .before .before .before .digest .ensures in asked _ (c .before .before .before .before .before .before .before .before .before .before .before .before .before .args .buffer .now) _ _ _ _ (c .before .before .before .before .before .before .before .before .before .before .held .ensures) (c .before .before .before .before .before .before .before .before .n .given .1) _ _ (d .0) (d .1) (c .enum-told5 .given .1)
+returns-5 c = let d = c .before .before .before .before .digest .ensures in asked _
+    (c .before .before .before .before .before .before .before .before .before .before .before .before .before .args .buffer .now) _ _ _ _
+    (c .before .before .before .before .before .before .before .before .before .before .held .ensures)
+    (c .before .before .before .before .before .before .before .before .n .given .1) _ _ (d .0) (d .1) (c .enum-told5 .given .1)
 
 same-length-4 : tie.Need-same-length-4
 same-length-4 c = search needs
 
 returns-6 : tie.Need-returns-6
-returns-6 c = let d = c .before .before .before .before .digest .ensures in asked _ (c .before .before .before .before .before .before .before .before .before .before .before .before .before .args .buffer .now) _ _ _ _ (c .before .before .before .before .before .before .before .before .before .before .held .ensures) (c .before .before .before .before .before .before .before .before .n .given .1) _ _ (d .0) (d .1) (c .enum-told6 .given .1)
+returns-6 c = let d = c .before .before .before .before .digest .ensures in asked _
+    (c .before .before .before .before .before .before .before .before .before .before .before .before .before .args .buffer .now) _ _ _ _
+    (c .before .before .before .before .before .before .before .before .before .before .held .ensures)
+    (c .before .before .before .before .before .before .before .before .n .given .1) _ _ (d .0) (d .1) (c .enum-told6 .given .1)
 
 pub digest-font-spec : {M : Type 1} → statement M
 digest-font-spec =

@@ -32,7 +32,8 @@ returns c =
     let r = c .before .before .before .before .before .before .before .before .read in
     let p = c .before .before .before .before .put-last .ensures in
     last-given (told (a .key .now) (a .font .now) (a .layout)) (a .editions) (a .stream .now) (a .cursor) (a .out .now) zeros (s .pre) zeros-room (r .result) _
-    (r .ensures .0) (r .ensures .1) (c .before .before .before .before .before .before .if1 .taken) (p .0) (p .1) (c .before .answer-of .ensures) (c .end .ensures)
+    (r .ensures .0) (r .ensures .1) (c .before .before .before .before .before .before .if1 .taken) (p .0) (p .1) (c .before .answer-of .ensures)
+    (c .end .ensures)
 
 read-number-requires : tie.Need-read-number-requires
 read-number-requires c κs = search needs
@@ -73,7 +74,9 @@ returns-2 c =
     let r = c .before .before .before .before .before .before .before .before .before .before .before .before .read in
     let p = c .before .before .before .before .put-row .ensures in
     row-given (told (a .key .now) (a .font .now) (a .layout)) (a .editions) (a .stream .now) (a .cursor) (a .out .now) zeros (s .pre) zeros-room (r .result) _
-    (r .ensures .0) (r .ensures .1) (c .before .before .before .before .before .before .before .before .before .before .if1 .left) (omega (arith, r .kept .1 .1 .1 .1 .1 .0)) (c .before .before .before .before .before .before .before .before .before .read-number .ensures) (c .before .before .before .before .before .before .before .before .read-length .ensures)
+    (r .ensures .0) (r .ensures .1) (c .before .before .before .before .before .before .before .before .before .before .if1 .left)
+    (omega (arith, r .kept .1 .1 .1 .1 .1 .0)) (c .before .before .before .before .before .before .before .before .before .read-number .ensures)
+    (c .before .before .before .before .before .before .before .before .read-length .ensures)
     (p .0) (p .1) (c .before .answer-of2 .ensures) (c .count .ensures)
 
 pub give-spec : {M : Type 1} → statement M

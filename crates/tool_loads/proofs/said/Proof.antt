@@ -30,7 +30,8 @@ as-text-requires-2 c κs = search needs
 returns-2 : tie.Need-returns-2
 returns-2 c =
     let a = c .before .before .before .before .before .before .args in
-    no-font (a .key) (a .font) (a .stream) (c .before .before .before .before .before .is-key .ensures) (c .before .before .before .before .if1 .left) (c .before .before .before .is-font .ensures) (c .before .before .if2 .taken)
+    no-font (a .key) (a .font) (a .stream) (c .before .before .before .before .before .is-key .ensures) (c .before .before .before .before .if1 .left)
+    (c .before .before .before .is-font .ensures) (c .before .before .if2 .taken)
     (c .as-text2 .ensures)
 
 enum-known-stream : tie.Need-enum-known-stream
@@ -45,8 +46,10 @@ as-text-requires-3 c κs = search needs
 returns-3 : tie.Need-returns-3
 returns-3 c =
     let a = c .before .before .before .before .before .before .before .before .before .before .args in
-    over-long (a .key) (a .font) (a .stream) (c .before .before .before .before .before .before .before .before .before .is-key .ensures) (c .before .before .before .before .before .before .before .before .if1 .left)
-    (c .before .before .before .before .before .before .before .is-font .ensures) (c .before .before .before .before .before .before .if2 .left) (c .before .before .before .before .stream .given .1) (c .before .before .if3 .taken) (c .as-text3 .ensures)
+    over-long (a .key) (a .font) (a .stream) (c .before .before .before .before .before .before .before .before .before .is-key .ensures)
+    (c .before .before .before .before .before .before .before .before .if1 .left)
+    (c .before .before .before .before .before .before .before .is-font .ensures) (c .before .before .before .before .before .before .if2 .left)
+    (c .before .before .before .before .stream .given .1) (c .before .before .if3 .taken) (c .as-text3 .ensures)
 
 nothing-requires : tie.Need-nothing-requires
 nothing-requires c κs = search needs
@@ -72,20 +75,26 @@ as-text-requires-5 c κs = search needs
 returns-4 : tie.Need-returns-4
 returns-4 c =
     let a = c .before .before .before .before .before .before .before .before .before .args in
-    all-there (a .key) (a .font) (a .stream) (c .before .before .before .before .before .before .before .before .is-key .ensures) (c .before .before .before .before .before .before .before .if1 .left)
-    (c .before .before .before .before .before .before .is-font .ensures) (c .before .before .before .before .before .if2 .left) (c .before .before .before .stream .given .1) (c .before .if3 .left) (c .nothing .ensures)
+    all-there (a .key) (a .font) (a .stream) (c .before .before .before .before .before .before .before .before .is-key .ensures)
+    (c .before .before .before .before .before .before .before .if1 .left)
+    (c .before .before .before .before .before .before .is-font .ensures) (c .before .before .before .before .before .if2 .left)
+    (c .before .before .before .stream .given .1) (c .before .if3 .left) (c .nothing .ensures)
 
 returns-5 : tie.Need-returns-5
 returns-5 c =
     let a = c .before .before .before .before .before .before .before .before .args in
-    more-than-held (a .key) (a .font) (a .stream) (c .before .before .before .before .before .before .before .is-key .ensures) (c .before .before .before .before .before .before .if1 .left)
-    (c .before .before .before .before .before .is-font .ensures) (c .before .before .before .before .if2 .left) (c .before .before .enum-told .given .1) (c .as-text4 .ensures)
+    more-than-held (a .key) (a .font) (a .stream) (c .before .before .before .before .before .before .before .is-key .ensures)
+    (c .before .before .before .before .before .before .if1 .left)
+    (c .before .before .before .before .before .is-font .ensures) (c .before .before .before .before .if2 .left) (c .before .before .enum-told .given .1)
+    (c .as-text4 .ensures)
 
 returns-6 : tie.Need-returns-6
 returns-6 c =
     let a = c .before .before .before .before .before .before .before .before .args in
-    unreadable (a .key) (a .font) (a .stream) (c .before .before .before .before .before .before .before .is-key .ensures) (c .before .before .before .before .before .before .if1 .left)
-    (c .before .before .before .before .before .is-font .ensures) (c .before .before .before .before .if2 .left) (c .before .before .enum-told2 .given .1) (c .as-text5 .ensures)
+    unreadable (a .key) (a .font) (a .stream) (c .before .before .before .before .before .before .before .is-key .ensures)
+    (c .before .before .before .before .before .before .if1 .left)
+    (c .before .before .before .before .before .is-font .ensures) (c .before .before .before .before .if2 .left) (c .before .before .enum-told2 .given .1)
+    (c .as-text5 .ensures)
 
 pub said-spec : {M : Type 1} → statement M
 said-spec =

@@ -25,16 +25,21 @@ all-digits-requires : tie.Need-all-digits-requires
 all-digits-requires c κs = search needs
 
 returns-2 : tie.Need-returns-2
-returns-2 c = no-nonce (c .before .before .before .before .before .before .args .row .now) _ (c .before .before .before .before .first-blank .ensures) (c .before .before .before .if1 .left) _ (c .before .all-digits .ensures) (not-true _ (c .if2 .taken))
+returns-2 c = no-nonce (c .before .before .before .before .before .before .args .row .now) _ (c .before .before .before .before .first-blank .ensures)
+    (c .before .before .before .if1 .left) _ (c .before .all-digits .ensures) (not-true _ (c .if2 .taken))
 
 add-t9 : tie.Need-add-t9
 add-t9 c = search needs
 
 returns-3 : tie.Need-returns-3
-returns-3 c = line-behind (c .before .before .before .before .before .before .before .args .row .now) _ (c .before .before .before .before .before .first-blank .ensures) (c .before .before .before .before .if1 .left) _ (c .before .before .all-digits .ensures) (not-false _ (c .before .if2 .left)) (c .if3 .taken)
+returns-3 c = line-behind (c .before .before .before .before .before .before .before .args .row .now) _
+    (c .before .before .before .before .before .first-blank .ensures) (c .before .before .before .before .if1 .left) _ (c .before .before .all-digits .ensures)
+    (not-false _ (c .before .if2 .left)) (c .if3 .taken)
 
 returns-4 : tie.Need-returns-4
-returns-4 c = line-empty (c .before .before .before .before .before .before .before .args .row .now) _ (c .before .before .before .before .before .first-blank .ensures) (c .before .before .before .before .if1 .left) _ (c .before .before .all-digits .ensures) (not-false _ (c .before .if2 .left)) (c .if3 .left)
+returns-4 c = line-empty (c .before .before .before .before .before .before .before .args .row .now) _
+    (c .before .before .before .before .before .first-blank .ensures) (c .before .before .before .before .if1 .left) _ (c .before .before .all-digits .ensures)
+    (not-false _ (c .before .if2 .left)) (c .if3 .left)
 
 pub judge-order-spec : {M : Type 1} → statement M
 judge-order-spec =

@@ -113,7 +113,8 @@ put-digits-slice-write-out-2 : (t : ℕ) → put-digits-lts.Need-slice-write-out
 ) (put-digits-at t) put-digits.Post
 put-digits-slice-write-out-2 t c =
     let s = c .before .before .before .before .before .before .before in
-    let l = long-more (s .args .k) (s .args .n) (s .args .at) (s .args .out .now) (c .before .before .before .before .before .if1 .left) (c .before .before .before .before .if2 .left) in
+    let l = long-more (s .args .k) (s .args .n) (s .args .at) (s .args .out .now) (c .before .before .before .before .before .if1 .left)
+    (c .before .before .before .before .if2 .left) in
     let e = c .before .before .put-digits .ensures in
     omega (arith, s .pre .1, l, e .0, ap length (e .1) ∙ length-sets (s .args .out .now) (s .args .at) (digitsIn (s .args .k - 1) (s .args .n / 10)))
 
@@ -123,7 +124,8 @@ put-digits-add-result-2 : (t : ℕ) → put-digits-lts.Need-add-result-2 (
 ) (put-digits-at t) put-digits.Post
 put-digits-add-result-2 t c =
     let s = c .before .before .before .before .before .before .before in
-    let l = long-more (s .args .k) (s .args .n) (s .args .at) (s .args .out .now) (c .before .before .before .before .before .if1 .left) (c .before .before .before .before .if2 .left) in
+    let l = long-more (s .args .k) (s .args .n) (s .args .at) (s .args .out .now) (c .before .before .before .before .before .if1 .left)
+    (c .before .before .before .before .if2 .left) in
     let e = c .before .before .put-digits .ensures in
     omega (arith, s .pre .1, l, e .0)
 
@@ -140,7 +142,8 @@ put-digits-returns-3 : (t : ℕ) → put-digits-lts.Need-returns-3 (
 put-digits-returns-3 t c =
     let s = c .before .before .before .before .before .before .before in
     let e = c .before .before .put-digits .ensures in
-    written-more (s .args .k) (s .args .n) (s .args .at) (s .args .out .now) (c .before .before .before .before .before .if1 .left) (c .before .before .before .before .if2 .left) (e .0) (e .1)
+    written-more (s .args .k) (s .args .n) (s .args .at) (s .args .out .now) (c .before .before .before .before .before .if1 .left)
+    (c .before .before .before .before .if2 .left) (e .0) (e .1)
 
 pub +put-digits-spec : {M : Type 1} → statement M
 +put-digits-spec = close μ-put-digits λ t. put-digits-lts.spec (

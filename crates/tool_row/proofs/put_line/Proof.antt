@@ -24,7 +24,8 @@ returns c =
     let s = c .before .before .before .before .before .before .before .before .before .before .before in
     let b = c .before .before .before .before .before .before .put-byte .ensures in
     let t = c .before .before .put-text .ensures in
-    line-given (s .args .number) (s .args .line .now) (s .args .out .now) (s .args .at) (c .before .before .before .before .before .before .before .before .if1 .taken)
+    line-given (s .args .number) (s .args .line .now) (s .args .out .now) (s .args .at)
+    (c .before .before .before .before .before .before .before .before .if1 .taken)
     (b .0) (b .1) (t .0) (t .1)
 
 returns-2 : tie.Need-returns-2

@@ -28,7 +28,8 @@ returns-3 c =
     let short = c .before .before .before .before .before .if1 .left in
     let l = long-enough (s .args .place) (s .args .number) (s .args .line .now) (s .args .out .now) short in
     let r = c .before .before .lay-row .ensures in
-    let w = put-whole _ (s .args .out .now) (c .before .before .before .before .if2 .left) (row-most (s .args .place) (s .args .number) (s .args .line .now) short) (r .0) (r .1) in
+    let w = put-whole _ (s .args .out .now) (c .before .before .before .before .if2 .left)
+    (row-most (s .args .place) (s .args .number) (s .args .line .now) short) (r .0) (r .1) in
     (w .0 ∙ sym (l .0), w .1 ∙ sym (l .1))
 
 pub put-row-spec : {M : Type 1} → statement M

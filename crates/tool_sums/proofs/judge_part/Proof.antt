@@ -9,7 +9,8 @@ enum-known-heard : tie.Need-enum-known-heard
 enum-known-heard c = search needs
 
 returns : tie.Need-returns
-returns c = past-answer (c .before .before .before .before .before .args .running) (c .before .before .before .before .before .args .heard) (c .before .before .before .before .before .args .window .now) _ (c .before .before .heard .given .1) (c .if1 .taken)
+returns c = past-answer (c .before .before .before .before .before .args .running) (c .before .before .before .before .before .args .heard)
+    (c .before .before .before .before .before .args .window .now) _ (c .before .before .heard .given .1) (c .if1 .taken)
 
 sub-feed-answer : tie.Need-sub-feed-answer
 sub-feed-answer c = search needs
@@ -36,7 +37,10 @@ enum-told-3 : tie.Need-enum-told-3
 enum-told-3 c = search needs
 
 returns-2 : tie.Need-returns-2
-returns-2 c = fed-answer (c .before .before .before .before .before .before .before .before .args .running) (c .before .before .before .before .before .before .before .before .args .heard) (c .before .before .before .before .before .before .before .before .args .window .now) _ (c .before .before .before .before .before .heard .given .1) (c .before .before .before .if1 .left) (c .before .feed-answer .ensures) (c .fed-sum .ensures)
+returns-2 c = fed-answer (c .before .before .before .before .before .before .before .before .args .running)
+    (c .before .before .before .before .before .before .before .before .args .heard)
+    (c .before .before .before .before .before .before .before .before .args .window .now) _ (c .before .before .before .before .before .heard .given .1)
+    (c .before .before .before .if1 .left) (c .before .feed-answer .ensures) (c .fed-sum .ensures)
 
 returns-3 : tie.Need-returns-3
 unfolding partAnswer

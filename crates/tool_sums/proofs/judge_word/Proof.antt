@@ -19,19 +19,37 @@ returns c = rw (sym (c .before .compare .ensures) ∙ c .if1 .taken)
 
 returns-2 : tie.Need-returns-2
 unfolding namedBy digitNamed
-returns-2 c = rw (sym (c .before .before .compare .ensures) ∙ c .before .if1 .left, ne-eqb (length (c .before .before .before .before .before .args .word .now)) 1 (c .if2 .taken))
+returns-2 c = rw (
+  sym (c .before .before .compare .ensures) ∙ c .before .if1 .left,
+  ne-eqb
+      (length (c .before .before .before .before .before .args .word .now)) 1 (c .if2 .taken),
+)
 
 shared-slice-read-digit : tie.Need-shared-slice-read-digit
 shared-slice-read-digit c = search needs
 
 returns-3 : tie.Need-returns-3
 unfolding namedBy digitNamed
-returns-3 c = rw (sym (c .before .before .before .before .compare .ensures) ∙ c .before .before .before .if1 .left, eq-eqb (length (c .before .before .before .before .before .before .before .args .word .now)) 1 (c .before .before .if2 .left), lt-ltb (getD (c .before .before .before .before .before .before .before .args .word .now) 0 0) 0x31 (c .if3 .taken))
+returns-3 c = rw (
+  sym (c .before .before .before .before .compare .ensures) ∙ c .before .before .before .if1 .left,
+  eq-eqb
+      (length (c .before .before .before .before .before .before .before .args .word .now)) 1 (c .before .before .if2 .left),
+  lt-ltb
+      (getD (c .before .before .before .before .before .before .before .args .word .now) 0 0) 0x31 (c .if3 .taken),
+)
 
 returns-4 : tie.Need-returns-4
 unfolding namedBy digitNamed
 returns-4 c =
-    rw (sym (c .before .before .before .before .before .compare .ensures) ∙ c .before .before .before .before .if1 .left, eq-eqb (length (c .before .before .before .before .before .before .before .before .args .word .now)) 1 (c .before .before .before .if2 .left), le-ltb (getD (c .before .before .before .before .before .before .before .before .args .word .now) 0 0) 0x31 (c .before .if3 .left), lt-ltb 0x39 (getD (c .before .before .before .before .before .before .before .before .args .word .now) 0 0) (c .if4 .taken))
+    rw (
+      sym (c .before .before .before .before .before .compare .ensures) ∙ c .before .before .before .before .if1 .left,
+      eq-eqb
+          (length (c .before .before .before .before .before .before .before .before .args .word .now)) 1 (c .before .before .before .if2 .left),
+      le-ltb
+          (getD (c .before .before .before .before .before .before .before .before .args .word .now) 0 0) 0x31 (c .before .if3 .left),
+      lt-ltb 0x39
+          (getD (c .before .before .before .before .before .before .before .before .args .word .now) 0 0) (c .if4 .taken),
+    )
 
 sub-value : tie.Need-sub-value
 sub-value c = search needs
@@ -42,7 +60,15 @@ cast-t8 c = search needs
 returns-5 : tie.Need-returns-5
 unfolding namedBy digitNamed
 returns-5 c =
-    rw (sym (c .before .before .before .before .before .compare .ensures) ∙ c .before .before .before .before .if1 .left, eq-eqb (length (c .before .before .before .before .before .before .before .before .args .word .now)) 1 (c .before .before .before .if2 .left), le-ltb (getD (c .before .before .before .before .before .before .before .before .args .word .now) 0 0) 0x31 (c .before .if3 .left), le-ltb 0x39 (getD (c .before .before .before .before .before .before .before .before .args .word .now) 0 0) (c .if4 .left))
+    rw (
+      sym (c .before .before .before .before .before .compare .ensures) ∙ c .before .before .before .before .if1 .left,
+      eq-eqb
+          (length (c .before .before .before .before .before .before .before .before .args .word .now)) 1 (c .before .before .before .if2 .left),
+      le-ltb
+          (getD (c .before .before .before .before .before .before .before .before .args .word .now) 0 0) 0x31 (c .before .if3 .left),
+      le-ltb 0x39
+          (getD (c .before .before .before .before .before .before .before .before .args .word .now) 0 0) (c .if4 .left),
+    )
 
 pub judge-word-spec : {M : Type 1} → statement M
 judge-word-spec =

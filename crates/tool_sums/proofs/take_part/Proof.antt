@@ -9,7 +9,8 @@ enum-known-heard : tie.Need-enum-known-heard
 enum-known-heard c = search needs
 
 returns : tie.Need-returns
-returns c = past-record (c .before .before .before .before .before .args .running) (c .before .before .before .before .before .args .heard) (c .before .before .before .before .before .args .window .now) _ (c .before .before .heard .given .1) (c .if1 .taken)
+returns c = past-record (c .before .before .before .before .before .args .running) (c .before .before .before .before .before .args .heard)
+    (c .before .before .before .before .before .args .window .now) _ (c .before .before .heard .given .1) (c .if1 .taken)
 
 sub-after-feed : tie.Need-sub-after-feed
 sub-after-feed c = search needs
@@ -33,7 +34,9 @@ enum-told-3 : tie.Need-enum-told-3
 enum-told-3 c = search needs
 
 returns-2 : tie.Need-returns-2
-returns-2 c = fed-record (c .before .before .before .before .before .before .before .args .running) (c .before .before .before .before .before .before .before .args .heard) (c .before .before .before .before .before .before .before .args .window .now) _ (c .before .before .before .before .heard .given .1) (c .before .before .if1 .left) (c .after-feed .ensures)
+returns-2 c = fed-record (c .before .before .before .before .before .before .before .args .running)
+    (c .before .before .before .before .before .before .before .args .heard) (c .before .before .before .before .before .before .before .args .window .now) _
+    (c .before .before .before .before .heard .given .1) (c .before .before .if1 .left) (c .after-feed .ensures)
 
 returns-3 : tie.Need-returns-3
 unfolding partRecord

@@ -58,7 +58,8 @@ returns-3 c =
     let read = c .before .before .before .before .before .before .before .before .before .before in
     let start = read .before .before .before .before in
     c .tell .ensures ∙ two-numbers unpermute (start .args .size .now) (start .args .rounds .now) (start .args .text .now) _ _
-    (sym (read .read-number .ensures) ∙ c .before .before .before .before .before .before .before .before .n .given .1) (sym (c .before .before .before .before .before .before .read-number2 .ensures) ∙ c .before .before .before .before .k .given .1)
+    (sym (read .read-number .ensures) ∙ c .before .before .before .before .before .before .before .before .n .given .1)
+    (sym (c .before .before .before .before .before .before .read-number2 .ensures) ∙ c .before .before .before .before .k .given .1)
     (c .before .before .state .result) (c .before .before .state .ensures) (c .before .unpermute .result) (c .before .unpermute .ensures)
 
 pub back-spec : {M : Type 1} → statement M

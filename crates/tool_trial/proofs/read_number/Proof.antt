@@ -26,7 +26,8 @@ returns-2 : tie.Need-returns-2 Inv-loop μ-loop
 returns-2 c = read-low (c .before .before .before .loop .inv) (c .before .before .loop-test .taken) (c .if2 .taken)
 
 returns-3 : tie.Need-returns-3 Inv-loop μ-loop
-returns-3 c = read-high (c .before .before .before .before .loop .inv) (c .before .before .before .loop-test .taken) (omega (arith, c .before .if2 .left)) (omega (arith, c .if3 .taken))
+returns-3 c = read-high (c .before .before .before .before .loop .inv) (c .before .before .before .loop-test .taken) (omega (arith, c .before .if2 .left))
+    (omega (arith, c .if3 .taken))
 
 cast-grow : tie.Need-cast-grow Inv-loop μ-loop
 cast-grow c = search needs
@@ -43,11 +44,13 @@ loop-less c = search needs
 
 loop-again : tie.Need-loop-again Inv-loop μ-loop
 loop-again c =
-    read-more (c .before .before .before .before .before .loop .inv) (c .before .before .before .before .loop-test .taken) (omega (arith, c .before .before .if2 .left))
+    read-more (c .before .before .before .before .before .loop .inv) (c .before .before .before .before .loop-test .taken)
+    (omega (arith, c .before .before .if2 .left))
     (omega (arith, c .before .if3 .left)) (c .grow .result) (c .grow .ensures)
 
 returns-4 : tie.Need-returns-4 Inv-loop μ-loop
 returns-4 c = read-all (c .before .loop .inv) (c .loop-test .left)
 
 pub read-number-spec : {M : Type 1} → statement M
-read-number-spec = tie.close (tie.spec Inv-loop μ-loop returns loop-holds shared-slice-read-c returns-2 returns-3 cast-grow grow-requires add-i loop-less loop-again returns-4)
+read-number-spec = tie.close (tie.spec Inv-loop μ-loop returns loop-holds shared-slice-read-c returns-2 returns-3 cast-grow grow-requires add-i loop-less
+    loop-again returns-4)

@@ -97,7 +97,8 @@ loop-again c =
     let i = at .i in (
       search needs,
       search needs,
-      around-four _ _ _ _ i (at .inv .0) (search needs) (leader-at t i (search needs)) (leader-at t (i + 1) (search needs)) (leader-at t (i + 2) (search needs)) (leader-at t (i + 3) (search needs))
+      around-four _ _ _ _ i (at .inv .0) (search needs) (leader-at t i (search needs)) (leader-at t (i + 1) (search needs))
+          (leader-at t (i + 2) (search needs)) (leader-at t (i + 3) (search needs))
           (c .four .ensures) (at .inv .2),
     )
 
@@ -128,8 +129,12 @@ loop2-less c = search needs
 -- src/around.rt:40:5
 loop2-again : tie.Need-loop2-again Inv-loop μ-loop Inv-loop2 μ-loop2
 loop2-again c =
-    let at = c .before .before .loop2 in
-    (search needs, search needs, around-more _ (at .i) (at .inv .0) (search needs) (leader-at (c .before .before .before .before .before .before .table .ensures) (at .i) (search needs)) (c .turned-around .ensures) (at .inv .2))
+    let at = c .before .before .loop2 in (
+      search needs,
+      search needs,
+      around-more _ (at .i) (at .inv .0) (search needs)
+          (leader-at (c .before .before .before .before .before .before .table .ensures) (at .i) (search needs)) (c .turned-around .ensures) (at .inv .2),
+    )
 
 -- src/around.rt:23:1
 returns : tie.Need-returns Inv-loop μ-loop Inv-loop2 μ-loop2

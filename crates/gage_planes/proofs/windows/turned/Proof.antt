@@ -28,7 +28,8 @@ returns : tie.Need-returns
 returns c =
     let start = c .before .before .before in
     c .substituted .ensures
-    ∙ ap (λ (w : Windows). substitutedBoth w (start .args .h) (start .args .leader)) (same-windows (c .before .before .slid .ensures) (c .before .slid2 .ensures))
+    ∙ ap (λ (w : Windows). substitutedBoth w (start .args .h) (start .args .leader)) (same-windows (c .before .before .slid .ensures)
+    (c .before .slid2 .ensures))
 
 pub turned-spec : {M : Type 1} → statement M
 turned-spec = tie.close (tie.spec slid-requires slid-requires-2 substituted-requires returns)

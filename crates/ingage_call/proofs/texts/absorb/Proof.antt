@@ -14,7 +14,9 @@ after-associated-requires : tie.Need-after-associated-requires
 after-associated-requires c κs = tt
 
 returns : tie.Need-returns
-returns c = absorbed-all (c .before .before .before .before .before .args .z) (c .before .before .before .before .before .args .assoc .now) (c .before .before .before .before .before .args .s) (c .before .before .pass .result) (c .after-associated .result) (c .before .before .before .before .before .pre) (c .before .before .pass .ensures .0) (c .after-associated .ensures)
+returns c = absorbed-all (c .before .before .before .before .before .args .z) (c .before .before .before .before .before .args .assoc .now)
+    (c .before .before .before .before .before .args .s) (c .before .before .pass .result) (c .after-associated .result)
+    (c .before .before .before .before .before .pre) (c .before .before .pass .ensures .0) (c .after-associated .ensures)
 
 pub absorb-spec : {M : Type 1} → statement M
 absorb-spec = tie.close (tie.spec slice-aggregate-pass pass-requires after-associated-requires returns)

@@ -29,7 +29,8 @@ returns c =
     let A : List ℕ = b .args .assoc .now in
     c .absorb .ensures
     ∙ ap (λ (x : List ℕ). absorbed z (from x) A .state)
-    (c .before .woven .ensures ∙ ap (λ (x : List ℕ). take (z .state) x) (c .before .before .start .ensures) ∙ start-first z key nonce (b .pre .0) (b .pre .1) (b .pre .2))
+    (c .before .woven .ensures ∙ ap (λ (x : List ℕ). take (z .state) x) (c .before .before .start .ensures) ∙ start-first z key nonce (b .pre .0) (b .pre .1)
+    (b .pre .2))
     ∙ absorbed-from z (started z key nonce) A
 
 pub begin-spec : {M : Type 1} → statement M

@@ -39,7 +39,8 @@ returns c =
     let s = c .before .before .before .before .before .before .before .before .before .before in
     let found = c .before .before .before .before .before .before .before in
     piece-opened (s .args .z) (s .pre .0) (s .args .c .now) (s .args .s) (s .pre .1) (s .args .out .now) _ (s .pre .2)
-    (c .before .last-block .result) (found .mix .result) (c .mix-block .result) (found .mix .ensures .1) (c .before .before .before .before .before .tell .ensures)
+    (c .before .last-block .result) (found .mix .result) (c .mix-block .result) (found .mix .ensures .1)
+    (c .before .before .before .before .before .tell .ensures)
     (c .before .last-block .ensures) (c .mix-block .ensures)
 
 pub decrypt-piece-spec : {M : Type 1} → statement M

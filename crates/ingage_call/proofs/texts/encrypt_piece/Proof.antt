@@ -34,7 +34,8 @@ returns c =
     let s = c .before .before .before .before .before .before .before .before in
     let mixed = c .before .before .before .before in
     piece-sealed (s .args .z) (s .pre .0) (s .args .p .now) (s .args .s) (s .pre .1) (s .args .out .now) _ (s .pre .2)
-    (mixed .before .last-block .result) (mixed .mix-block .result) (mixed .before .last-block .ensures) (mixed .mix-block .ensures) (c .before .before .tell .ensures)
+    (mixed .before .last-block .result) (mixed .mix-block .result) (mixed .before .last-block .ensures) (mixed .mix-block .ensures)
+    (c .before .before .tell .ensures)
 
 pub encrypt-piece-spec : {M : Type 1} → statement M
 encrypt-piece-spec =

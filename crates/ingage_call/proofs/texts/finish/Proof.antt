@@ -33,7 +33,8 @@ returns c =
     let n = start .args .z .state in
     let f = c .before .before .before .finish .result in
     ap (take n) (c .before .tell .ensures ∙ over-whole (told 72 f) (replicate 72 0) (omega (arith, length-told 72 f)))
-    ∙ take-told n 72 f (start .pre .held) ∙ ap (told n) (c .before .before .before .finish .ensures) ∙ finish-first (start .args .z) (start .args .s) (start .pre)
+    ∙ take-told n 72 f (start .pre .held) ∙ ap (told n) (c .before .before .before .finish .ensures) ∙ finish-first (start .args .z) (start .args .s)
+    (start .pre)
 
 pub finish-spec : {M : Type 1} → statement M
 finish-spec = tie.close (tie.spec finish-requires slice-aggregate-tell tell-requires returns)

@@ -26,24 +26,45 @@ fits : (c : tie.Start Inv-loop μ-loop) → Fits w64 (length (c .args .text .now
 fits c = omega arith
 
 -- where the piece starts and ends
-starts : (c : tie.In-loop Inv-loop μ-loop) → c .before .loop .i * c .before .before .before .before .args .z .rate ≤ length (c .before .before .before .before .args .text .now)
-starts c = piece-starts (c .before .before .before .before .args .z .rate) (c .before .before .before .before .args .text .now) (c .before .loop .i) (c .loop-test .taken)
+starts : (c : tie.In-loop Inv-loop μ-loop) → c .before .loop .i * c .before .before .before .before .args .z .rate ≤ length
+    (c .before .before .before .before .args .text .now)
+starts c = piece-starts (c .before .before .before .before .args .z .rate) (c .before .before .before .before .args .text .now) (c .before .loop .i)
+    (c .loop-test .taken)
 
 ends : (c : tie.After-end-of Inv-loop μ-loop)
-    → (c .before .before .loop .i * c .before .before .before .before .before .args .z .rate ≤ c .end-of .result) × (c .end-of .result ≤ length (c .before .before .before .before .before .args .text .now)) × (c .end-of .result - c .before .before .loop .i * c .before .before .before .before .before .args .z .rate ≤ c .before .before .before .before .before .args .z .rate)
-ends c = end-between (c .before .before .before .before .before .args .z .rate) (c .before .before .loop .i * c .before .before .before .before .before .args .z .rate) (length (c .before .before .before .before .before .args .text .now)) (c .end-of .result) (starts (c .before)) (c .end-of .ensures)
+    → (c .before .before .loop .i * c .before .before .before .before .before .args .z .rate ≤ c .end-of .result)
+    × (c .end-of .result ≤ length (c .before .before .before .before .before .args .text .now))
+    × (c .end-of .result - c .before .before .loop .i * c .before .before .before .before .before .args .z .rate ≤
+    c .before .before .before .before .before .args .z .rate)
+ends c = end-between (c .before .before .before .before .before .args .z .rate) (c .before .before .loop .i *
+    c .before .before .before .before .before .args .z .rate) (length (c .before .before .before .before .before .args .text .now)) (c .end-of .result)
+    (starts (c .before)) (c .end-of .ensures)
 
 -- the piece is no longer than a block
-short-part : (c : tie.After-end-of Inv-loop μ-loop) → length (take (c .end-of .result - c .before .before .loop .i * c .before .before .before .before .before .args .z .rate) (drop (c .before .before .loop .i * c .before .before .before .before .before .args .z .rate) (c .before .before .before .before .before .args .text .now))) ≤ c .before .before .before .before .before .args .z .rate
-short-part c = le-trans (cut-short (c .end-of .result - c .before .before .loop .i * c .before .before .before .before .before .args .z .rate) (drop (c .before .before .loop .i * c .before .before .before .before .before .args .z .rate) (c .before .before .before .before .before .args .text .now))) (ends c .2)
+short-part : (c : tie.After-end-of Inv-loop μ-loop) → length (take (c .end-of .result - c .before .before .loop .i *
+    c .before .before .before .before .before .args .z .rate) (drop (c .before .before .loop .i * c .before .before .before .before .before .args .z .rate)
+    (c .before .before .before .before .before .args .text .now))) ≤ c .before .before .before .before .before .args .z .rate
+short-part c = le-trans (cut-short (c .end-of .result - c .before .before .loop .i * c .before .before .before .before .before .args .z .rate)
+    (drop (c .before .before .loop .i * c .before .before .before .before .before .args .z .rate)
+    (c .before .before .before .before .before .args .text .now))) (ends c .2)
 
 -- the buffer keeps its length
 kept : (c : tie.At-loop Inv-loop μ-loop) → length (c .loop .out) ≡ length (c .before .before .before .args .out .now)
-kept c = length-passing (c .before .before .before .args .z) (c .before .before .before .pre .0) (c .before .before .before .args .text .now) (c .before .before .before .args .s) (c .before .before .before .args .out .now) (c .before .before .before .args .way) (c .before .before .before .pre .1) (c .loop .inv)
+kept c = length-passing (c .before .before .before .args .z) (c .before .before .before .pre .0) (c .before .before .before .args .text .now)
+    (c .before .before .before .args .s) (c .before .before .before .args .out .now) (c .before .before .before .args .way) (c .before .before .before .pre .1)
+    (c .loop .inv)
 
 -- the part of the buffer that the piece is given
-part : (c : tie.After-given2 Inv-loop μ-loop) → Lent (c .before .before .before .before .before .before .before .args .way) (c .before .given .result) (c .given2 .result) (take (c .before .before .end-of .result - c .before .before .before .before .loop .i * c .before .before .before .before .before .before .before .args .z .rate) (drop (c .before .before .before .before .loop .i * c .before .before .before .before .before .before .before .args .z .rate) (c .before .before .before .before .before .before .before .args .text .now))) (c .before .before .before .before .loop .out)
-part c = lent (c .before .before .before .before .before .before .before .args .way) (c .before .before .before .before .loop .i * c .before .before .before .before .before .before .before .args .z .rate) (c .before .before .end-of .result) (c .before .given .result) (c .given2 .result) (c .before .before .before .before .before .before .before .args .text .now) (c .before .before .before .before .loop .out) (ends (c .before .before) .0) (ends (c .before .before) .1) (rw (kept (c .before .before .before .before)) (c .before .before .before .before .before .before .before .pre .1)) (c .before .given .ensures) (c .given2 .ensures)
+part : (c : tie.After-given2 Inv-loop μ-loop) → Lent (c .before .before .before .before .before .before .before .args .way) (c .before .given .result)
+    (c .given2 .result) (take (c .before .before .end-of .result - c .before .before .before .before .loop .i *
+    c .before .before .before .before .before .before .before .args .z .rate) (drop (c .before .before .before .before .loop .i *
+    c .before .before .before .before .before .before .before .args .z .rate) (c .before .before .before .before .before .before .before .args .text .now)))
+    (c .before .before .before .before .loop .out)
+part c = lent (c .before .before .before .before .before .before .before .args .way) (c .before .before .before .before .loop .i *
+    c .before .before .before .before .before .before .before .args .z .rate) (c .before .before .end-of .result) (c .before .given .result)
+    (c .given2 .result) (c .before .before .before .before .before .before .before .args .text .now) (c .before .before .before .before .loop .out)
+    (ends (c .before .before) .0) (ends (c .before .before) .1) (rw (kept (c .before .before .before .before))
+    (c .before .before .before .before .before .before .before .pre .1)) (c .before .given .ensures) (c .given2 .ensures)
 
 div-count : tie.Need-div-count Inv-loop μ-loop
 div-count c = c .before .before .pre .0 .moves
@@ -52,10 +73,12 @@ add-count : tie.Need-add-count Inv-loop μ-loop
 add-count c = fits-le (most-blocks (c .before .before .args .z .rate) (length (c .before .before .args .text .now))) (fits (c .before .before))
 
 loop-holds : tie.Need-loop-holds Inv-loop μ-loop
-loop-holds c = passing-none (c .before .before .args .way) (c .before .before .args .z) (c .before .before .args .text .now) (c .before .before .args .s) (c .before .before .args .out .now)
+loop-holds c = passing-none (c .before .before .args .way) (c .before .before .args .z) (c .before .before .args .text .now) (c .before .before .args .s)
+    (c .before .before .args .out .now)
 
 mul-at : tie.Need-mul-at Inv-loop μ-loop
-mul-at c = fits-le (le-trans (starts c) (le-add-right (length (c .before .before .before .before .args .text .now)) 1)) (fits (c .before .before .before .before))
+mul-at c = fits-le (le-trans (starts c) (le-add-right (length (c .before .before .before .before .args .text .now)) 1))
+    (fits (c .before .before .before .before))
 
 end-of-requires : tie.Need-end-of-requires Inv-loop μ-loop
 end-of-requires c κs = starts c
@@ -85,16 +108,38 @@ part-pass-piece-end-2 : tie.Need-part-pass-piece-end-2 Inv-loop μ-loop
 part-pass-piece-end-2 c = part (c .before) .ends
 
 pass-piece-requires : tie.Need-pass-piece-requires Inv-loop μ-loop
-pass-piece-requires c κs = (c .before .before .before .before .before .before .before .before .before .pre .0, short-part (c .before .before .before .before), part (c .before .before) .fills)
+pass-piece-requires c κs = (
+  c .before .before .before .before .before .before .before .before .before .pre .0,
+  short-part (c .before .before .before .before),
+  part (c .before .before) .fills,
+)
 
 add-i : tie.Need-add-i Inv-loop μ-loop
-add-i c = fits-le (most-turns (c .before .before .before .before .before .before .before .before .before .before .before .before .args .z .rate) (length (c .before .before .before .before .before .before .before .before .before .before .before .before .args .text .now)) (c .before .before .before .before .before .before .before .before .before .loop .i) (c .before .before .before .before .before .before .before .before .loop-test .taken)) (fits (c .before .before .before .before .before .before .before .before .before .before .before .before))
+add-i c = fits-le (most-turns (c .before .before .before .before .before .before .before .before .before .before .before .before .args .z .rate)
+    (length (c .before .before .before .before .before .before .before .before .before .before .before .before .args .text .now))
+    (c .before .before .before .before .before .before .before .before .before .loop .i)
+    (c .before .before .before .before .before .before .before .before .loop-test .taken))
+    (fits (c .before .before .before .before .before .before .before .before .before .before .before .before))
 
 loop-less : tie.Need-loop-less Inv-loop μ-loop
-loop-less c = fewer-turns (length (c .before .before .before .before .before .before .before .before .before .before .before .before .args .text .now) / c .before .before .before .before .before .before .before .before .before .before .before .before .args .z .rate + 1) (c .before .before .before .before .before .before .before .before .before .loop .i) (c .before .before .before .before .before .before .before .before .loop-test .taken)
+loop-less c = fewer-turns (length (c .before .before .before .before .before .before .before .before .before .before .before .before .args .text .now) /
+    c .before .before .before .before .before .before .before .before .before .before .before .before .args .z .rate + 1)
+    (c .before .before .before .before .before .before .before .before .before .loop .i)
+    (c .before .before .before .before .before .before .before .before .loop-test .taken)
 
 loop-again : tie.Need-loop-again Inv-loop μ-loop
-loop-again c = passing-more (c .before .before .before .before .before .before .before .before .before .before .before .before .args .z) (c .before .before .before .before .before .before .before .before .before .before .before .before .pre .0) (c .before .before .before .before .before .before .before .before .before .before .before .before .args .text .now) (c .before .before .before .before .before .before .before .before .before .before .before .before .args .s) (c .before .before .before .before .before .before .before .before .before .before .before .before .args .out .now) (c .before .before .before .before .before .before .before .before .before .before .before .before .args .way) (c .before .before .before .before .before .before .before .end-of .result) (c .before .before .before .before .before .before .given .result) (c .before .before .before .before .before .given2 .result) _ (c .before .before .pass-piece .result) (c .before .before .before .before .before .before .before .before .before .loop .inv) (c .before .before .before .before .before .before .before .before .loop-test .taken) (c .before .before .before .before .before .before .before .end-of .ensures) (c .before .before .before .before .before .before .given .ensures) (c .before .before .before .before .before .given2 .ensures) (c .before .before .pass-piece .ensures .0) (c .before .before .pass-piece .ensures .1)
+loop-again c = passing-more (c .before .before .before .before .before .before .before .before .before .before .before .before .args .z)
+    (c .before .before .before .before .before .before .before .before .before .before .before .before .pre .0)
+    (c .before .before .before .before .before .before .before .before .before .before .before .before .args .text .now)
+    (c .before .before .before .before .before .before .before .before .before .before .before .before .args .s)
+    (c .before .before .before .before .before .before .before .before .before .before .before .before .args .out .now)
+    (c .before .before .before .before .before .before .before .before .before .before .before .before .args .way)
+    (c .before .before .before .before .before .before .before .end-of .result) (c .before .before .before .before .before .before .given .result)
+    (c .before .before .before .before .before .given2 .result) _ (c .before .before .pass-piece .result)
+    (c .before .before .before .before .before .before .before .before .before .loop .inv)
+    (c .before .before .before .before .before .before .before .before .loop-test .taken)
+    (c .before .before .before .before .before .before .before .end-of .ensures) (c .before .before .before .before .before .before .given .ensures)
+    (c .before .before .before .before .before .given2 .ensures) (c .before .before .pass-piece .ensures .0) (c .before .before .pass-piece .ensures .1)
 
 same-length : tie.Need-same-length Inv-loop μ-loop
 same-length c = kept (c .before)

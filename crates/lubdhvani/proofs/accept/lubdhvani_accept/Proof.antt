@@ -21,7 +21,8 @@ returns : tie.Need-returns
 returns c =
     let a = c .before .before .before .before .before .before .args in
     c .accepted-of .ensures
-    ∙ ap acceptedOut (c .before .accept .ensures ∙ ap (λ (l : Layout). acceptAnswer (told (a .key .now) (a .font .now) l) (a .editions) (a .stream .now)) (c .before .before .layout-of .ensures))
+    ∙ ap acceptedOut (c .before .accept .ensures ∙ ap (λ (l : Layout). acceptAnswer (told (a .key .now) (a .font .now) l) (a .editions) (a .stream .now))
+    (c .before .before .layout-of .ensures))
 
 pub lubdhvani-accept-spec : {M : Type 1} → statement M
 lubdhvani-accept-spec =

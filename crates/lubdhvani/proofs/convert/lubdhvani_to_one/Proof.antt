@@ -24,7 +24,8 @@ same-length c = search needs
 returns : tie.Need-returns
 returns c =
     let a = c .before .before .before .before .before .before .before .before .before .before .before .args in
-    let done = converted-named (a .key .now) (a .font .now) (c .before .before .before .before .before .layout-of .ensures) (ownOf One (a .nonce .now) []) (a .stretch .now) (a .frame .now) (c .before .before .before .to-one .ensures) in
+    let done = converted-named (a .key .now) (a .font .now) (c .before .before .before .before .before .layout-of .ensures) (ownOf One (a .nonce .now) [])
+    (a .stretch .now) (a .frame .now) (c .before .before .before .to-one .ensures) in
     (c .measured .ensures ∙ ap converted (done .0), done .1)
 
 pub lubdhvani-to-one-spec : {M : Type 1} → statement M

@@ -23,7 +23,8 @@ same-length c = search needs
 returns : tie.Need-returns
 returns c =
     let a = c .before .before .before .before .before .before .before .before .before .before .before .before .args in
-    let done = converted-named (a .key .now) (a .font .now) (c .before .before .before .before .before .layout-of .ensures) (ownOf Two (a .nonce .now) (a .job .now)) (a .stretch .now) (a .frame .now) (c .before .before .before .to-two .ensures) in
+    let done = converted-named (a .key .now) (a .font .now) (c .before .before .before .before .before .layout-of .ensures)
+    (ownOf Two (a .nonce .now) (a .job .now)) (a .stretch .now) (a .frame .now) (c .before .before .before .to-two .ensures) in
     (c .measured .ensures ∙ ap converted (done .0), done .1)
 
 pub lubdhvani-to-two-spec : {M : Type 1} → statement M

@@ -24,7 +24,8 @@ same-length c = search needs
 returns : tie.Need-returns
 returns c =
     let a = c .before .before .before .before .before .before .before .before .before .before .before .args in
-    let done = written-named (a .key .now) (a .font .now) (c .before .before .before .before .before .layout-of .ensures) (ownOf One (a .nonce .now) []) (a .line .now) (a .frame .now) (c .before .before .before .write .ensures) in
+    let done = written-named (a .key .now) (a .font .now) (c .before .before .before .before .before .layout-of .ensures) (ownOf One (a .nonce .now) [])
+    (a .line .now) (a .frame .now) (c .before .before .before .write .ensures) in
     (c .framed-of .ensures ∙ ap written (done .0), done .1)
 
 pub lubdhvani-write-spec : {M : Type 1} → statement M

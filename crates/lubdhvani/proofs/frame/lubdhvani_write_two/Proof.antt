@@ -23,7 +23,8 @@ same-length c = search needs
 returns : tie.Need-returns
 returns c =
     let a = c .before .before .before .before .before .before .before .before .before .before .before .before .args in
-    let done = written-named (a .key .now) (a .font .now) (c .before .before .before .before .before .layout-of .ensures) (ownOf Two (a .nonce .now) (a .job .now)) (a .line .now) (a .frame .now) (c .before .before .before .write-two .ensures) in
+    let done = written-named (a .key .now) (a .font .now) (c .before .before .before .before .before .layout-of .ensures)
+    (ownOf Two (a .nonce .now) (a .job .now)) (a .line .now) (a .frame .now) (c .before .before .before .write-two .ensures) in
     (c .framed-of .ensures ∙ ap written (done .0), done .1)
 
 pub lubdhvani-write-two-spec : {M : Type 1} → statement M

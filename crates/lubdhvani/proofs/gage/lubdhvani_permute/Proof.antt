@@ -38,8 +38,10 @@ returns-2 : tie.Need-returns-2
 returns-2 c =
     let start = c .before .before .before .before .before .before .before .before .before .before .before .before in
     let done =
-    in-place permute (start .args .rounds) (length-permute (start .args .rounds)) (start .args .state .now) (search needs) (c .before .before .before .before .before .before .before .permute .result)
-    (c .before .before .before .before .before .before .before .permute .ensures ∙ rw (c .before .before .before .before .before .before .before .before .widened .ensures)) in
+    in-place permute (start .args .rounds) (length-permute (start .args .rounds)) (start .args .state .now) (search needs)
+    (c .before .before .before .before .before .before .before .permute .result)
+    (c .before .before .before .before .before .before .before .permute .ensures ∙ rw
+    (c .before .before .before .before .before .before .before .before .widened .ensures)) in
     (c .number2 .ensures ∙ done .0, c .before .before .before .copy .ensures ∙ done .1)
 
 pub lubdhvani-permute-spec : {M : Type 1} → statement M

@@ -38,8 +38,10 @@ returns-2 : tie.Need-returns-2
 returns-2 c =
     let start = c .before .before .before .before .before .before .before .before .before .before .before .before in
     let done =
-    in-place unpermute (start .args .rounds) (length-unpermute (start .args .rounds)) (start .args .state .now) (search needs) (c .before .before .before .before .before .before .before .unpermute .result)
-    (c .before .before .before .before .before .before .before .unpermute .ensures ∙ rw (c .before .before .before .before .before .before .before .before .widened .ensures)) in
+    in-place unpermute (start .args .rounds) (length-unpermute (start .args .rounds)) (start .args .state .now) (search needs)
+    (c .before .before .before .before .before .before .before .unpermute .result)
+    (c .before .before .before .before .before .before .before .unpermute .ensures ∙ rw
+    (c .before .before .before .before .before .before .before .before .widened .ensures)) in
     (c .number2 .ensures ∙ done .0, c .before .before .before .copy .ensures ∙ done .1)
 
 pub lubdhvani-unpermute-spec : {M : Type 1} → statement M

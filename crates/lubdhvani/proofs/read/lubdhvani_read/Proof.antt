@@ -21,7 +21,8 @@ same-length c = search needs
 returns : tie.Need-returns
 returns c =
     let a = c .before .before .before .before .before .before .before .before .before .before .args in
-    let done = read-told (a .key .now) (a .font .now) (c .before .before .before .before .before .told-anew .ensures) (a .stream .now) (a .from) (a .line .now) (c .before .before .before .read .ensures) in
+    let done = read-told (a .key .now) (a .font .now) (c .before .before .before .before .before .told-anew .ensures) (a .stream .now) (a .from) (a .line .now)
+    (c .before .before .before .read .ensures) in
     (c .reading-of .ensures ∙ ap readingOut (done .0), done .1)
 
 pub lubdhvani-read-spec : {M : Type 1} → statement M

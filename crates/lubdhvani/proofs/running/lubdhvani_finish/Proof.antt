@@ -15,9 +15,11 @@ use prog.Wp.{Heap, Calls, Loops, WpFn, Tables}
 use ghost.Atoms.{Atoms, sem}
 use contract.Monad.{Fun, fact}
 use contract.Running.{givenOf, tables, tablesOf}
-use types.Kit.{Given, Item, ‵, raw, _⊛_, ⋆, some, later, _$_, _∵_, !, qed, by, move, keep, drop, use1, split, join, pick, fsplit, fjoin, feqL, suffices, frame, await, done}
+use types.Kit.{Given, Item, ‵, raw, _⊛_, ⋆, some, later, _$_, _∵_, !, qed, by, move}
+use types.Kit.{keep, drop, use1, split, join, pick, fsplit, fjoin, feqL, suffices, frame, await, done}
 use types.Part.{whole, sub, look-in, agg}
-use types.Run.{look, init, forget, stop, hop, fld, from, load, addr, and-then, no-more, assigns, land, returns, enter, alloc1, alloc0, params1, pass1, pass0, free1, free0}
+use types.Run.{look, init, forget, stop, hop, fld, from, load, addr, and-then, no-more}
+use types.Run.{assigns, land, returns, enter, alloc1, alloc0, params1, pass1, pass0, free1, free0}
 use sound.WpLaws.{FmC, fmOf, WpFn-mono}
 use denote.RattleType.{RattleType, owns}
 use denote.Laws.{Is, shows}
@@ -73,7 +75,8 @@ module _ {M : Type 1} (𝓤 : URA M) (H : Heap 𝓤) (A : Atoms 𝓤) (mem : Mem
   abbrev Two : Contract 𝓤
   Two = tripleOf 𝓤 H A two.signature (two.spec 𝓤 H A mem run)
 
-module _ {M : Type 1} (𝓤 : URA M) (H : Heap 𝓤) (A : Atoms 𝓤) (W : Given 𝓤 H A) (mem : Memory → SProp 𝓤) (run : Routine → Fun 𝓤) (κ κ₁ : Lft) (q q₁ : Share) (b o : ℕ) (γ : GName) (h : Record) (b₁ o₁ : ℕ) (γ₁ : GName) (ys : List ℕ) where
+module _ {M : Type 1} (𝓤 : URA M) (H : Heap 𝓤) (A : Atoms 𝓤) (W : Given 𝓤 H A) (mem : Memory → SProp 𝓤) (run : Routine → Fun 𝓤) (κ κ₁ : Lft) (q q₁ : Share)
+    (b o : ℕ) (γ : GName) (h : Record) (b₁ o₁ : ℕ) (γ₁ : GName) (ys : List ℕ) where
   abbrev x : RefT Record × (RefT (List ℕ) × Unit {0})
   x = (record { ptr = (b, o); name = γ; now = h }, (record { ptr = (b₁, o₁); name = γ₁; now = ys }, tt))
 
@@ -109,25 +112,33 @@ module _ {M : Type 1} (𝓤 : URA M) (H : Heap 𝓤) (A : Atoms 𝓤) (W : Given
       → ent 𝓤 (⋆ 𝓤 H A (tokens ∷ ‵ (fres γ (R .coded .code z)) ∷ ‵ (finally u8 γ₁ zs) ∷ ‵ (C.the-row .own k (v ∷ [])) ∷ [])) (Post v)
   exits r z zs k v e f l =
       qed W (tokens ∷ ‵ (fres γ (R .coded .code z)) ∷ ‵ (finally u8 γ₁ zs) ∷ ‵ (C.the-row .own k (v ∷ [])) ∷ []) ∵
-      suffices ! _ (ends-at 𝓤 H A here.ended stayed (here.clauses 𝓤 H A mem run) W (((κ, (κ₁, tt)), (q, (q₁, tt)), tt, x, at), tt) v k (z, (zs, tt)) (tt, (l, tt))) $
+      suffices ! _ (ends-at 𝓤 H A here.ended stayed (here.clauses 𝓤 H A mem run) W (((κ, (κ₁, tt)), (q, (q₁, tt)), tt, x, at), tt) v k (z, (zs, tt))
+      (tt, (l, tt))) $
       says ! (f ∙ ap finished (e .0), e .1, e .2) $ frame ! $ nothing ! $ move ! (2 ∷ 0 ∷ []) $ fjoin ! $ move ! (1 ∷ 0 ∷ []) $ fjoin ! $ done !
 
-  module _ (C₀ : Calls 𝓤 H) (Λ : Loops 𝓤 H) (fm : FmC 𝓤 H (W .laws) C₀) (known-one : Triple 𝓤 (C₀ #one) (One 𝓤 H A mem run)) (known-two : Triple 𝓤 (C₀ #two) (Two 𝓤 H A mem run)) where
+  module _ (C₀ : Calls 𝓤 H) (Λ : Loops 𝓤 H) (fm : FmC 𝓤 H (W .laws) C₀) (known-one : Triple 𝓤 (C₀ #one) (One 𝓤 H A mem run))
+      (known-two : Triple 𝓤 (C₀ #two) (Two 𝓤 H A mem run)) where
     walk : Room u8 (length ys) → ent 𝓤 (onEntry 𝓤 H A here.signature (κ, (κ₁, tt)) (q, (q₁, tt)) x at) (WpFn 𝓤 H C₀ Λ code.function (vptr b o ∷ ov ∷ []) Post)
     walk room =
         qed W (raw (onEntry 𝓤 H A here.signature (κ, (κ₁, tt)) (q, (q₁, tt)) x at) ∷ []) ∵ enter ! C₀ Λ code.function (vptr b o ∷ ov ∷ []) _ $
-        alloc1 ! (λ l₀. alloc1 ! (λ l₁. alloc1 ! (λ l₂. alloc1 ! (λ l₃. alloc1 ! (λ l₄. alloc1 ! (λ l₅. alloc1 ! (λ l₆. alloc0 ! $ params1 ! $ pass1 ! (init ! 10 refl (tt, tt)) $ pass1 ! (init ! 8 refl (tt, (tt, (record { fits = room .0 }, tt)))) $ pass0 ! $
+        alloc1 ! (λ l₀. alloc1 ! (λ l₁. alloc1 ! (λ l₂. alloc1 ! (λ l₃. alloc1 ! (λ l₄. alloc1 ! (λ l₅. alloc1 !
+        (λ l₆. alloc0 ! $ params1 ! $ pass1 ! (init ! 10 refl (tt, tt)) $ pass1 ! (init ! 8 refl (tt, (tt, (record { fits = room .0 }, tt)))) $ pass0 ! $
         -- [_6; …; _5; …; _4; …; _3; …; _2; …; _1; …; room for _0; …; what is had on entry]
         assigns ! (addr ! (from ! (hop ! (look ! 10 refl) (stop !)))) (from ! (stop !)) (init ! 4 refl (tt, tt)) $
         assigns ! (addr ! (from ! (fld ! refl (hop ! (look-in ! 8 (sub ! 0 refl (whole !))) (stop !))))) (from ! (stop !)) (init ! 2 refl (tt, tt)) $
-        assigns ! (agg ! (and-then ! (load ! (from ! (stop !)) (look ! 2 refl)) (and-then ! (load ! (from ! (fld ! refl (stop !))) (look-in ! 8 (sub ! 1 refl (whole !)))) (no-more !)))) (from ! (stop !)) (init ! 0 refl (tt, (tt, (record { fits = room .0 }, tt)))) $
+        assigns ! (agg ! (and-then ! (load ! (from ! (stop !)) (look ! 2 refl)) (and-then ! (load ! (from ! (fld ! refl (stop !)))
+        (look-in ! 8 (sub ! 1 refl (whole !)))) (no-more !)))) (from ! (stop !)) (init ! 0 refl (tt, (tt, (record { fits = room .0 }, tt)))) $
         -- `running_call::finish`
         move ! (14 ∷ []) $ use1 W (raw (One 𝓤 H A mem run .pre to-one)) goes-one $
-        calls-at ! fm (One 𝓤 H A mem run) known-one to-one (and-then ! (load ! (from ! (stop !)) (look ! 5 refl)) (and-then ! (load ! (from ! (stop !)) (look ! 1 refl)) (no-more !))) (λ u.
-        use1 W (later (some (λ (r : Finished). (tokens ⊛ ‵ (S.the-row .own r (u ∷ []))) ⊛ raw (ensured 𝓤 H A one.ended (one.clauses 𝓤 H A mem run) (κ, (κ₁, tt)) x tt r)))) (id⊢ 𝓤 _) $ await ! tt $ pick ! (λ r.
+        calls-at ! fm (One 𝓤 H A mem run) known-one to-one (and-then ! (load ! (from ! (stop !)) (look ! 5 refl))
+        (and-then ! (load ! (from ! (stop !)) (look ! 1 refl)) (no-more !))) (λ u.
+        use1 W (later (some (λ (r : Finished). (tokens ⊛ ‵ (S.the-row .own r (u ∷ []))) ⊛ raw
+        (ensured 𝓤 H A one.ended (one.clauses 𝓤 H A mem run) (κ, (κ₁, tt)) x tt r)))) (id⊢ 𝓤 _) $ await ! tt $ pick ! (λ r.
         -- what it ensures, at some last record and list
-        split ! $ move ! (1 ∷ []) $ use1 W (some (λ (zs : Record × (List ℕ × Unit {0})). ‵ (lasts one.ended (κ, (κ₁, tt)) x zs) ⊛ raw (fact 𝓤 (Finishes h ys r (zs .0) (zs .1 .0))))) (id⊢ 𝓤 _) $ pick ! (λ zs.
-        split ! $ move ! (1 ∷ []) $ heard ! (Finishes h ys r (zs .0) (zs .1 .0)) (λ e. fsplit ! $ move ! (1 ∷ []) $ fsplit ! $ fsplit ! $ move ! (1 ∷ []) $ feqL ! (λ l.
+        split ! $ move ! (1 ∷ []) $ use1 W (some (λ (zs : Record × (List ℕ × Unit {0})). ‵ (lasts one.ended (κ, (κ₁, tt)) x zs) ⊛ raw
+        (fact 𝓤 (Finishes h ys r (zs .0) (zs .1 .0))))) (id⊢ 𝓤 _) $ pick ! (λ zs.
+        split ! $ move ! (1 ∷ []) $ heard ! (Finishes h ys r (zs .0) (zs .1 .0)) (λ e. fsplit ! $ move ! (1 ∷ []) $ fsplit ! $ fsplit ! $ move ! (1 ∷ []) $
+        feqL ! (λ l.
         move ! (1 ∷ []) $ drop ! $ move ! (2 ∷ []) $ split ! $ move ! (1 ∷ []) $
         -- [what the answer owns; the tokens; the last list; the last record; _6; …; room for _3 at 10; …; _1; …; room for _0; …]
         peeks ! S.the-row (Is S.the-row) (shows 𝓤 H A S.the-row) r (u ∷ []) (λ is.
@@ -135,20 +146,25 @@ module _ {M : Type 1} (𝓤 : URA M) (H : Heap 𝓤) (A : Atoms 𝓤) (W : Given
         -- the number and the count
         use1 W (raw (Two 𝓤 H A mem run .pre (to-two r u))) (goes-two r u) $
         calls-at ! fm (Two 𝓤 H A mem run) known-two (to-two r u) (and-then ! (load ! (from ! (stop !)) (look ! 10 refl)) (no-more !)) (λ v.
-        use1 W (later (some (λ (k : Counted). (‵ ftrue ⊛ ‵ (C.the-row .own k (v ∷ []))) ⊛ raw (ensured 𝓤 H A two.ended (two.clauses 𝓤 H A mem run) tt (r, tt) tt k)))) (id⊢ 𝓤 _) $ await ! tt $ pick ! (λ k.
+        use1 W (later (some (λ (k : Counted). (‵ ftrue ⊛ ‵ (C.the-row .own k (v ∷ []))) ⊛ raw
+        (ensured 𝓤 H A two.ended (two.clauses 𝓤 H A mem run) tt (r, tt) tt k)))) (id⊢ 𝓤 _) $ await ! tt $ pick ! (λ k.
         split ! $ move ! (1 ∷ []) $ use1 W (raw (fact 𝓤 (k ≡ finished r))) (said-two r k) $ heard ! (k ≡ finished r) (λ f. split ! $ drop ! $
         -- [what the two own; the tokens; the last list; the last record; _6; …; _1; …; room for _0 at 16; …]
         peeks ! C.the-row (Is C.the-row) (shows 𝓤 H A C.the-row) k (v ∷ []) (λ is′.
         land ! (from ! (stop !)) (init ! 16 refl (LL.lawful C.the-type C′.the-laws 𝓤 H A W .typed k _ is′ .0)) $
-        returns ! (look ! 16 refl) $ forget ! 4 refl $ forget ! 6 refl $ forget ! 8 refl $ forget ! 10 refl $ forget ! 12 refl $ forget ! 14 refl $ forget ! 16 refl $
-        move ! (16 ∷ 17 ∷ []) $ free1 ! $ move ! (14 ∷ 15 ∷ []) $ free1 ! $ move ! (12 ∷ 13 ∷ []) $ free1 ! $ move ! (10 ∷ 11 ∷ []) $ free1 ! $ move ! (8 ∷ 9 ∷ []) $ free1 ! $ move ! (6 ∷ 7 ∷ []) $ free1 ! $ move ! (4 ∷ 5 ∷ []) $ free1 ! $ free0 ! $
+        returns ! (look ! 16 refl) $ forget ! 4 refl $ forget ! 6 refl $ forget ! 8 refl $ forget ! 10 refl $ forget ! 12 refl $ forget ! 14 refl $ forget ! 16
+        refl $
+        move ! (16 ∷ 17 ∷ []) $ free1 ! $ move ! (14 ∷ 15 ∷ []) $ free1 ! $ move ! (12 ∷ 13 ∷ []) $ free1 ! $ move ! (10 ∷ 11 ∷ []) $ free1 ! $ move !
+        (8 ∷ 9 ∷ []) $ free1 ! $ move ! (6 ∷ 7 ∷ []) $ free1 ! $ move ! (4 ∷ 5 ∷ []) $ free1 ! $ free0 ! $
         keep ! (1 ∷ 3 ∷ 2 ∷ 0 ∷ []) $ by ! (exits r (zs .0) (zs .1 .0) k v e f l))))))))))))))))))
 
 module _ {M : Type 1} (𝓤 : URA M) (H : Heap 𝓤) (A : Atoms 𝓤) (W : Given 𝓤 H A) (mem : Memory → SProp 𝓤) (run : Routine → Fun 𝓤) where
   walks : (C₀ : Calls 𝓤 H) (Λ : Loops 𝓤 H) → FmC 𝓤 H (W .laws) C₀ → Triple 𝓤 (C₀ #one) (One 𝓤 H A mem run) → Triple 𝓤 (C₀ #two) (Two 𝓤 H A mem run)
       → Walks 𝓤 H A here.ended stayed (WpFn 𝓤 H C₀ Λ code.function) (here.clauses 𝓤 H A mem run)
-  walks C₀ Λ fm known-one known-two = walked 𝓤 H A here.ended stayed (here.clauses 𝓤 H A mem run) (WpFn 𝓤 H C₀ Λ code.function) (λ κs. (ptr-vals, (slice-vals, tt))) (λ κs. (mut-tells (named 0) (κs .0) T.the-row, (mut-slice-tells (named 1) (κs .1 .0) u8, tt)))
-      (λ κs qs bounds a _ are. via 𝓤 _ (fst∗ 𝓤 _ (emp 𝓤)) (walk 𝓤 H A W mem run (κs .0) (κs .1 .0) (qs .0) (qs .1 .0) (a .0 .ptr .0) (a .0 .ptr .1) (a .0 .name) (a .0 .now) (a .1 .0 .ptr .0) (a .1 .0 .ptr .1) (a .1 .0 .name) (a .1 .0 .now) C₀ Λ fm known-one known-two (are .1 .0 .0 .1)))
+  walks C₀ Λ fm known-one known-two = walked 𝓤 H A here.ended stayed (here.clauses 𝓤 H A mem run) (WpFn 𝓤 H C₀ Λ code.function)
+      (λ κs. (ptr-vals, (slice-vals, tt))) (λ κs. (mut-tells (named 0) (κs .0) T.the-row, (mut-slice-tells (named 1) (κs .1 .0) u8, tt)))
+      (λ κs qs bounds a _ are. via 𝓤 _ (fst∗ 𝓤 _ (emp 𝓤)) (walk 𝓤 H A W mem run (κs .0) (κs .1 .0) (qs .0) (qs .1 .0) (a .0 .ptr .0) (a .0 .ptr .1)
+      (a .0 .name) (a .0 .now) (a .1 .0 .ptr .0) (a .1 .0 .ptr .1) (a .1 .0 .name) (a .1 .0 .now) C₀ Λ fm known-one known-two (are .1 .0 .0 .1)))
 
 meets : {M : Type 1} (𝓤 : URA M) (H : Heap 𝓤) (A : Atoms 𝓤) (W : Given 𝓤 H A) (mem : Memory → SProp 𝓤) (run : Routine → Fun 𝓤) (𝓣 : Tables 𝓤 H)
     → Triple 𝓤 (𝓣 .C #one) (One 𝓤 H A mem run) → Triple 𝓤 (𝓣 .C #two) (Two 𝓤 H A mem run)
