@@ -25,7 +25,7 @@ use Rattle.accept_spec.specs.declared.Accepted.{Accepted}
 use Rattle.accept_spec.specs.declared.Answer.the-variants as answer-is
 use Rattle.accept_spec.specs.Accepting.{mostStretches, refused, stretchesIn, readAll, acceptFrom, acceptAnswer}
 
-answer-number : (j : Judged) → answers.numberOf (answerOf j) ≡ numberIn j
+answer-number : (j : Judged) → answers.answerNumber (answerOf j) ≡ numberIn j
 answer-number shape = refl
 answer-number stuffing = refl
 answer-number font = refl
@@ -42,12 +42,12 @@ sized-true t k d = rw (eq-eqb (length (t .key)) keyLength k) (eq-eqb (length (t 
 
 -- all work is allowed, so that a reader's own verdict is the whole of it
 pub judged-number : (t : Told) (ed : ℕ) (s o : List ℕ) → Sizes t → Below 256 s → longest ≤ length o → (v : Verdict)
-    → v ≡ judgeAnswer t (record { editions = ed; allowed = allWork; layout = t .layout }) s o → answers.numberOf (v .answer) ≡ numberIn (judge t ed s)
+    → v ≡ judgeAnswer t (record { editions = ed; allowed = allWork; layout = t .layout }) s o → answers.answerNumber (v .answer) ≡ numberIn (judge t ed s)
 unfolding judgeAnswer judgedWithin
 judged-number t ed s o z bytes room v e =
     let is : v ≡ verdictOf (judge t ed s) =
     e ∙ rw (sized-true t (z .key-is) (z .font-is), le-ltb (length o) longest room) (ap verdictOf (all-allowed t z ed s bytes allWork (omega arith))) in
-    ap (λ (x : Verdict). answers.numberOf (x .answer)) is ∙ answer-number (judge t ed s)
+    ap (λ (x : Verdict). answers.answerNumber (x .answer)) is ∙ answer-number (judge t ed s)
 
 module _ (key font : List ℕ) (lay : Layout) (ed : ℕ) (s : List ℕ) where
   abbrev t : Told

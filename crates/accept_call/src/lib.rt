@@ -10,7 +10,7 @@ ghost use Rattle.read_spec.specs.Judging.{judge};
 ghost use Rattle.read_spec.specs.Sizes.{Sizes};
 ghost use Rattle.read_nonce.specs.Nonces.{nonceOf};
 ghost use Rattle.accept_nonces.specs.Words.{wordsOf};
-ghost use Rattle.accept_spec.specs.Accepting.{mostStretches, refused, stretchesIn, readAll, acceptFrom, acceptAnswer, numberOf};
+ghost use Rattle.accept_spec.specs.Accepting.{mostStretches, refused, stretchesIn, readAll, acceptFrom, acceptAnswer, acceptNumber};
 use accept_nonces::Words;
 use accept_nonces::met;
 use accept_nonces::words_of;
@@ -161,7 +161,7 @@ pub fn accept(stream: &[u8], key: &[u8], font: &[u8], editions: usize, layout: L
 
 // The number of what accepting answers.
 pub fn accept_number(answer: Answer) -> u32
-    ensures { λ r. ⌜ r ≡ numberOf answer ⌝ }
+    ensures { λ r. ⌜ r ≡ acceptNumber answer ⌝ }
 {
     match answer {
         Answer::Yes => 0,

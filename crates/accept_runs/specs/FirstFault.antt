@@ -17,7 +17,7 @@ use Rattle.demand_joined.specs.Seeing.{seenOf}
 use Rattle.accept_spec.specs.declared.Accepted.{Accepted}
 use Rattle.accept_spec.specs.declared.Answer.the-variants as answer-is
 use Rattle.accept_spec.specs.Nonces.{Occurs, AllDiffer}
-use Rattle.accept_spec.specs.Accepting.{readAll, acceptAnswer, numberOf}
+use Rattle.accept_spec.specs.Accepting.{readAll, acceptAnswer, acceptNumber}
 use Rattle.accept_spec.specs.Exactly as exactly
 use Rattle.accept_spec.specs.Exactly.{Fault, all-good, at-fault}
 use Rattle.accept_spec.specs.Cases.{Case, sizes-wrong, long, many, judged, accept-case}
@@ -46,7 +46,7 @@ pub record Named (s : List ℕ) (r : Accepted) (seen : List Seen) : Type 0 where
   pub closing-is : r .closing ≡ this .closing
   pub lines : LinesSeen before
   pub differ : AllDiffer (map (nonceSeen s) before)
-  pub because : Because s (map (nonceSeen s) before) this (numberOf (r .answer))
+  pub because : Because s (map (nonceSeen s) before) this (acceptNumber (r .answer))
 
 -- the call could read the stream, and so it names a stretch of every whole run
 pub record Faulted (key font : List ℕ) (asked : Asked) (s : List ℕ) (r : Accepted) : Type 0 where
@@ -60,7 +60,7 @@ map-parts (r ∷ a) b = ap (λ (l : List Seen). seenOf r ∷ l) (map-parts a b)
 
 module _ (s : List ℕ) where
   because-of : (x : List (List ℕ)) (r : Reading) (a : Accepted) → exactly.Cause s x r a
-      → (a .first ≡ r .place .first) × (a .closing ≡ r .place .closing) × Because s x (seenOf r) (numberOf (a .answer))
+      → (a .first ≡ r .place .first) × (a .closing ≡ r .place .closing) × Because s x (seenOf r) (acceptNumber (a .answer))
   because-of x r _ (exactly.refused n) = (refl, refl, refused n)
   because-of x r _ (exactly.repeated l o) = (refl, refl, repeats l o)
 
@@ -78,14 +78,14 @@ module _ (s : List ℕ) where
         closing-is = y;
         lines = lines-seen (f .before) (f .lines);
         differ = subst AllDiffer (sym n) (f .differ);
-        because = subst (λ (l : List (List ℕ)). Because s l (seenOf (f .this)) (numberOf (a .answer))) (sym n) z;
+        because = subst (λ (l : List (List ℕ)). Because s l (seenOf (f .this)) (acceptNumber (a .answer))) (sym n) z;
       }
 
 module _ (key font : List ℕ) (asked : Asked) (enough : allWork ≤ asked .allowed) (s : List ℕ) (bytes : Below 256 s) where
   abbrev t : Told
   t = told key font (asked .layout)
 
-  by-case : (a : Accepted) → Case t (asked .editions) s a → NamesOne (numberOf (a .answer)) → Faulted key font asked s a
+  by-case : (a : Accepted) → Case t (asked .editions) s a → NamesOne (acceptNumber (a .answer)) → Faulted key font asked s a
   by-case _ sizes-wrong n = absurd (n .not-sizes refl)
   by-case _ long n = absurd (n .not-long refl)
   by-case _ many n = absurd (n .not-many refl)
@@ -96,7 +96,7 @@ module _ (key font : List ℕ) (asked : Asked) (enough : allWork ≤ asked .allo
     named = λ w. subst (Named s a) (sym (whole-seen key font asked enough s bytes z h w)) (fault-seen s (readAll t (asked .editions) s) a f);
   }
 
-  pub first-fault : (r : Accepted) → Accepts key font (asked .editions) (asked .layout) s r → NamesOne (numberOf (r .answer)) → Faulted key font asked s r
+  pub first-fault : (r : Accepted) → Accepts key font (asked .editions) (asked .layout) s r → NamesOne (acceptNumber (r .answer)) → Faulted key font asked s r
   first-fault r p n =
       subst (Faulted key font asked s) (sym p)
-      (by-case (acceptAnswer t (asked .editions) s) (accept-case t (asked .editions) s) (subst (λ (a : Accepted). NamesOne (numberOf (a .answer))) p n))
+      (by-case (acceptAnswer t (asked .editions) s) (accept-case t (asked .editions) s) (subst (λ (a : Accepted). NamesOne (acceptNumber (a .answer))) p n))

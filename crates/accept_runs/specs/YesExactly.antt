@@ -18,7 +18,7 @@ use Rattle.demand_joined.specs.Seeing.{seenOf}
 use Rattle.accept_spec.specs.declared.Accepted.{Accepted}
 use Rattle.accept_spec.specs.declared.Answer.the-variants as answer-is
 use Rattle.accept_spec.specs.Nonces.{AllDiffer}
-use Rattle.accept_spec.specs.Accepting.{mostStretches, yes, readAll, acceptAnswer, numberOf}
+use Rattle.accept_spec.specs.Accepting.{mostStretches, yes, readAll, acceptAnswer, acceptNumber}
 use Rattle.accept_spec.specs.Exactly.{Lines, noncesOf, Cause, refused, repeated, all-good, at-fault}
 use Rattle.accept_spec.specs.Cases.{Case, sizes-wrong, long, many, judged, accept-case, good-accepted}
 use Rattle.accept_runs.specs.Promises.{Accepts, stretchesSeen, Good}
@@ -32,8 +32,8 @@ pub record Acceptable (key font : List ℕ) (asked : Asked) (s : List ℕ) : Typ
 
 -- no fault is a yes
 faulty : (s : List ℕ) {x : List (List ℕ)} {r : Reading} {a : Accepted} → Cause s x r a → a .answer ≡ answer-is.Yes → ⊥
-faulty s (refused n) e = n (ap numberOf e)
-faulty s (repeated l o) e = omega (arith, ap numberOf e)
+faulty s (refused n) e = n (ap acceptNumber e)
+faulty s (repeated l o) e = omega (arith, ap acceptNumber e)
 
 module _ (key font : List ℕ) (asked : Asked) (enough : allWork ≤ asked .allowed) (s : List ℕ) (bytes : Below 256 s) where
   abbrev t : Told
@@ -51,9 +51,9 @@ module _ (key font : List ℕ) (asked : Asked) (enough : allWork ≤ asked .allo
   })
 
   only-yes : (a : Accepted) → Case t (asked .editions) s a → a .answer ≡ answer-is.Yes → Acceptable key font asked s
-  only-yes _ sizes-wrong e = absurd (omega (arith, ap numberOf e))
-  only-yes _ long e = absurd (omega (arith, ap numberOf e))
-  only-yes _ many e = absurd (omega (arith, ap numberOf e))
+  only-yes _ sizes-wrong e = absurd (omega (arith, ap acceptNumber e))
+  only-yes _ long e = absurd (omega (arith, ap acceptNumber e))
+  only-yes _ many e = absurd (omega (arith, ap acceptNumber e))
   only-yes _ (judged z h few (all-good l d)) e = record { sizes = z; short = h; good = good-seen z h few l d }
   only-yes _ (judged z h few (at-fault f)) e = absurd (faulty s (f .cause) e)
 

@@ -62,10 +62,10 @@ acceptAnswer t ed s =
     (acceptFrom s [] (readAll t ed s))))
 
 -- the number of each answer (document 01, 'Numbers returned'; order W12)
-abbrev pub numberOf : Answer → ℕ
-numberOf answer-is.Yes = 0
-numberOf answer-is.Sizes = 2
-numberOf answer-is.TooLong = 3
-numberOf answer-is.TooMany = 19
-numberOf (answer-is.Refused n) = n
-numberOf answer-is.Repeated = 22
+abbrev pub acceptNumber : Answer → ℕ
+acceptNumber answer-is.Yes = 0
+acceptNumber answer-is.Sizes = 2
+acceptNumber answer-is.TooLong = 3
+acceptNumber answer-is.TooMany = 19
+acceptNumber (answer-is.Refused n) = n
+acceptNumber answer-is.Repeated = 22

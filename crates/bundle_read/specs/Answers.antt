@@ -24,10 +24,10 @@ unfoldable pub readAnswer : List ℕ → Bundle
 readAnswer b = judged (partsOf b)
 
 -- the number of each answer (order W1), and the length of the name
-abbrev pub numberOf : Bundle → ℕ
-numberOf (Named n) = 0
-numberOf Shape = 11
-numberOf Alike = 12
+abbrev pub readNumber : Bundle → ℕ
+readNumber (Named n) = 0
+readNumber Shape = 11
+readNumber Alike = 12
 
 abbrev pub lengthOf : Bundle → ℕ
 lengthOf (Named n) = n

@@ -228,7 +228,7 @@ pub fn rows(bundle: &[u8], character: u8) -> &[u8]
 
 // The number of what a call answers (document 01, order W1), and the length that it reports: of the name read, of the bundle written.
 pub fn read_number(answer: Bundle) -> u32
-    ensures { λ r. ⌜ r ≡ reading.numberOf answer ⌝ }
+    ensures { λ r. ⌜ r ≡ reading.readNumber answer ⌝ }
 {
     match answer {
         Bundle::Named(_) => 0,

@@ -5,7 +5,7 @@ ghost use mathlib.Core.List.{[]};
 ghost use Rattle.frame_body.specs.declared.Edition.the-variants.{One, Two};
 ghost use Rattle.frame_body.specs.Fields.{ownOf};
 ghost use Rattle.frame_spec.specs.Told.{told};
-ghost use Rattle.convert_spec.specs.Answers.{convertCall, numberOf, lengthIn};
+ghost use Rattle.convert_spec.specs.Answers.{convertCall, convertNumber, lengthIn};
 use convert_find::line_in;
 use convert_find::other;
 use convert_spec::Converted;
@@ -99,7 +99,7 @@ pub fn to_two(
 
 // The number of what the converter answers.
 pub fn number(answer: Converted) -> u32
-    ensures { λ r. ⌜ r ≡ numberOf answer ⌝ }
+    ensures { λ r. ⌜ r ≡ convertNumber answer ⌝ }
 {
     match answer {
         Converted::Done(_) => 0,

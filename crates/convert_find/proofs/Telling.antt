@@ -4,7 +4,7 @@ use mathlib.Core.Bool.{false, not}
 use Prim.Native.Nat.{ℕ}
 use native.Mathlib.Omega.{arith}
 use Rattle.frame_body.specs.declared.Edition.{Edition}
-use Rattle.frame_body.specs.declared.Judged.the-variants as judged-is
+use Rattle.frame_body.specs.declared.BodyJudged.the-variants as judged-is
 use Rattle.frame_body.specs.Fields.{Fields, fields, no-body}
 use Rattle.frame_body.specs.Answers as body-answers
 use Rattle.convert_spec.specs.Answers.{sameEdition, otherThan}

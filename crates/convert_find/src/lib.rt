@@ -62,8 +62,8 @@ pub fn misnamed(stretch: &[u8], named: Edition) -> bool
     ensures { λ r. ⌜ r ≡ otherThan named (held (now (stretch .entry))) ⌝ }
 {
     match fields_in(stretch) {
-        frame_body::Judged::Shape => false,
-        frame_body::Judged::Fields(edition, _) => !same(named, edition),
+        frame_body::BodyJudged::Shape => false,
+        frame_body::BodyJudged::Fields(edition, _) => !same(named, edition),
     }
 }
 

@@ -122,18 +122,18 @@ convertCall t own s frame =
     (bySort t own (sorted t (other (own .edition)) s) frame))
 
 -- the number of each answer (document 01, 'Numbers returned'; orders W2, W6 and W7)
-abbrev pub numberOf : Converted → ℕ
-numberOf (converted-is.Done n) = 0
-numberOf converted-is.Sizes = 2
-numberOf converted-is.NoRoom = 4
-numberOf converted-is.Shape = 7
-numberOf converted-is.Stuffing = 6
-numberOf converted-is.Edition = 16
-numberOf converted-is.Font = 8
-numberOf converted-is.Seal = 5
-numberOf converted-is.Unlisted = 9
-numberOf converted-is.Trade = 13
-numberOf converted-is.Layout = 17
+abbrev pub convertNumber : Converted → ℕ
+convertNumber (converted-is.Done n) = 0
+convertNumber converted-is.Sizes = 2
+convertNumber converted-is.NoRoom = 4
+convertNumber converted-is.Shape = 7
+convertNumber converted-is.Stuffing = 6
+convertNumber converted-is.Edition = 16
+convertNumber converted-is.Font = 8
+convertNumber converted-is.Seal = 5
+convertNumber converted-is.Unlisted = 9
+convertNumber converted-is.Trade = 13
+convertNumber converted-is.Layout = 17
 
 -- the frame's length, 0 on a refusal
 abbrev pub lengthIn : Converted → ℕ

@@ -10,7 +10,7 @@ use Rattle.base_lists.specs.Below.{Below, below-replicate}
 use Rattle.frame_stuff_spec.specs.Bytes.{stuffed-below}
 use Rattle.line_spec.specs.Lines.{isDigit, isListed, allListed, anyDigit, isTransit, transits, transitsRight, isTrade, lineRule}
 use Rattle.line_layout.specs.declared.Layout.the-variants.{Neither}
-use Rattle.line_layout.specs.declared.Judged.the-variants.{Accepted}
+use Rattle.line_layout.specs.declared.LineJudged.the-variants.{Accepted}
 use Rattle.line_layout.specs.Layouts.{layoutRule}
 use Rattle.frame_body.specs.declared.Edition.the-variants.{One, Two}
 use Rattle.frame_body.specs.Fields.{nonceLength, digestLength, jobLength, Own, ownOf}

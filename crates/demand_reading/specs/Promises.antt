@@ -15,7 +15,7 @@ use Rattle.read_call.specs.declared.Asked.{Asked}
 use Rattle.read_call.specs.declared.Answer.{Answer}
 use Rattle.read_call.specs.declared.Answer.the-variants as answer-is
 use Rattle.read_call.specs.declared.Reading.{Reading}
-use Rattle.read_call.specs.Answers.{readAnswer, readOut, numberOf, lengthOf, callsOf}
+use Rattle.read_call.specs.Answers.{readAnswer, readOut, answerNumber, lengthOf, callsOf}
 
 -- a read call with this key and font, and what it is asked, of the stream s from a place, with the line buffer l before it, may answer r
 -- and leave l′ in it
@@ -59,7 +59,7 @@ pub record Seen : Type 0 where
 -- with places counted from place i
 abbrev pub seenFrom : ℕ → Reading → List ℕ → Seen
 seenFrom i r l′ = record {
-  number = numberOf (r .answer);
+  number = answerNumber (r .answer);
   ended = isEnd (r .answer);
   first = r .first - i;
   closing = r .closing - i;

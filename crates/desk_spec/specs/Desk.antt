@@ -86,16 +86,16 @@ abbrev pub deskOut : Told → ℕ → List ℕ → List ℕ → ℕ → List ℕ
 deskOut t editions s table count list o = outOf (deskCall t editions s table count list o) (newStream t editions s table list) o
 
 -- the number of each answer (document 01, 'Numbers returned'; orders W10 and W14)
-abbrev pub numberOf : Answer → ℕ
-numberOf (Done n) = 0
-numberOf Sizes = 2
-numberOf TooLong = 3
-numberOf NoTable = 4
-numberOf Count = 19
-numberOf (Past k) = 23
-numberOf (NoLine k) = 24
-numberOf NewTooLong = 3
-numberOf NoRoom = 4
+abbrev pub deskNumber : Answer → ℕ
+deskNumber (Done n) = 0
+deskNumber Sizes = 2
+deskNumber TooLong = 3
+deskNumber NoTable = 4
+deskNumber Count = 19
+deskNumber (Past k) = 23
+deskNumber (NoLine k) = 24
+deskNumber NewTooLong = 3
+deskNumber NoRoom = 4
 
 -- the new stream's length, 0 where it is refused
 abbrev pub lengthOf : Answer → ℕ

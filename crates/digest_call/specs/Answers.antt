@@ -34,11 +34,11 @@ unfoldable pub digestOut : ℕ → List ℕ → List ℕ → List ℕ
 digestOut i m o = onDone (digestAnswer i m o) (digestOf i m) o
 
 -- document 01's number, and the count that goes with it
-abbrev pub numberOf : Digested → ℕ
-numberOf (Done n) = 0
-numberOf Instance = 1
-numberOf TooLong = 3
-numberOf NoRoom = 4
+abbrev pub digestNumber : Digested → ℕ
+digestNumber (Done n) = 0
+digestNumber Instance = 1
+digestNumber TooLong = 3
+digestNumber NoRoom = 4
 
 abbrev pub countOf : Digested → ℕ
 countOf (Done n) = n

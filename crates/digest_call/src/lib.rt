@@ -1,7 +1,7 @@
 // The ten GAGE digests (document 000, section 1.1.4; document 01, 'The digest'): the call, with its refusals and its count. The sponge is the
 // crate digest_sponge. The promises cite specs/Answers.antt.
 ghost use mathlib.Core.Path.{_≡_};
-ghost use Rattle.digest_call.specs.Answers.{digestAnswer, digestOut, numberOf, countOf};
+ghost use Rattle.digest_call.specs.Answers.{digestAnswer, digestOut, digestNumber, countOf};
 
 // The bytes of a digest, and the longest message in bytes (document 01, 'Numbers returned').
 pub const DIGEST: usize = digest_sponge::DIGEST;
@@ -42,7 +42,7 @@ const NO_CALLS: usize = 0;
 
 // The number of what `digest` answers.
 pub fn digest_number(answer: Digested) -> u32
-    ensures { λ r. ⌜ r ≡ numberOf answer ⌝ }
+    ensures { λ r. ⌜ r ≡ digestNumber answer ⌝ }
 {
     match answer {
         Digested::Done(_) => 0,

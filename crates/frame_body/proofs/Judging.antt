@@ -6,7 +6,7 @@ use Prim.Native.Nat.{ℕ, _+_, _-_, _≤_, _<_}
 use native.Mathlib.Omega.{arith}
 use lib.ListN.{length, drop, length-drop, drop-of-length-le}
 use lib.Seq.{drop-cons, drop-drop}
-use Rattle.frame_body.specs.declared.Judged.the-variants.{Fields, Shape}
+use Rattle.frame_body.specs.declared.BodyJudged.the-variants.{Fields, Shape}
 use Rattle.base_fields.specs.Fields.{headLength, Front, value, no-field, front}
 use Rattle.base_fields.specs.Laws.{front-stands}
 use Rattle.frame_body.specs.declared.Edition.{Edition}

@@ -3,8 +3,8 @@ use mathlib.Core.List.{List}
 use Prim.Native.Nat.{ℕ, _+_, _*_, _≤_, _<_}
 use mathlib.Core.Path.{_≡_}
 use lib.ListN.{length, drop}
-use Rattle.frame_body.specs.declared.Judged.{Judged}
-use Rattle.frame_body.specs.declared.Judged.the-variants as judged-is
+use Rattle.frame_body.specs.declared.BodyJudged.{BodyJudged}
+use Rattle.frame_body.specs.declared.BodyJudged.the-variants as judged-is
 use Rattle.base_fields.specs.Fields.{Front, value, no-field, front, headLength, highByte}
 use Rattle.frame_body.specs.declared.Edition.{Edition}
 use Rattle.frame_body.specs.declared.Edition.the-variants.{One, Two}
@@ -21,12 +21,12 @@ pub record Found (b : List ℕ) (tag at r : ℕ) : Type 0 where
   pub near : r ≤ length b + highByte * highByte
 
 -- what bytes are as a body, told: the edition and the length of the line ciphertext fix every place
-abbrev pub judged : Fields → Judged
+abbrev pub judged : Fields → BodyJudged
 judged (fields own digest cipher seal) = judged-is.Fields (own .edition) (length cipher)
 judged no-body = judged-is.Shape
 
 -- document 01's number of each answer ('Numbers returned')
-abbrev pub judgeNumber : Judged → ℕ
+abbrev pub judgeNumber : BodyJudged → ℕ
 judgeNumber (judged-is.Fields e n) = 0
 judgeNumber judged-is.Shape = 7
 

@@ -67,7 +67,7 @@ pub enum Edition {
 }
 
 // What some bytes are as a body.
-pub enum Judged {
+pub enum BodyJudged {
     // The fields of this edition; so long is the line ciphertext. Together they give all places.
     Fields(Edition, usize),
     // Fields not as they must be.
@@ -126,21 +126,21 @@ fn field_at(b: &[u8], at: usize, tag: u8) -> usize
 }
 
 // Judges the bytes from a place on as the line ciphertext's field and the seal's, with nothing behind, of a body of this edition.
-fn judge_rest(b: &[u8], at: usize, edition: Edition) -> Judged
+fn judge_rest(b: &[u8], at: usize, edition: Edition) -> BodyJudged
     requires { ⌜ at ≤ length (now b) + highByte * highByte ⌝ }
     ensures { λ r. ⌜ r ≡ judged (afterJob (ownOf edition [] []) [] (drop at (now (b .entry)))) ⌝ }
 {
     let seal = field_at(b, at, CIPHER_TAG);
     let end = field_at(b, seal, SEAL_TAG);
     if end != b.len() {
-        return Judged::Shape;
+        return BodyJudged::Shape;
     }
-    Judged::Fields(edition, seal - at - HEAD_LENGTH)
+    BodyJudged::Fields(edition, seal - at - HEAD_LENGTH)
 }
 
 // Judges bytes as a body: the fields in their order and once each, and nothing behind. Past the end of b no field stands, so where one is
 // missing none is found behind it either; a job that is found makes edition two.
-pub fn judge_body(b: &[u8]) -> Judged
+pub fn judge_body(b: &[u8]) -> BodyJudged
     ensures { λ r. ⌜ r ≡ judged (fieldsOf (now (b .entry))) ⌝ }
 {
     let digest = field_at(b, 0, NONCE_TAG);

@@ -9,7 +9,7 @@ use Rattle.base_lists.specs.Over.{take-over}
 use Rattle.line_layout.specs.Layouts.{layoutRule}
 use Rattle.frame_body.specs.Fields.{Own}
 use Rattle.frame_body.specs.Lengths.{besideCipher}
-use Rattle.line_layout.specs.declared.Judged.the-variants.{Accepted}
+use Rattle.line_layout.specs.declared.LineJudged.the-variants.{Accepted}
 use Rattle.frame_write.specs.Outcomes.{write-done}
 use Rattle.frame_write.specs.declared.Written.{Written}
 use Rattle.frame_write.specs.declared.Written.the-variants.{Done}

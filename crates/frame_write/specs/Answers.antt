@@ -8,8 +8,8 @@ use lib.ListN.{length}
 use Rattle.base_lists.specs.Buffers.{over}
 use Rattle.line_spec.specs.Lines.{longest}
 use Rattle.line_layout.specs.Layouts.{layoutRule}
-use Rattle.line_layout.specs.declared.Judged.{Judged}
-use Rattle.line_layout.specs.declared.Judged.the-variants as line-is
+use Rattle.line_layout.specs.declared.LineJudged.{LineJudged}
+use Rattle.line_layout.specs.declared.LineJudged.the-variants as line-is
 use Rattle.frame_body.specs.declared.Edition.{Edition}
 use Rattle.frame_body.specs.Fields.{nonceLength, digestLength, shortest, jobSize, Own}
 use Rattle.frame_write.specs.declared.Written.{Written}
@@ -40,7 +40,7 @@ abbrev pub refused : Written → List ℕ → WriteCall
 refused r frame = record { answer = r; frame = frame }
 
 -- numbers 9, 13 and 17, by the line's rule and its layout
-abbrev pub byRule : Judged → WriteCall → List ℕ → WriteCall
+abbrev pub byRule : LineJudged → WriteCall → List ℕ → WriteCall
 byRule line-is.Accepted go frame = go
 byRule line-is.Unlisted go frame = refused written-is.Unlisted frame
 byRule line-is.Trade go frame = refused written-is.Trade frame
@@ -64,14 +64,14 @@ writeCall t own line frame =
     (byRule (layoutRule (t .layout) line) (byRoom (own .edition) frame (framedCall t own line frame)) frame))
 
 -- the number of each answer (document 01, 'Numbers returned'; orders W2 and W7)
-abbrev pub numberOf : Written → ℕ
-numberOf (written-is.Done length calls) = 0
-numberOf written-is.Sizes = 2
-numberOf written-is.TooLong = 3
-numberOf written-is.Unlisted = 9
-numberOf written-is.Trade = 13
-numberOf written-is.Layout = 17
-numberOf written-is.NoRoom = 4
+abbrev pub writeNumber : Written → ℕ
+writeNumber (written-is.Done length calls) = 0
+writeNumber written-is.Sizes = 2
+writeNumber written-is.TooLong = 3
+writeNumber written-is.Unlisted = 9
+writeNumber written-is.Trade = 13
+writeNumber written-is.Layout = 17
+writeNumber written-is.NoRoom = 4
 
 -- the frame's length, 0 on a refusal
 abbrev pub lengthOf : Written → ℕ

@@ -11,8 +11,8 @@ use borrow.Author.Tests.{eq-eqb, eqb-true, le-leb, leb-true, lt-ltb, le-ltb, ltb
 use Rattle.base_lists.specs.Never.{never}
 use Rattle.line_spec.specs.Lines.{longest}
 use Rattle.line_layout.specs.Layouts.{layoutRule}
-use Rattle.line_layout.specs.declared.Judged.{Judged}
-use Rattle.line_layout.specs.declared.Judged.the-variants as line-is
+use Rattle.line_layout.specs.declared.LineJudged.{LineJudged}
+use Rattle.line_layout.specs.declared.LineJudged.the-variants as line-is
 use Rattle.frame_body.specs.Fields.{nonceLength, digestLength, shortest, jobSize, Own}
 use Rattle.frame_write.specs.declared.Written.the-variants.{Done, Sizes, TooLong, Unlisted, Trade, Layout, NoRoom}
 use Rattle.line_layout.specs.declared.Layout as Layouts
@@ -114,7 +114,7 @@ done-accepts t own line o n calls =
     by-room z r true p e = absurd (let i : _≡_ {A = ℕ} 0 1 = cc e in omega arith)
     by-room z r false p e = (record { sealable = z; ruled = r }, ltb-false (length o) (frameRoom (own .edition)) p)
 
-    by-rule : Sealable t own line → (j : Judged) → layoutRule (t .layout) line ≡ j
+    by-rule : Sealable t own line → (j : LineJudged) → layoutRule (t .layout) line ≡ j
         → byRule j (room (ltb (length o) (frameRoom (own .edition)))) o .answer ≡ Done n calls → Accepts t own line × (frameRoom (own .edition) ≤ length o)
     by-rule z line-is.Accepted r e = by-room z r (ltb (length o) (frameRoom (own .edition))) refl e
     by-rule z line-is.Unlisted r e = absurd (let i : _≡_ {A = ℕ} 0 1 = cc e in omega arith)

@@ -12,7 +12,7 @@ ghost use Rattle.frame_spec.specs.Told.{told};
 ghost use Rattle.line_layout.specs.declared.Layout.the-variants.{Neither};
 ghost use Rattle.frame_spec.specs.Frames.{sealedBody, framed};
 ghost use Rattle.frame_spec.specs.Lengths.{Sealable};
-ghost use Rattle.frame_write.specs.Answers.{sizesRight, lengthRight, writeCall, numberOf, lengthOf, countOf};
+ghost use Rattle.frame_write.specs.Answers.{sizesRight, lengthRight, writeCall, writeNumber, lengthOf, countOf};
 use frame_body::Edition;
 use frame_body::job_field_length;
 use frame_body::job_size;
@@ -22,8 +22,8 @@ use frame_spec::INSTANCE;
 use frame_spec::KEY_LENGTH;
 use frame_stuff_spec::MARK;
 use frame_stuff_spec::Stuffed;
-use line_layout::Judged;
 use line_layout::Layout;
+use line_layout::LineJudged;
 use line_layout::judge_line;
 
 // What writing a frame comes to.
@@ -152,10 +152,10 @@ pub fn write_edition(
         return Written::TooLong;
     }
     match judge_line(layout, line) {
-        Judged::Unlisted => return Written::Unlisted,
-        Judged::Trade => return Written::Trade,
-        Judged::Layout => return Written::Layout,
-        Judged::Accepted => {}
+        LineJudged::Unlisted => return Written::Unlisted,
+        LineJudged::Trade => return Written::Trade,
+        LineJudged::Layout => return Written::Layout,
+        LineJudged::Accepted => {}
     }
     let more = job_field_length(edition);
     if frame.len() < FRAME_ROOM + 2 * more {
@@ -212,7 +212,7 @@ const NO_CALLS: usize = 0;
 
 // The number of what `write` answers.
 pub fn write_number(answer: Written) -> u32
-    ensures { λ r. ⌜ r ≡ numberOf answer ⌝ }
+    ensures { λ r. ⌜ r ≡ writeNumber answer ⌝ }
 {
     match answer {
         Written::Done {

@@ -10,7 +10,7 @@ use denote.Enum.Declared.{tagOf}
 use lib.Dec.{leb}
 use lib.ListN.{take, drop}
 use borrow.Author.Tests.{leb-true}
-use Rattle.gage_spec.specs.Permutation.{LARGEST, MOST-ROUNDS, permitted, numberOf, judged, answered}
+use Rattle.gage_spec.specs.Permutation.{LARGEST, MOST-ROUNDS, permitted, judgedNumber, judged, answered}
 use Rattle.gage_spec.specs.Tables.{permitted-size}
 use Rattle.gage_spec.specs.Answers.{answered-done}
 use Rattle.gage_spec.specs.declared.Answer.{Answer}

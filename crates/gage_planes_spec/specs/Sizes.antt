@@ -12,7 +12,7 @@ use lib.Dec.{T, leb, leb→le, eqb, eqb→eq}
 use lib.ListN.{replicate}
 use borrow.Author.Tests.{leb-true, eqb-true}
 use Rattle.base_lists.specs.Table.{at, both, both-left, both-right}
-use Rattle.gage_spec.specs.Permutation.{LARGEST, MOST-ROUNDS, among, permitted, numberOf, judged, after}
+use Rattle.gage_spec.specs.Permutation.{LARGEST, MOST-ROUNDS, among, permitted, judgedNumber, judged, after}
 use Rattle.gage_spec.specs.Tables.{permitted-size}
 use Rattle.gage_spec.specs.declared.Answer.{Answer}
 use Rattle.gage_spec.specs.declared.Answer.the-variants.{Done, Size, Rounds}
@@ -28,9 +28,9 @@ allowed n k e = go (permitted n) refl (leb 1 k) refl (leb k MOST-ROUNDS) refl e
     go : (p : Bool) → permitted n ≡ p → (a : Bool) → leb 1 k ≡ a → (b : Bool) → leb k MOST-ROUNDS ≡ b
         → cond p (cond (a && b) Done Rounds) Size ≡ Done → (permitted n ≡ true) × (29 ≤ n) × (n ≤ LARGEST) × (1 ≤ k) × (k ≤ MOST-ROUNDS)
     go true p true a true b f = (p, permitted-size n p .0, permitted-size n p .1, leb-true 1 k a, leb-true k MOST-ROUNDS b)
-    go true p true a false b f = absurd (omega (arith, ap numberOf f))
-    go true p false a t b f = absurd (omega (arith, ap numberOf f))
-    go false p t a u b f = absurd (omega (arith, ap numberOf f))
+    go true p true a false b f = absurd (omega (arith, ap judgedNumber f))
+    go true p false a t b f = absurd (omega (arith, ap judgedNumber f))
+    go false p t a u b f = absurd (omega (arith, ap judgedNumber f))
 
 -- one test at each number up to the largest size
 halved : ℕ → Bool

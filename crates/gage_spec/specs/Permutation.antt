@@ -56,10 +56,10 @@ unfoldable pub permitted : ℕ → Bool
 permitted n = among n sizes
 
 -- document 01, 'Numbers returned', and order W9
-abbrev pub numberOf : Answer → ℕ
-numberOf Done = 0
-numberOf Size = 1
-numberOf Rounds = 18
+abbrev pub judgedNumber : Answer → ℕ
+judgedNumber Done = 0
+judgedNumber Size = 1
+judgedNumber Rounds = 18
 
 -- the size is judged first
 unfoldable pub judged : ℕ → ℕ → Answer

@@ -2,7 +2,7 @@
 // the other, and which sizes and counts of rounds there are. Leaders, substitution and shuffle are crates of their own, and so is the
 // permutation's code, rounds. The promises cite specs/Permutation.antt.
 ghost use mathlib.Core.Path.{_≡_};
-ghost use Rattle.gage_spec.specs.Permutation.{numberOf, permitted, judged};
+ghost use Rattle.gage_spec.specs.Permutation.{judgedNumber, permitted, judged};
 
 // The largest permitted state, in bytes.
 pub const LARGEST: usize = gage_cells::LARGEST;
@@ -30,7 +30,7 @@ pub struct Permuted {
 
 // Document 01's number of an answer.
 pub fn number(answer: Answer) -> u32
-    ensures { λ r. ⌜ r ≡ numberOf answer ⌝ }
+    ensures { λ r. ⌜ r ≡ judgedNumber answer ⌝ }
 {
     match answer {
         Answer::Done => 0,

@@ -10,7 +10,7 @@ use Rattle.read_stretch.specs.Places.{next-found}
 use Rattle.frame_spec.specs.Told.{Told, told}
 use Rattle.read_spec.specs.Judged.{Judged, numberIn}
 use Rattle.read_call.specs.declared.Reading.{Reading}
-use Rattle.read_call.specs.Answers.{stretch, found, readingOf, numberOf}
+use Rattle.read_call.specs.Answers.{stretch, found, readingOf, answerNumber}
 use Rattle.demand_reading.specs.Promises.{Seen}
 use Rattle.demand_reading.specs.Resync.{seen-at}
 use Rattle.demand_reading.specs.GivenWritten.{found-next}
@@ -39,8 +39,8 @@ module _ (key font : List ℕ) (lay : Layout) (editions : ℕ) (s : List ℕ) (f
   pub closing-is : r .closing ≡ nextSpan s from .closing
   closing-is = ap (λ (x : Reading). x .closing) is
 
-  pub number-is : numberOf (r .answer) ≡ numberIn j
-  number-is = ap (λ (x : Reading). numberOf (x .answer)) is ∙ ap (λ (v : Seen). v .number) (seen-at 0 (nextSpan s from) j [])
+  pub number-is : answerNumber (r .answer) ≡ numberIn j
+  number-is = ap (λ (x : Reading). answerNumber (x .answer)) is ∙ ap (λ (v : Seen). v .number) (seen-at 0 (nextSpan s from) j [])
 
   -- a place of the stream, and a number of a stretch
   pub first-below : r .first < 65536
@@ -48,8 +48,8 @@ module _ (key font : List ℕ) (lay : Layout) (editions : ℕ) (s : List ℕ) (f
       let f = next-found s from (a .some) in
       omega (arith, first-is, f .stretch .some, f .stretch .ends, a .short)
 
-  pub number-small : numberOf (r .answer) < 256
+  pub number-small : answerNumber (r .answer) < 256
   number-small = omega (arith, number-is, number-below j)
 
-  pub next-is : (n : ℕ) → n ≡ numberOf (r .answer) → next (r .first * 256 + n) (r .closing) ≡ nextOf t editions s from
+  pub next-is : (n : ℕ) → n ≡ answerNumber (r .answer) → next (r .first * 256 + n) (r .closing) ≡ nextOf t editions s from
   next-is n p = ap₂ next (ap₂ entryOf first-is (p ∙ number-is)) closing-is

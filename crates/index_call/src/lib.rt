@@ -7,7 +7,7 @@ ghost use lib.Seq.{sets};
 ghost use Rattle.frame_spec.specs.Told.{told};
 ghost use Rattle.read_spec.specs.Sizes.{Sizes};
 ghost use Rattle.index_spec.specs.Entries.{entriesFrom};
-ghost use Rattle.index_spec.specs.Updating.{judgedAll, lastPlace, numberOf, answered, updated, updatedTable};
+ghost use Rattle.index_spec.specs.Updating.{judgedAll, lastPlace, updateNumber, answered, updated, updatedTable};
 ghost use Rattle.index_call.specs.Steps.{nextOf, Ahead, Adding};
 use frame_body::DIGEST_LENGTH;
 use frame_body::LONGEST_LINE;
@@ -148,7 +148,7 @@ pub fn update(
 
 // The number of what bringing up to date answers.
 pub fn update_number(answer: Answer) -> u32
-    ensures { λ r. ⌜ r ≡ numberOf answer ⌝ }
+    ensures { λ r. ⌜ r ≡ updateNumber answer ⌝ }
 {
     match answer {
         Answer::Done => 0,

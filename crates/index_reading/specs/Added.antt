@@ -39,7 +39,7 @@ pub record After (key font : List ℕ) (editions a : ℕ) (lay : Layout) (s : Li
   pub later : from < place
   pub least : (b e : ℕ) → from < b → Stretch s b e → place ≤ b
   pub numbered : (l : List ℕ) (r : Reading) (l′ : List ℕ) → longest ≤ length l → Reads key font (asking editions a lay) s from l r l′
-      → (r .first ≡ place) × (r .closing ≡ closing) × (reader.numberOf (r .answer) ≡ number)
+      → (r .first ≡ place) × (r .closing ≡ closing) × (reader.answerNumber (r .answer) ≡ number)
 
 -- the entries of all stretches that start after a place, one after the other
 pub data AllAfter (key font : List ℕ) (editions a : ℕ) (lay : Layout) (s : List ℕ) : ℕ → List ℕ → Type 0 where

@@ -20,7 +20,7 @@ use Rattle.index_spec.specs.declared.Answer.{Answer}
 use Rattle.index_spec.specs.declared.Answer.the-variants as answer-is
 use Rattle.index_spec.specs.declared.Updated.{Updated}
 use Rattle.index_spec.specs.Entries.{mostEntries, entryPlace, recorded, entriesFrom}
-use Rattle.index_spec.specs.Updating.{judgedAll, lastPlace, added, updateAnswer, numberOf, countOf, answered}
+use Rattle.index_spec.specs.Updating.{judgedAll, lastPlace, added, updateAnswer, updateNumber, countOf, answered}
 use Rattle.index_spec.specs.Cases.{Takes, Case, bad-sizes, too-long, no-room, over, beyond, full, done, update-case}
 use Rattle.index_count.specs.Counted.{stretchesFrom}
 use Rattle.index_count.specs.Alike.{counted-alike}
@@ -76,10 +76,10 @@ module _ (key font : List ℕ) (editions : ℕ) (lay : Layout) (s table : List �
   added-count =
       length-map (readings (judgedAll t editions) s (lastPlace table count)) recorded ∙ counted-alike (judgedAll t editions) s (lastPlace table count)
 
-  number : numberOf (r .answer) ≡ numberOf (updateAnswer t editions s table count)
-  number = ap (λ (x : Updated). numberOf (x .answer)) (p .0)
+  number : updateNumber (r .answer) ≡ updateNumber (updateAnswer t editions s table count)
+  number = ap (λ (x : Updated). updateNumber (x .answer)) (p .0)
 
-  ten-to : (x : Answer) → Case t editions s table count x → numberOf x ≡ 10 → TenWhen t s table count
+  ten-to : (x : Answer) → Case t editions s table count x → updateNumber x ≡ 10 → TenWhen t s table count
   ten-to _ (bad-sizes n) e = absurd (omega (arith, e))
   ten-to _ (too-long z n) e = absurd (omega (arith, e))
   ten-to _ (no-room z l n) e = absurd (omega (arith, e))
@@ -88,7 +88,7 @@ module _ (key font : List ℕ) (editions : ℕ) (lay : Layout) (s table : List �
   ten-to _ (full k l n) e = absurd (omega (arith, e))
   ten-to _ (done k l n) e = absurd (omega (arith, e))
 
-  ten-from : TenWhen t s table count → (x : Answer) → Case t editions s table count x → numberOf x ≡ 10
+  ten-from : TenWhen t s table count → (x : Answer) → Case t editions s table count x → updateNumber x ≡ 10
   ten-from w _ (bad-sizes n) = absurd (n (w .takes .sizes))
   ten-from w _ (too-long z n) = absurd (omega (arith, n, w .takes .short))
   ten-from w _ (no-room z l n) = absurd (omega (arith, n, w .takes .room))
@@ -97,13 +97,13 @@ module _ (key font : List ℕ) (editions : ℕ) (lay : Layout) (s table : List �
   ten-from w _ (full k l n) = absurd (omega (arith, l, beyond-last s table count (w .some) (w .beyond-end)))
   ten-from w _ (done k l n) = absurd (omega (arith, l, beyond-last s table count (w .some) (w .beyond-end)))
 
-  pub ten-exactly : (numberOf (r .answer) ≡ 10 → TenWhen t s table count) × (TenWhen t s table count → numberOf (r .answer) ≡ 10)
+  pub ten-exactly : (updateNumber (r .answer) ≡ 10 → TenWhen t s table count) × (TenWhen t s table count → updateNumber (r .answer) ≡ 10)
   ten-exactly = (
     λ e. ten-to (updateAnswer t editions s table count) (update-case t editions s table count) (sym number ∙ e),
     λ w. number ∙ ten-from w (updateAnswer t editions s table count) (update-case t editions s table count),
   )
 
-  nineteen-to : (x : Answer) → Case t editions s table count x → numberOf x ≡ 19 → CountOver t s table count ⊎ WouldBeOver t s table count
+  nineteen-to : (x : Answer) → Case t editions s table count x → updateNumber x ≡ 19 → CountOver t s table count ⊎ WouldBeOver t s table count
   nineteen-to _ (bad-sizes n) e = absurd (omega (arith, e))
   nineteen-to _ (too-long z n) e = absurd (omega (arith, e))
   nineteen-to _ (no-room z l n) e = absurd (omega (arith, e))
@@ -112,7 +112,7 @@ module _ (key font : List ℕ) (editions : ℕ) (lay : Layout) (s table : List �
   nineteen-to _ (full k l n) e = inr (record { takes = k; last-inside = l; more = omega (arith, n, added-count) })
   nineteen-to _ (done k l n) e = absurd (omega (arith, e))
 
-  count-from : CountOver t s table count → (x : Answer) → Case t editions s table count x → numberOf x ≡ 19
+  count-from : CountOver t s table count → (x : Answer) → Case t editions s table count x → updateNumber x ≡ 19
   count-from w _ (bad-sizes n) = absurd (n (w .sizes))
   count-from w _ (too-long z n) = absurd (omega (arith, n, w .short))
   count-from w _ (no-room z l n) = absurd (omega (arith, n, w .room))
@@ -121,7 +121,7 @@ module _ (key font : List ℕ) (editions : ℕ) (lay : Layout) (s table : List �
   count-from w _ (full k l n) = refl
   count-from w _ (done k l n) = absurd (omega (arith, w .more, k .few))
 
-  full-from : WouldBeOver t s table count → (x : Answer) → Case t editions s table count x → numberOf x ≡ 19
+  full-from : WouldBeOver t s table count → (x : Answer) → Case t editions s table count x → updateNumber x ≡ 19
   full-from w _ (bad-sizes n) = absurd (n (w .takes .sizes))
   full-from w _ (too-long z n) = absurd (omega (arith, n, w .takes .short))
   full-from w _ (no-room z l n) = absurd (omega (arith, n, w .takes .room))
@@ -130,8 +130,8 @@ module _ (key font : List ℕ) (editions : ℕ) (lay : Layout) (s table : List �
   full-from w _ (full k l n) = refl
   full-from w _ (done k l n) = absurd (omega (arith, n, w .more, added-count))
 
-  pub nineteen-exactly : (numberOf (r .answer) ≡ 19 → CountOver t s table count ⊎ WouldBeOver t s table count)
-      × ((CountOver t s table count → numberOf (r .answer) ≡ 19) × (WouldBeOver t s table count → numberOf (r .answer) ≡ 19))
+  pub nineteen-exactly : (updateNumber (r .answer) ≡ 19 → CountOver t s table count ⊎ WouldBeOver t s table count)
+      × ((CountOver t s table count → updateNumber (r .answer) ≡ 19) × (WouldBeOver t s table count → updateNumber (r .answer) ≡ 19))
   nineteen-exactly = (
     λ e. nineteen-to (updateAnswer t editions s table count) (update-case t editions s table count) (sym number ∙ e),
     (

@@ -17,7 +17,7 @@ use Rattle.index_spec.specs.declared.Answer.{Answer}
 use Rattle.index_spec.specs.declared.Answer.the-variants as answer-is
 use Rattle.index_spec.specs.declared.Updated.{Updated}
 use Rattle.index_spec.specs.Entries.{mostEntries, entryPlace, entryNumber, recorded, entriesFrom}
-use Rattle.index_spec.specs.Updating.{judgedAll, lastPlace, added, updateAnswer, numberOf, countOf, tableOf, answered}
+use Rattle.index_spec.specs.Updating.{judgedAll, lastPlace, added, updateAnswer, updateNumber, countOf, tableOf, answered}
 use Rattle.index_spec.specs.Recorded.{recorded-place, recorded-number}
 use Rattle.index_spec.specs.Cases.{Takes, Case, bad-sizes, too-long, no-room, over, beyond, full, done, update-case}
 use Rattle.index_reading.specs.Promises.{Updates, Done, asking, stretchesSeen, entrySeen}
@@ -43,12 +43,12 @@ was-done key font editions lay s table count r table′ p h = go (updateAnswer t
 
     go : (a : Answer) → Case t editions s table count a → r ≡ answered a (countOf a count w) → table′ ≡ tableOf a table count w
         → WasDone t editions s table count r table′
-    go _ (bad-sizes n) e d = absurd (omega (arith, ap (λ (x : Updated). numberOf (x .answer)) e, h))
-    go _ (too-long z n) e d = absurd (omega (arith, ap (λ (x : Updated). numberOf (x .answer)) e, h))
-    go _ (no-room z l n) e d = absurd (omega (arith, ap (λ (x : Updated). numberOf (x .answer)) e, h))
-    go _ (over z l m n) e d = absurd (omega (arith, ap (λ (x : Updated). numberOf (x .answer)) e, h))
-    go _ (beyond k n) e d = absurd (omega (arith, ap (λ (x : Updated). numberOf (x .answer)) e, h))
-    go _ (full k l n) e d = absurd (omega (arith, ap (λ (x : Updated). numberOf (x .answer)) e, h))
+    go _ (bad-sizes n) e d = absurd (omega (arith, ap (λ (x : Updated). updateNumber (x .answer)) e, h))
+    go _ (too-long z n) e d = absurd (omega (arith, ap (λ (x : Updated). updateNumber (x .answer)) e, h))
+    go _ (no-room z l n) e d = absurd (omega (arith, ap (λ (x : Updated). updateNumber (x .answer)) e, h))
+    go _ (over z l m n) e d = absurd (omega (arith, ap (λ (x : Updated). updateNumber (x .answer)) e, h))
+    go _ (beyond k n) e d = absurd (omega (arith, ap (λ (x : Updated). updateNumber (x .answer)) e, h))
+    go _ (full k l n) e d = absurd (omega (arith, ap (λ (x : Updated). updateNumber (x .answer)) e, h))
     go _ (done k l n) e d = record { takes = k; inside = l; fits = n; answer-is = e; table-is = d }
 
 -- the entries below the new count

@@ -18,7 +18,7 @@ use Rattle.read_call.specs.Answers.{longestStream, sizedTold}
 use Rattle.index_spec.specs.declared.Answer.the-variants as answer-is
 use Rattle.index_spec.specs.declared.Updated.{Updated}
 use Rattle.index_spec.specs.Entries.{mostEntries, recorded, entriesFrom}
-use Rattle.index_spec.specs.Updating.{judgedAll, lastPlace, added, updateAnswer, numberOf}
+use Rattle.index_spec.specs.Updating.{judgedAll, lastPlace, added, updateAnswer, updateNumber}
 use Rattle.index_spec.specs.Cases.{Takes, refusal-keeps, told-sized}
 use Rattle.index_reading.specs.Promises.{Updates, Done, Built, fresh}
 use Rattle.index_reading.specs.Promises as promises
@@ -97,7 +97,7 @@ module _ (key font : List ℕ) (editions : ℕ) (lay : Layout) where
 
   -- what both calls come to
   pub record AsFresh (table : List ℕ) (count : ℕ) (r : Updated) (table′ : List ℕ) (f : Updated) (o′ : List ℕ) : Type 0 where
-    pub number-is : numberOf (r .answer) ≡ numberOf (f .answer)
+    pub number-is : updateNumber (r .answer) ≡ updateNumber (f .answer)
     pub count-is : Done r → r .count ≡ f .count
     pub entries-are : Done r → take (r .count) table′ ≡ take (f .count) o′
     pub kept : Done r → take count table′ ≡ take count table
@@ -121,7 +121,7 @@ module _ (key font : List ℕ) (editions : ℕ) (lay : Layout) where
       → (table′ ≡ table) × (r .count ≡ count)
   undone s table count r table′ p h =
       let k = refusal-keeps (updateAnswer t editions s table count) table (added t editions s table count) count
-      (λ e. h (ap (λ (x : Updated). numberOf (x .answer)) (p .0) ∙ e)) in
+      (λ e. h (ap (λ (x : Updated). updateNumber (x .answer)) (p .0) ∙ e)) in
       (p .1 ∙ k .0, ap (λ (x : Updated). x .count) (p .0) ∙ k .1)
 
   -- entries below the count handed in are kept
@@ -175,8 +175,8 @@ module _ (key font : List ℕ) (editions : ℕ) (lay : Layout) where
       let same : updateAnswer t editions (s ++ more) table count ≡ updateAnswer t editions (s ++ more) o 0 =
       left-answer t editions (s ++ more) table count (length (reads (s ++ more) 0)) (c .takes .room) (c .takes .few) inside n
       ∙ sym (left-answer t editions (s ++ more) o 0 (length (reads (s ++ more) 0)) room (omega arith) (omega arith) (fresh-many (s ++ more) o)) in
-      let number : numberOf (r .answer) ≡ numberOf (f .answer) =
-      ap (λ (x : Updated). numberOf (x .answer)) (p .0) ∙ ap numberOf same ∙ sym (ap (λ (x : Updated). numberOf (x .answer)) (q .0)) in
+      let number : updateNumber (r .answer) ≡ updateNumber (f .answer) =
+      ap (λ (x : Updated). updateNumber (x .answer)) (p .0) ∙ ap updateNumber same ∙ sym (ap (λ (x : Updated). updateNumber (x .answer)) (q .0)) in
       record {
         number-is = number;
         count-is = λ h. current-one (after-grown s table count b more r table′ p h) (after-fresh (s ++ more) o f o′ q (sym number ∙ h)) .0;

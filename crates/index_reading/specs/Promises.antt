@@ -10,7 +10,7 @@ use Rattle.read_call.specs.declared.Asked.{Asked}
 use Rattle.demand_reading.specs.Promises.{Seen}
 use Rattle.index_spec.specs.declared.Updated.{Updated}
 use Rattle.index_spec.specs.Entries.{entryOf}
-use Rattle.index_spec.specs.Updating.{numberOf, updated, updatedTable}
+use Rattle.index_spec.specs.Updating.{updateNumber, updated, updatedTable}
 use Rattle.index_entry.specs.declared.Entry.{Entry}
 use Rattle.index_entry.specs.declared.Line.{Line}
 use Rattle.index_entry.specs.Lookups.{entryAt, lineAt}
@@ -22,7 +22,7 @@ Updates key font editions lay s table count r table′ =
 
 -- its number is 0
 abbrev pub Done : Updated → Type 0
-Done r = numberOf (r .answer) ≡ 0
+Done r = updateNumber (r .answer) ≡ 0
 
 -- the look-ups of an entry and of a line in a table of so many entries may answer r
 abbrev pub Finds : List ℕ → ℕ → ℕ → Entry → Type 0

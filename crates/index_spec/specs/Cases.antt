@@ -14,7 +14,7 @@ use Rattle.read_call.specs.Answers.{longestStream, sizedTold}
 use Rattle.index_spec.specs.declared.Answer.{Answer}
 use Rattle.index_spec.specs.declared.Answer.the-variants as answer-is
 use Rattle.index_spec.specs.Entries.{mostEntries}
-use Rattle.index_spec.specs.Updating.{lastPlace, added, updateAnswer, numberOf, countOf, tableOf}
+use Rattle.index_spec.specs.Updating.{lastPlace, added, updateAnswer, updateNumber, countOf, tableOf}
 
 -- key and font digest, stream, table and count are as they must be: neither 2, 3, 4 nor the first 19
 pub record Takes (t : Told) (s table : List ℕ) (count : ℕ) : Type 0 where
@@ -36,7 +36,7 @@ pub data Case (t : Told) (editions : ℕ) (s table : List ℕ) (count : ℕ) : A
       → Case t editions s table count answer-is.Done
 
 -- a refusal keeps the table and the count
-pub refusal-keeps : (a : Answer) (table w : List ℕ) (count : ℕ) → (numberOf a ≡ 0 → ⊥) → (tableOf a table count w ≡ table) × (countOf a count w ≡ count)
+pub refusal-keeps : (a : Answer) (table w : List ℕ) (count : ℕ) → (updateNumber a ≡ 0 → ⊥) → (tableOf a table count w ≡ table) × (countOf a count w ≡ count)
 refusal-keeps answer-is.Done table w count h = absurd (h refl)
 refusal-keeps answer-is.Sizes table w count h = (refl, refl)
 refusal-keeps answer-is.TooLong table w count h = (refl, refl)

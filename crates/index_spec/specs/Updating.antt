@@ -46,14 +46,14 @@ updateAnswer t editions s table count =
     Done)))))
 
 -- the number of each answer (document 01, 'Numbers returned'; order W10)
-abbrev pub numberOf : Answer → ℕ
-numberOf Done = 0
-numberOf Sizes = 2
-numberOf TooLong = 3
-numberOf NoRoom = 4
-numberOf Count = 19
-numberOf Beyond = 10
-numberOf Full = 19
+abbrev pub updateNumber : Answer → ℕ
+updateNumber Done = 0
+updateNumber Sizes = 2
+updateNumber TooLong = 3
+updateNumber NoRoom = 4
+updateNumber Count = 19
+updateNumber Beyond = 10
+updateNumber Full = 19
 
 -- the count: on a refusal as it was handed in
 abbrev pub countOf : Answer → ℕ → List ℕ → ℕ

@@ -7,7 +7,7 @@ use Prim.Native.Nat.{ℕ, _+_, _≤_, _<_}
 use lib.ListN.{length, getD, drop, drop-of-length-le}
 use borrow.Author.Tests.{lt-ltb, le-ltb, ne-eqb}
 use Rattle.base_lists.specs.Walk.{at}
-use Rattle.line_spec.specs.declared.Judged.the-variants.{Unlisted}
+use Rattle.line_spec.specs.declared.TradeJudged.the-variants.{Unlisted}
 use Rattle.line_judge.specs.declared.Met.{Met}
 use Rattle.line_judge.specs.declared.Met.the-variants.{Inside, Broken}
 use Rattle.line_spec.specs.Lines.{firstDigit, lastDigit, transit, isListed, isTransit, nine}

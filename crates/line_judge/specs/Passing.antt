@@ -8,8 +8,8 @@ use lib.Dec.{eqb, ltb}
 use lib.ListN.{length}
 use borrow.Author.Tests.{eqb-true, eqb-false, eq-eqb, ne-eqb, ltb-false}
 use Rattle.base_lists.specs.Never.{never}
-use Rattle.line_spec.specs.declared.Judged.{Judged}
-use Rattle.line_spec.specs.declared.Judged.the-variants.{Accepted, Unlisted, Trade}
+use Rattle.line_spec.specs.declared.TradeJudged.{TradeJudged}
+use Rattle.line_spec.specs.declared.TradeJudged.the-variants.{Accepted, Unlisted, Trade}
 use Rattle.line_judge.specs.declared.Met.{Met}
 use Rattle.line_judge.specs.declared.Met.the-variants.{Nothing, Digit, Inside, Closed, Broken}
 use Rattle.line_spec.specs.Lines.{isListed, isDigit, isTransit, nine, allListed, anyDigit, allDigits, transits, before, transitsRight, isTrade, lineRule}
@@ -45,7 +45,7 @@ unfoldable pub passing : Met → ℕ → Met
 passing m b = cond (isTransit b) (atTransit m) (cond (isDigit b) (atDigit m) (atOther m))
 
 -- what a line of listed bytes is found to be, at its end
-abbrev pub judgedBy : Met → Judged
+abbrev pub judgedBy : Met → TradeJudged
 judgedBy Nothing = Trade
 judgedBy Digit = Accepted
 judgedBy (Inside n) = Trade
@@ -53,7 +53,7 @@ judgedBy Closed = Accepted
 judgedBy Broken = Trade
 
 -- the bytes that are left, once the others are passed
-unfoldable pub passed : Met → List ℕ → Judged
+unfoldable pub passed : Met → List ℕ → TradeJudged
 passed m [] = judgedBy m
 passed m (b ∷ s) = cond (isListed b) (passed (passing m b) s) Unlisted
 
@@ -194,7 +194,7 @@ module _ (b : ℕ) (s : List ℕ) where
       go false p false q = other-step m p q
 
 -- 9, over the whole line, then 13
-found : Bool → Bool → Judged
+found : Bool → Bool → TradeJudged
 found listed right = cond (not listed) Unlisted (cond (not right) Trade Accepted)
 
 none-left : (m : Met) → judgedBy m ≡ found true (left m [])

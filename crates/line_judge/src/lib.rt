@@ -4,9 +4,9 @@ ghost use mathlib.Core.Path.{_≡_};
 ghost use Rattle.line_spec.specs.Lines.{lineRule};
 ghost use Rattle.line_judge.specs.Passing.{atTransit, atDigit, atOther, passing, judgedBy};
 use line_spec::FIRST_DIGIT;
-use line_spec::Judged;
 use line_spec::LAST_DIGIT;
 use line_spec::TRANSIT;
+use line_spec::TradeJudged;
 use line_spec::listed;
 
 // How many digits stand between two transit symbols (order W2).
@@ -87,20 +87,20 @@ fn pass(met: Met, b: u8) -> Met
 }
 
 // What a line of listed bytes is found to be, at its end.
-fn judged_by(met: Met) -> Judged
+fn judged_by(met: Met) -> TradeJudged
     ensures { λ r. ⌜ r ≡ judgedBy met ⌝ }
 {
     match met {
-        Met::Nothing => Judged::Trade,
-        Met::Digit => Judged::Accepted,
-        Met::Inside(_) => Judged::Trade,
-        Met::Closed => Judged::Accepted,
-        Met::Broken => Judged::Trade,
+        Met::Nothing => TradeJudged::Trade,
+        Met::Digit => TradeJudged::Accepted,
+        Met::Inside(_) => TradeJudged::Trade,
+        Met::Closed => TradeJudged::Accepted,
+        Met::Broken => TradeJudged::Trade,
     }
 }
 
 // Judges a line by the rule, in one pass over its bytes.
-pub fn judge_line(line: &[u8]) -> Judged
+pub fn judge_line(line: &[u8]) -> TradeJudged
     ensures { λ r. ⌜ r ≡ lineRule (now (line .entry)) ⌝ }
 {
     let mut met = Met::Nothing;
@@ -108,7 +108,7 @@ pub fn judge_line(line: &[u8]) -> Judged
     while i < line.len() {
         let b = line[i];
         if !listed(b) {
-            return Judged::Unlisted;
+            return TradeJudged::Unlisted;
         }
         met = pass(met, b);
         i += 1;

@@ -4,7 +4,7 @@ use contract.Lifetimes.{Lfts}
 use denote.Triple.Clauses.{AtExit}
 use borrow.Fn.Kinds.{Dens, endedOf}
 use Rattle.line_layout.specs.declared.Layout.{Layout}
-use Rattle.line_layout.specs.declared.Judged.{Judged}
+use Rattle.line_layout.specs.declared.LineJudged.{LineJudged}
 use Rattle.line_layout.proofs.layout_of.Kinds as layout-of-kinds
 use Rattle.line_layout.proofs.layout_of.Reads as layout-of-reads
 use Rattle.line_layout.proofs.judge_line.Kinds as judge-kinds
@@ -14,6 +14,6 @@ pub layout-of-single : (κs : Lfts 0) (a : Dens κs layout-of-kinds.ps) (r r′ 
     → layout-of-reads.Post κs a r x → layout-of-reads.Post κs a r′ x′ → r ≡ r′
 layout-of-single κs a r r′ x x′ p q = p ∙ sym q
 
-pub judge-line-single : (κs : Lfts 1) (a : Dens κs judge-kinds.ps) (r r′ : Judged) (x x′ : AtExit (endedOf 1 judge-kinds.ps judge-kinds.r) κs)
+pub judge-line-single : (κs : Lfts 1) (a : Dens κs judge-kinds.ps) (r r′ : LineJudged) (x x′ : AtExit (endedOf 1 judge-kinds.ps judge-kinds.r) κs)
     → judge-reads.Post κs a r x → judge-reads.Post κs a r′ x′ → r ≡ r′
 judge-line-single κs a r r′ x x′ p q = p ∙ sym q

@@ -17,10 +17,10 @@ use Rattle.line_spec.specs.Lines.{nine, transit, onUs, isTransit, allDigits, li
 use Rattle.line_spec.specs.Bytewise.{is-transit}
 use Rattle.line_spec.specs.Trade.{Digits, TradeLine, two-transits, are-digits, digits-are, digits-free}
 use Rattle.line_spec.specs.Rule.{AllListed, a-digit, a-symbol, rule-accepted}
-use Rattle.line_spec.specs.declared.Judged.the-variants.{Accepted}
+use Rattle.line_spec.specs.declared.TradeJudged.the-variants.{Accepted}
 use Rattle.line_layout.specs.declared.Layout.{Layout}
 use Rattle.line_layout.specs.declared.Layout.the-variants.{A, B}
-use Rattle.line_layout.specs.declared.Judged.the-variants as judged-is
+use Rattle.line_layout.specs.declared.LineJudged.the-variants as judged-is
 use Rattle.line_layout.specs.Layouts.{digitsA, digitsB, part, isLaid, hasLayout, layoutRule}
 use Rattle.line_layout.specs.Rule as ruled
 use Rattle.line_layout.specs.Tests.{by-last}

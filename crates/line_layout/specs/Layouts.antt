@@ -6,12 +6,12 @@ use Prim.Native.Nat.{ℕ, _+_}
 use lib.Dec.{eqb}
 use lib.ListN.{length, getD, take, drop}
 use Rattle.line_spec.specs.Lines.{nine, onUs, isTransit, allDigits, lineRule}
-use Rattle.line_spec.specs.declared.Judged as lines
-use Rattle.line_spec.specs.declared.Judged.the-variants as line-is
+use Rattle.line_spec.specs.declared.TradeJudged as lines
+use Rattle.line_spec.specs.declared.TradeJudged.the-variants as line-is
 use Rattle.line_layout.specs.declared.Layout.{Layout}
 use Rattle.line_layout.specs.declared.Layout.the-variants.{Neither, A, B, Unknown}
-use Rattle.line_layout.specs.declared.Judged.{Judged}
-use Rattle.line_layout.specs.declared.Judged.the-variants as judged-is
+use Rattle.line_layout.specs.declared.LineJudged.{LineJudged}
+use Rattle.line_layout.specs.declared.LineJudged.the-variants as judged-is
 
 -- the account digits of layout A, and of B
 abbrev pub digitsA : ℕ
@@ -42,20 +42,20 @@ hasLayout B s = isLaid digitsB s
 hasLayout Unknown s = false
 
 -- what a line is found to be: 9 and 13 by the rule of a line, then 17
-abbrev pub byLayout : lines.Judged → Bool → Judged
+abbrev pub byLayout : lines.TradeJudged → Bool → LineJudged
 byLayout line-is.Unlisted b = judged-is.Unlisted
 byLayout line-is.Trade b = judged-is.Trade
 byLayout line-is.Accepted b = cond b judged-is.Accepted judged-is.Layout
 
-unfoldable pub layoutRule : Layout → List ℕ → Judged
+unfoldable pub layoutRule : Layout → List ℕ → LineJudged
 layoutRule l s = byLayout (lineRule s) (hasLayout l s)
 
 -- the number of each answer (document 01, 'Numbers returned'; orders W2 and W7)
-abbrev pub numberOf : Judged → ℕ
-numberOf judged-is.Accepted = 0
-numberOf judged-is.Unlisted = 9
-numberOf judged-is.Trade = 13
-numberOf judged-is.Layout = 17
+abbrev pub lineNumber : LineJudged → ℕ
+lineNumber judged-is.Accepted = 0
+lineNumber judged-is.Unlisted = 9
+lineNumber judged-is.Trade = 13
+lineNumber judged-is.Layout = 17
 
 -- the layout that a number names: 0 neither, 1 A, 2 B, and every other one that no line has
 unfoldable pub layoutOf : ℕ → Layout

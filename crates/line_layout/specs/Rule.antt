@@ -5,11 +5,11 @@ use mathlib.Core.List.{List}
 use Prim.Native.Nat.{ℕ}
 use native.Mathlib.Omega.{arith}
 use Rattle.line_spec.specs.Lines.{lineRule}
-use Rattle.line_spec.specs.declared.Judged as lines
-use Rattle.line_spec.specs.declared.Judged.the-variants as line-is
+use Rattle.line_spec.specs.declared.TradeJudged as lines
+use Rattle.line_spec.specs.declared.TradeJudged.the-variants as line-is
 use Rattle.line_layout.specs.declared.Layout.{Layout}
 use Rattle.line_layout.specs.declared.Layout.the-variants.{Neither}
-use Rattle.line_layout.specs.declared.Judged.the-variants as judged-is
+use Rattle.line_layout.specs.declared.LineJudged.the-variants as judged-is
 use Rattle.line_layout.specs.Layouts.{hasLayout, layoutRule}
 
 module _ (l : Layout) (s : List ℕ) where
@@ -41,7 +41,7 @@ pub data Narrowed (l : Layout) (s : List ℕ) : Type 0 where
 pub rule-narrows : (l : Layout) (s : List ℕ) → Narrowed l s
 rule-narrows l s = go (lineRule s) refl (hasLayout l s) refl
   where
-    go : (j : lines.Judged) → lineRule s ≡ j → (b : Bool) → hasLayout l s ≡ b → Narrowed l s
+    go : (j : lines.TradeJudged) → lineRule s ≡ j → (b : Bool) → hasLayout l s ≡ b → Narrowed l s
     go line-is.Unlisted p b q = as-without (rule-unlisted l s p ∙ sym (rule-unlisted Neither s p))
     go line-is.Trade p b q = as-without (rule-trade l s p ∙ sym (rule-trade Neither s p))
     go line-is.Accepted p true q = as-without (rule-accepted l s p q ∙ sym (neither-accepted s p))
@@ -51,7 +51,7 @@ rule-narrows l s = go (lineRule s) refl (hasLayout l s) refl
 pub accepted-both : (l : Layout) (s : List ℕ) → layoutRule l s ≡ judged-is.Accepted → (lineRule s ≡ line-is.Accepted) × (hasLayout l s ≡ true)
 accepted-both l s e = go (lineRule s) refl (hasLayout l s) refl
   where
-    go : (j : lines.Judged) → lineRule s ≡ j → (b : Bool) → hasLayout l s ≡ b → (lineRule s ≡ line-is.Accepted) × (hasLayout l s ≡ true)
+    go : (j : lines.TradeJudged) → lineRule s ≡ j → (b : Bool) → hasLayout l s ≡ b → (lineRule s ≡ line-is.Accepted) × (hasLayout l s ≡ true)
     go line-is.Unlisted p b q = absurd (let z : _≡_ {A = ℕ} 0 1 = cc (sym e ∙ rule-unlisted l s p) in omega arith)
     go line-is.Trade p b q = absurd (let z : _≡_ {A = ℕ} 0 1 = cc (sym e ∙ rule-trade l s p) in omega arith)
     go line-is.Accepted p true q = (p, q)

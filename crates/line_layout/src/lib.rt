@@ -31,7 +31,7 @@ pub enum Layout {
 }
 
 // What a line is found to be.
-pub enum Judged {
+pub enum LineJudged {
     Accepted,
     // It holds a byte that is not listed.
     Unlisted,
@@ -113,16 +113,16 @@ fn has_layout(layout: Layout, line: &[u8]) -> bool
 }
 
 // Judges a line by the rule, and by the layout where the rule accepts it.
-pub fn judge_line(layout: Layout, line: &[u8]) -> Judged
+pub fn judge_line(layout: Layout, line: &[u8]) -> LineJudged
     ensures { λ r. ⌜ r ≡ layoutRule layout (now (line .entry)) ⌝ }
 {
     match line_judge::judge_line(line) {
-        line_spec::Judged::Unlisted => return Judged::Unlisted,
-        line_spec::Judged::Trade => return Judged::Trade,
-        line_spec::Judged::Accepted => {}
+        line_spec::TradeJudged::Unlisted => return LineJudged::Unlisted,
+        line_spec::TradeJudged::Trade => return LineJudged::Trade,
+        line_spec::TradeJudged::Accepted => {}
     }
     if has_layout(layout, line) {
-        return Judged::Accepted;
+        return LineJudged::Accepted;
     }
-    Judged::Layout
+    LineJudged::Layout
 }

@@ -5,8 +5,8 @@ use mathlib.Core.List.{List, [], _∷_}
 use Prim.Native.Nat.{ℕ, suc}
 use lib.Dec.{eqb, leb}
 use lib.ListN.{length}
-use Rattle.line_spec.specs.declared.Judged.{Judged}
-use Rattle.line_spec.specs.declared.Judged.the-variants.{Accepted, Unlisted, Trade}
+use Rattle.line_spec.specs.declared.TradeJudged.{TradeJudged}
+use Rattle.line_spec.specs.declared.TradeJudged.the-variants.{Accepted, Unlisted, Trade}
 
 -- the longest line in bytes (document 01, field 03)
 abbrev pub longest : ℕ
@@ -93,13 +93,13 @@ unfoldable pub isTrade : List ℕ → Bool
 isTrade s = cond (anyDigit s) (transitsRight s) false
 
 -- what a line is found to be: 9, over the whole line, then 13
-unfoldable pub lineRule : List ℕ → Judged
+unfoldable pub lineRule : List ℕ → TradeJudged
 lineRule s =
     cond (not (allListed s)) Unlisted
     (cond (not (isTrade s)) Trade Accepted)
 
 -- the number of each answer (document 01, 'Numbers returned'; order W2)
-abbrev pub numberOf : Judged → ℕ
-numberOf Accepted = 0
-numberOf Unlisted = 9
-numberOf Trade = 13
+abbrev pub tradeNumber : TradeJudged → ℕ
+tradeNumber Accepted = 0
+tradeNumber Unlisted = 9
+tradeNumber Trade = 13

@@ -9,7 +9,7 @@ use native.Mathlib.Omega.{arith}
 use lib.Dec.{eqb, leb}
 use borrow.Author.Tests.{le-leb, lt-leb, leb-true, eqb-true}
 use Rattle.base_lists.specs.Never.{never}
-use Rattle.line_spec.specs.declared.Judged.the-variants.{Accepted, Unlisted, Trade}
+use Rattle.line_spec.specs.declared.TradeJudged.the-variants.{Accepted, Unlisted, Trade}
 use Rattle.line_spec.specs.Lines.{firstDigit, lastDigit, transit, dash, blank, isDigit, isListed, allListed, isTrade, lineRule}
 use Rattle.line_spec.specs.Trade.{TradeLine, trade-is, is-trade}
 

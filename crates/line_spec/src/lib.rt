@@ -26,7 +26,7 @@ const DASH: u8 = b'D';
 const BLANK: u8 = 0x20;
 
 // What a line is found to be.
-pub enum Judged {
+pub enum TradeJudged {
     Accepted,
     // It holds a byte that is not listed.
     Unlisted,

@@ -21,7 +21,7 @@ use Rattle.lubdhvani.specs.declared.frame.Framed.{Framed}
 use Rattle.lubdhvani.specs.declared.bundle.Part.{Part}
 
 abbrev pub digested : Digested → Counted
-digested a = record { number = hashing.numberOf a; calls = hashing.countOf a }
+digested a = record { number = hashing.digestNumber a; calls = hashing.countOf a }
 
 abbrev pub finished : Finished → Counted
 finished a = record { number = finishNumber a; calls = finishCount a }
@@ -33,16 +33,16 @@ abbrev pub opened : Opened → Counted
 opened a = record { number = openNumber a; calls = openCount a }
 
 abbrev pub written : Written → Framed
-written a = record { number = writing.numberOf a; length = writing.lengthOf a; calls = writing.countOf a }
+written a = record { number = writing.writeNumber a; length = writing.lengthOf a; calls = writing.countOf a }
 
 abbrev pub converted : Converted → Measured
-converted a = record { number = converting.numberOf a; length = converting.lengthIn a }
+converted a = record { number = converting.convertNumber a; length = converting.lengthIn a }
 
 abbrev pub bundled : bundle.Written → Measured
 bundled a = record { number = writeNumber a; length = writeLength a }
 
 abbrev pub judged : Bundle → Measured
-judged a = record { number = judging.numberOf a; length = judging.lengthOf a }
+judged a = record { number = judging.readNumber a; length = judging.lengthOf a }
 
 abbrev pub partOut : inner.Part → Part
 partOut p = record { first = p .first; length = p .length }

@@ -2,11 +2,11 @@
 use Prim.Native.Nat.{ℕ}
 use mathlib.Core.List.{List}
 use lib.ListN.{length}
-use Rattle.gage_spec.specs.Permutation.{numberOf, judged, after}
+use Rattle.gage_spec.specs.Permutation.{judgedNumber, judged, after}
 
 -- k rounds of the permutation on a state where it stands
 unfoldable pub permuteNumber : ℕ → ℕ → ℕ
-permuteNumber n k = numberOf (judged n k)
+permuteNumber n k = judgedNumber (judged n k)
 
 unfoldable pub permuteState : (ℕ → List ℕ → List ℕ) → List ℕ → ℕ → List ℕ
 permuteState f s k = after (judged (length s) k) (f k s) s

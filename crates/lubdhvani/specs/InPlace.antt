@@ -7,7 +7,7 @@ use lib.ListN.{length, take, drop, replicate, drop-of-length-le}
 use lib.Seq.{take-all, take-at}
 use Rattle.base_lists.specs.Buffers.{copied}
 use Rattle.gage_cells.specs.Sizes.{LARGEST}
-use Rattle.gage_spec.specs.Permutation.{numberOf, judged, answered}
+use Rattle.gage_spec.specs.Permutation.{judgedNumber, judged, answered}
 use Rattle.gage_spec.specs.Answers.{judged-size}
 use Rattle.gage_spec.specs.Tables.{too-large}
 use Rattle.gage_spec.specs.declared.Answer.{Answer}
@@ -40,12 +40,12 @@ module _ (f : ℕ → List ℕ → List ℕ) (k : ℕ) (keeps : (s : List ℕ) �
 
   -- document 01's number, and the lent state afterwards
   pub in-place : (r : Permuted) → r ≡ answered f (copied s (replicate LARGEST 0)) (length s) k
-      → (numberOf (r .answer) ≡ permuteNumber (length s) k) × (copied (r .state) s ≡ permuteState f s k)
+      → (judgedNumber (r .answer) ≡ permuteNumber (length s) k) × (copied (r .state) s ≡ permuteState f s k)
   unfolding wide answered permuteNumber
   in-place r e = (rw e refl, rw e (decided (judged (length s) k) refl))
 
 -- a state larger than any permitted one is refused
 pub too-large-refused : (f : ℕ → List ℕ → List ℕ) (s : List ℕ) (k : ℕ) → LARGEST < length s
-    → (numberOf Size ≡ permuteNumber (length s) k) × (s ≡ permuteState f s k)
+    → (judgedNumber Size ≡ permuteNumber (length s) k) × (s ≡ permuteState f s k)
 unfolding permuteNumber permuteState
 too-large-refused f s k h = let size = judged-size (length s) k (too-large (length s) h) in (rw size, rw size)

@@ -1,6 +1,6 @@
 -- What the C calls of an index give as structs: the number and the count, an entry, and the entry of a line. Assumes nothing.
 use Rattle.index_spec.specs.declared.Updated.{Updated}
-use Rattle.index_spec.specs.Updating.{numberOf}
+use Rattle.index_spec.specs.Updating.{updateNumber}
 use Rattle.index_entry.specs.declared.Entry as found
 use Rattle.index_entry.specs.declared.Line as found-line
 use Rattle.lubdhvani.specs.declared.index.Indexed.{Indexed}
@@ -8,7 +8,7 @@ use Rattle.lubdhvani.specs.declared.index.Entry.{Entry}
 use Rattle.lubdhvani.specs.declared.index.EntryLine.{EntryLine}
 
 abbrev pub updatedOut : Updated → Indexed
-updatedOut u = record { number = numberOf (u .answer); count = u .count }
+updatedOut u = record { number = updateNumber (u .answer); count = u .count }
 
 abbrev pub entryOut : found.Entry → Entry
 entryOut e = record { there = e .there; place = e .place; number = e .number }

@@ -3,7 +3,7 @@
 use Prim.Native.Nat.{ℕ}
 use Rattle.line_layout.specs.Layouts.{layoutOf}
 use Rattle.read_stretch.specs.declared.Span as stretch
-use Rattle.read_call.specs.Answers.{numberOf, lengthOf, callsOf}
+use Rattle.read_call.specs.Answers.{answerNumber, lengthOf, callsOf}
 use Rattle.read_call.specs.declared.Asked as told-anew
 use Rattle.read_call.specs.declared.Reading as reading
 use Rattle.lubdhvani.specs.declared.read.Asked.{Asked}
@@ -21,7 +21,7 @@ askedOf a = record { editions = a .editions; allowed = a .allowed; layout = layo
 abbrev pub readingOut : reading.Reading → Reading
 readingOut r = record {
   outcome = outcomeOf (r .answer);
-  number = numberOf (r .answer);
+  number = answerNumber (r .answer);
   first = r .first;
   closing = r .closing;
   length = lengthOf (r .answer);

@@ -27,7 +27,7 @@ written-done written-is.Shape e = absurd (omega (arith, e))
 written-done written-is.Alike e = absurd (omega (arith, e))
 written-done written-is.NoRoom e = absurd (omega (arith, e))
 
-read-done : (a : Bundle) → judging.numberOf a ≡ 0 → a ≡ bundle-is.Named (judging.lengthOf a)
+read-done : (a : Bundle) → judging.readNumber a ≡ 0 → a ≡ bundle-is.Named (judging.lengthOf a)
 read-done (bundle-is.Named n) e = refl
 read-done bundle-is.Shape e = absurd (omega (arith, e))
 read-done bundle-is.Alike e = absurd (omega (arith, e))

@@ -8,7 +8,7 @@ use Rattle.frame_body.specs.Fields.{Own}
 use Rattle.frame_spec.specs.Told.{told}
 use Rattle.frame_write.specs.declared.Written.{Written}
 use Rattle.frame_write.specs.declared.Written.the-variants as written-is
-use Rattle.frame_write.specs.Answers.{writeCall, numberOf, lengthOf, countOf}
+use Rattle.frame_write.specs.Answers.{writeCall, writeNumber, lengthOf, countOf}
 use Rattle.convert_spec.specs.declared.Converted.{Converted}
 use Rattle.convert_spec.specs.declared.Converted.the-variants as converted-is
 use Rattle.convert_spec.specs.Answers as converting
@@ -17,7 +17,7 @@ use Rattle.lubdhvani.specs.declared.frame.Framed.{Framed}
 use Rattle.lubdhvani.specs.declared.answers.Measured.{Measured}
 use Rattle.lubdhvani_demands.specs.Promises.{Writes, Converts}
 
-done-is : (a : Written) → numberOf a ≡ 0 → a ≡ written-is.Done (lengthOf a) (countOf a)
+done-is : (a : Written) → writeNumber a ≡ 0 → a ≡ written-is.Done (lengthOf a) (countOf a)
 done-is (written-is.Done n k) e = refl
 done-is written-is.Sizes e = absurd (omega (arith, e))
 done-is written-is.TooLong e = absurd (omega (arith, e))
@@ -26,7 +26,7 @@ done-is written-is.Trade e = absurd (omega (arith, e))
 done-is written-is.Layout e = absurd (omega (arith, e))
 done-is written-is.NoRoom e = absurd (omega (arith, e))
 
-converted-done : (a : Converted) → converting.numberOf a ≡ 0 → a ≡ converted-is.Done (converting.lengthIn a)
+converted-done : (a : Converted) → converting.convertNumber a ≡ 0 → a ≡ converted-is.Done (converting.lengthIn a)
 converted-done (converted-is.Done n) e = refl
 converted-done converted-is.Sizes e = absurd (omega (arith, e))
 converted-done converted-is.NoRoom e = absurd (omega (arith, e))

@@ -10,9 +10,9 @@ use lib.Seq.{take-at, take-all}
 use borrow.Author.Tests.{le-ltb}
 use Rattle.base_lists.specs.Buffers.{over, cleared, same}
 use Rattle.line_spec.specs.Lines.{longest}
-use Rattle.line_layout.specs.declared.Judged as line-judged
-use Rattle.line_layout.specs.declared.Judged.the-variants.{Accepted, Unlisted, Trade}
-use Rattle.line_layout.specs.declared.Judged.the-variants as found-to-be
+use Rattle.line_layout.specs.declared.LineJudged as line-judged
+use Rattle.line_layout.specs.declared.LineJudged.the-variants.{Accepted, Unlisted, Trade}
+use Rattle.line_layout.specs.declared.LineJudged.the-variants as found-to-be
 use Rattle.line_layout.specs.declared.Layout.{Layout}
 use Rattle.line_layout.specs.Layouts.{layoutRule}
 use Rattle.ingage_answers.specs.declared.Opened.the-variants as opened
@@ -23,7 +23,7 @@ use Rattle.ingage_answers.specs.Answers.{OpenCall, openNamed}
 use Rattle.ingage_answers.specs.Naming.{open-first}
 use Rattle.ingage_answers.specs.Exactly.{Within, opened-within}
 use Rattle.frame_body.specs.Fields.{Own}
-use Rattle.read_open.specs.declared.Found.the-variants as found-is
+use Rattle.read_open.specs.declared.OpenedLine.the-variants as found-is
 use Rattle.read_open.specs.Opened.{byRule, foundBy, LineCall, lineCall, lineFrom, textIn, openBeside, openLine}
 use Rattle.read_spec.specs.Judged.{Label, labelOf, Judged, seal, unlisted, trade, layout, line}
 use Rattle.read_spec.specs.Judging as judging
@@ -74,7 +74,7 @@ module _ (f : Layout) (own : Own) (key A C T o : List ℕ) (w : Within first key
   unfolding judgeSealed
   other-seal p = rw p
 
-  module _ (p : same (work .seal) T ≡ true) (r : line-judged.Judged) (e : layoutRule f (work .text) ≡ r) where
+  module _ (p : same (work .seal) T ≡ true) (r : line-judged.LineJudged) (e : layoutRule f (work .text) ≡ r) where
     by-rule : judgeSealed f own key A C T ≡ judging.byRule r own work
     unfolding judgeSealed
     by-rule = rw (p, e)
@@ -83,12 +83,12 @@ module _ (f : Layout) (own : Own) (key A C T o : List ℕ) (w : Within first key
     opens-rule =
         opens true p
         ∙ ap (λ (s : List ℕ). lineCall (foundBy f (opened.Done (work .calls)) s) s o) text-is
-        ∙ ap (λ (i : line-judged.Judged). lineCall (byRule i (work .calls)) (work .text) o) e
+        ∙ ap (λ (i : line-judged.LineJudged). lineCall (byRule i (work .calls)) (work .text) o) e
 
   pub found-judged : Shows (judgeSealed f own key A C T) o (verdictOn k (length C) (found .answer)) (found .line)
   found-judged = by-seal (same (work .seal) T) refl
     where
-      by-line : same (work .seal) T ≡ true → (r : line-judged.Judged) → layoutRule f (work .text) ≡ r
+      by-line : same (work .seal) T ≡ true → (r : line-judged.LineJudged) → layoutRule f (work .text) ≡ r
           → Shows (judgeSealed f own key A C T) o (verdictOn k (length C) (found .answer)) (found .line)
       by-line p Unlisted e = shows _ (opens-rule p Unlisted e) (unlisted (work .calls)) (by-rule p Unlisted e) (refl, refl)
       by-line p Trade e = shows _ (opens-rule p Trade e) (trade (work .calls)) (by-rule p Trade e) (refl, refl)

@@ -17,7 +17,7 @@ use Rattle.ingage_answers.specs.Exactly.{Within}
 use Rattle.line_layout.specs.declared.Layout.{Layout}
 use Rattle.frame_body.specs.declared.Edition.{Edition}
 use Rattle.frame_body.specs.declared.Edition.the-variants.{One, Two}
-use Rattle.frame_body.specs.declared.Judged.the-variants as judged-is
+use Rattle.frame_body.specs.declared.BodyJudged.the-variants as judged-is
 use Rattle.frame_body.specs.Fields.{nonceLength, digestLength, sealLength, jobLength, Own, ownOf, Fields, fields, no-body, fieldsOf, body, associated}
 use Rattle.frame_body.specs.Answers.{editionNumber, judged}
 use Rattle.frame_body.specs.Job.{jobNumber}
@@ -34,7 +34,7 @@ use Rattle.read_spec.specs.Allowance.{no-ceiling, enough-allowed, not-enough, s
 use Rattle.read_bar.specs.declared.Bar.{Bar}
 use Rattle.read_bar.specs.declared.Bar.the-variants as bar-is
 use Rattle.read_bar.specs.Asked.{barIn, barred}
-use Rattle.read_open.specs.declared.Found.{Found}
+use Rattle.read_open.specs.declared.OpenedLine.{OpenedLine}
 use Rattle.read_open.specs.Opened.{openLine}
 use Rattle.read_call.specs.declared.Verdict.{Verdict}
 use Rattle.read_call.specs.Answers.{verdictOn}
@@ -157,7 +157,7 @@ module _ (f : Layout) (b key : List ℕ) (e : Edition) (n : ℕ) (p : Parts b e 
   more = jobFieldLength e
 
   -- the parts as they are cut, with what was measured
-  pub as-cut : (m : ℕ) → m ≡ more → (o : List ℕ) → (r : Found) (w : List ℕ)
+  pub as-cut : (m : ℕ) → m ≡ more → (o : List ℕ) → (r : OpenedLine) (w : List ℕ)
       → r ≡ openLine f key (nonceIn b) (associatedIn m b) (cipherIn m n b) (sealIn m n b) o .answer
       → w ≡ openLine f key (nonceIn b) (associatedIn m b) (cipherIn m n b) (sealIn m n b) o .line
       → (r ≡ openParts f e n key b o .answer) × (w ≡ openParts f e n key b o .line)
@@ -178,7 +178,7 @@ module _ (f : Layout) (b key : List ℕ) (e : Edition) (n : ℕ) (p : Parts b e 
 
   -- what is found of them, with the numbers of edition and job
   pub opened-fields : length key ≡ keyLength → (o : List ℕ) → longest ≤ length o → (i j : ℕ) → i ≡ editionNumber e → j ≡ jobNumber (jobIn e b)
-      → (x : Found) → x ≡ openParts f e n key b o .answer → (w : List ℕ) → w ≡ openParts f e n key b o .line
+      → (x : OpenedLine) → x ≡ openParts f e n key b o .answer → (w : List ℕ) → w ≡ openParts f e n key b o .line
       → (r : Verdict) → r ≡ verdictOn (label i j) n x → Shows (judgeParts f e n key b) o r w
   opened-fields z o h i j u v x xe w we r re =
       let m = found-judged f (ownIn e b) key (associatedIn more b) (cipherIn more n b) (sealIn more n b) o (within z) h in

@@ -9,7 +9,7 @@ use Rattle.read_call.proofs.read.Reads.{Post}
 use Rattle.read_call.specs.declared.Verdict.{Verdict}
 use Rattle.read_call.proofs.judge.Kinds as judge-kinds
 use Rattle.read_call.proofs.judge.Reads as judge-reads
-use Rattle.frame_body.specs.declared.Judged.{Judged}
+use Rattle.frame_body.specs.declared.BodyJudged.{BodyJudged}
 use Rattle.read_call.proofs.fields_in.Kinds as fields-kinds
 use Rattle.read_call.proofs.fields_in.Reads as fields-reads
 
@@ -21,6 +21,6 @@ pub judge-single : (κs : Lfts 4) (a : Dens κs judge-kinds.ps) (r r′ : Verdic
     → judge-reads.Post κs a r x → judge-reads.Post κs a r′ x′ → (r ≡ r′) × (x .1 .1 .1 .1 .0 .now ≡ x′ .1 .1 .1 .1 .0 .now)
 judge-single κs a r r′ x x′ p q = (p .0 ∙ sym (q .0), p .1 ∙ sym (q .1))
 
-pub fields-in-single : (κs : Lfts 1) (a : Dens κs fields-kinds.ps) (r r′ : Judged) (x x′ : AtExit (endedOf 1 fields-kinds.ps fields-kinds.r) κs)
+pub fields-in-single : (κs : Lfts 1) (a : Dens κs fields-kinds.ps) (r r′ : BodyJudged) (x x′ : AtExit (endedOf 1 fields-kinds.ps fields-kinds.r) κs)
     → fields-reads.Post κs a r x → fields-reads.Post κs a r′ x′ → r ≡ r′
 fields-in-single κs a r r′ x x′ p q = p ∙ sym q

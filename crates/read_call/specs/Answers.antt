@@ -17,8 +17,8 @@ use Rattle.read_call.specs.declared.Answer.{Answer}
 use Rattle.read_call.specs.declared.Reading.{Reading}
 use Rattle.read_call.specs.declared.Verdict.{Verdict}
 use Rattle.read_call.specs.declared.Answer.the-variants as answer-is
-use Rattle.read_open.specs.declared.Found as opened-line
-use Rattle.read_open.specs.declared.Found.the-variants as found-is
+use Rattle.read_open.specs.declared.OpenedLine as opened-line
+use Rattle.read_open.specs.declared.OpenedLine.the-variants as found-is
 use Rattle.read_open.specs.Opened.{foundNumber}
 use Rattle.read_spec.specs.Judged.{Label, Judged, shape, stuffing, font, work, seal, unlisted, trade, layout, line, labelIn}
 use Rattle.read_readings.specs.Readings.{ends}
@@ -85,7 +85,7 @@ abbrev pub verdictOf : Judged → Verdict
 verdictOf j = record { answer = answerOf j; edition = labelIn j .edition; job = labelIn j .job }
 
 -- the answer for what opening a sealed line of n bytes finds; sizes are right where it is called, so it is never refused
-abbrev pub verdictOn : Label → ℕ → opened-line.Found → Verdict
+abbrev pub verdictOn : Label → ℕ → opened-line.OpenedLine → Verdict
 verdictOn k n found-is.Sizes = plain answer-is.Shape
 verdictOn k n (found-is.Seal calls) = plain (answer-is.Seal calls)
 verdictOn k n (found-is.Unlisted calls) = plain (answer-is.Unlisted calls)
@@ -125,21 +125,21 @@ abbrev pub readOut : Told → Asked → List ℕ → ℕ → List ℕ → List �
 readOut t a s from o = buffer (found t a s from (length o)) o
 
 -- the number of each answer (document 01, 'Numbers returned'; orders W2, W5 and W7)
-abbrev pub numberOf : Answer → ℕ
-numberOf answer-is.Sizes = 2
-numberOf answer-is.TooLong = 3
-numberOf answer-is.NoRoom = 4
-numberOf answer-is.Beyond = 10
-numberOf answer-is.End = 0
-numberOf answer-is.Shape = 7
-numberOf answer-is.Stuffing = 6
-numberOf answer-is.Font = 8
-numberOf answer-is.Work = 15
-numberOf (answer-is.Seal n) = 5
-numberOf (answer-is.Unlisted n) = 9
-numberOf (answer-is.Trade n) = 13
-numberOf (answer-is.Layout n) = 17
-numberOf (answer-is.Line k n) = 0
+abbrev pub answerNumber : Answer → ℕ
+answerNumber answer-is.Sizes = 2
+answerNumber answer-is.TooLong = 3
+answerNumber answer-is.NoRoom = 4
+answerNumber answer-is.Beyond = 10
+answerNumber answer-is.End = 0
+answerNumber answer-is.Shape = 7
+answerNumber answer-is.Stuffing = 6
+answerNumber answer-is.Font = 8
+answerNumber answer-is.Work = 15
+answerNumber (answer-is.Seal n) = 5
+answerNumber (answer-is.Unlisted n) = 9
+answerNumber (answer-is.Trade n) = 13
+answerNumber (answer-is.Layout n) = 17
+answerNumber (answer-is.Line k n) = 0
 
 -- the line's length, 0 where none is given
 abbrev pub lengthOf : Answer → ℕ
@@ -205,8 +205,8 @@ outcomeOf answer-is.NoRoom = CALL-REFUSED
 outcomeOf answer-is.Beyond = CALL-REFUSED
 
 -- what opening a sealed line finds has its number
-pub verdict-number : (k : Label) (n : ℕ) (f : opened-line.Found) → (foundNumber f ≡ foundNumber found-is.Sizes → ⊥)
-    → numberOf (verdictOn k n f .answer) ≡ foundNumber f
+pub verdict-number : (k : Label) (n : ℕ) (f : opened-line.OpenedLine) → (foundNumber f ≡ foundNumber found-is.Sizes → ⊥)
+    → answerNumber (verdictOn k n f .answer) ≡ foundNumber f
 verdict-number k n found-is.Sizes h = absurd (h refl)
 verdict-number k n (found-is.Seal calls) h = refl
 verdict-number k n (found-is.Unlisted calls) h = refl

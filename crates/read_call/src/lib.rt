@@ -41,7 +41,7 @@ use frame_stuff_spec::Unstuffed;
 use line_layout::Layout;
 use read_bar::Bar;
 use read_bar::judge_asked;
-use read_open::Found;
+use read_open::OpenedLine;
 use read_open::open_line;
 use read_stretch::next_span;
 
@@ -155,17 +155,17 @@ fn refused(answer: Answer) -> Verdict
 }
 
 // The verdict on a sealed line of so many bytes: it is given with this edition and job.
-fn verdict_on(found: Found, edition: usize, job: usize, length: usize) -> Verdict
+fn verdict_on(found: OpenedLine, edition: usize, job: usize, length: usize) -> Verdict
     ensures { λ r. ⌜ r ≡ verdictOn (label edition job) length found ⌝ }
 {
     match found {
         // Never: sizes, lengths and room are right here.
-        Found::Sizes => return refused(Answer::Shape),
-        Found::Seal(calls) => return refused(Answer::Seal(calls)),
-        Found::Unlisted(calls) => return refused(Answer::Unlisted(calls)),
-        Found::Trade(calls) => return refused(Answer::Trade(calls)),
-        Found::Layout(calls) => return refused(Answer::Layout(calls)),
-        Found::Line(calls) => {
+        OpenedLine::Sizes => return refused(Answer::Shape),
+        OpenedLine::Seal(calls) => return refused(Answer::Seal(calls)),
+        OpenedLine::Unlisted(calls) => return refused(Answer::Unlisted(calls)),
+        OpenedLine::Trade(calls) => return refused(Answer::Trade(calls)),
+        OpenedLine::Layout(calls) => return refused(Answer::Layout(calls)),
+        OpenedLine::Line(calls) => {
             let answer = Answer::Line { length, calls };
             return Verdict {
                 answer,
@@ -184,7 +184,7 @@ fn open_parts(
     key: &[u8],
     layout: Layout,
     line: &mut [u8],
-) -> Found
+) -> OpenedLine
     requires { ⌜ Parts (now body) edition n ⌝ }
     ensures { λ r. ⌜ r ≡ openParts layout edition n (now (key .entry)) (now (body .entry)) (now (line .entry)) .answer ⌝ }
     ensures { λ _. ⌜ now (line .exit) ≡ openParts layout edition n (now (key .entry)) (now (body .entry)) (now (line .entry)) .line ⌝ }
@@ -262,8 +262,8 @@ fn judge_fields(body: &[u8], key: &[u8], font: &[u8], asked: Asked, line: &mut [
         (now (line .entry)) ⌝ }
 {
     match judge_body(body) {
-        frame_body::Judged::Shape => return refused(Answer::Shape),
-        frame_body::Judged::Fields(edition, n) => {
+        frame_body::BodyJudged::Shape => return refused(Answer::Shape),
+        frame_body::BodyJudged::Fields(edition, n) => {
             return judge_edition(body, edition, n, key, font, asked, line);
         }
     }
@@ -308,15 +308,15 @@ pub fn judge(stretch: &[u8], key: &[u8], font: &[u8], asked: Asked, line: &mut [
 }
 
 // What the fields are that a stretch holds, of whatever edition; none where it is too long or badly stuffed.
-pub fn fields_in(stretch: &[u8]) -> frame_body::Judged
+pub fn fields_in(stretch: &[u8]) -> frame_body::BodyJudged
     ensures { λ r. ⌜ r ≡ judged (held (now (stretch .entry))) ⌝ }
 {
     let mut body = [0u8; LONGEST_STRETCH];
     let n = match unstuff(stretch, &mut body) {
-        Unstuffed::TooLong => return frame_body::Judged::Shape,
-        Unstuffed::Bad => return frame_body::Judged::Shape,
+        Unstuffed::TooLong => return frame_body::BodyJudged::Shape,
+        Unstuffed::Bad => return frame_body::BodyJudged::Shape,
         // Never: the body has room for the longest stretch.
-        Unstuffed::NoRoom => return frame_body::Judged::Shape,
+        Unstuffed::NoRoom => return frame_body::BodyJudged::Shape,
         Unstuffed::Length(n) => n,
     };
     judge_body(&body[0..n])

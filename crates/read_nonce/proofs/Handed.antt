@@ -16,7 +16,7 @@ use Rattle.frame_stuff_spec.specs.Lengths.{stuffed-at-least}
 use Rattle.frame_stuff_spec.specs.Answers.{unstuffAnswer, unstuffOut}
 use Rattle.frame_stuff_spec.specs.Outcomes.{Outcome, too-long, bad, no-room, done, unstuff-outcome, length-too-long, length-bad, length-good}
 use Rattle.frame_body.specs.declared.Edition.{Edition}
-use Rattle.frame_body.specs.declared.Judged.the-variants as judged-is
+use Rattle.frame_body.specs.declared.BodyJudged.the-variants as judged-is
 use Rattle.frame_body.specs.Fields.{nonceLength, Fields, fields, no-body, fieldsOf}
 use Rattle.frame_body.specs.Answers.{judged}
 use Rattle.frame_body.specs.Lengths.{length-body}

@@ -48,8 +48,8 @@ fn in_body(body: &[u8]) -> Nonce
     ensures { λ r. ⌜ r ≡ ofFields (fieldsOf (now (body .entry))) ⌝ }
 {
     match judge_body(body) {
-        frame_body::Judged::Shape => return none(),
-        frame_body::Judged::Fields(_, _) => {
+        frame_body::BodyJudged::Shape => return none(),
+        frame_body::BodyJudged::Fields(_, _) => {
             let bytes = nonce_part(body);
             return Nonce {
                 found: FOUND,

@@ -1,7 +1,7 @@
 // What `read` answers in document 01's numbers ('Numbers returned'; orders W2, W5 and W7), for callers that report them: one `match` gives them all.
 // The promises cite specs/Reports.antt and read_call/specs/Answers.antt.
 ghost use mathlib.Core.Path.{_≡_};
-ghost use Rattle.read_call.specs.Answers.{numberOf, lengthOf, callsOf};
+ghost use Rattle.read_call.specs.Answers.{answerNumber, lengthOf, callsOf};
 ghost use Rattle.read_numbers.specs.Reports.{report, reportOf};
 use read_call::Answer;
 
@@ -61,7 +61,7 @@ pub fn numbers(answer: Answer) -> Report
 
 // The number alone.
 pub fn read_number(answer: Answer) -> u32
-    ensures { λ r. ⌜ r ≡ numberOf answer ⌝ }
+    ensures { λ r. ⌜ r ≡ answerNumber answer ⌝ }
 {
     let its = numbers(answer);
     its.number

@@ -8,22 +8,22 @@ use denote.Enum.Declared.{tagOf}
 use types.Run.{OneOf}
 use Rattle.base_lists.specs.Buffers.{copied}
 use Rattle.line_layout.specs.declared.Layout as layouts
-use Rattle.line_layout.specs.declared.Judged as line-judged
-use Rattle.line_layout.specs.declared.Judged.the-variants.{Accepted, Unlisted, Trade, Layout}
+use Rattle.line_layout.specs.declared.LineJudged as line-judged
+use Rattle.line_layout.specs.declared.LineJudged.the-variants.{Accepted, Unlisted, Trade, Layout}
 use Rattle.line_layout.specs.Layouts.{layoutRule}
 use Rattle.ingage_answers.specs.declared.Opened.{Opened}
 use Rattle.ingage_answers.specs.declared.Opened.the-variants as opened
 use Rattle.ingage_answers.proofs.Opened as opened-type
-use Rattle.read_open.specs.declared.Found.{Found}
-use Rattle.read_open.specs.declared.Found.the-variants as found
+use Rattle.read_open.specs.declared.OpenedLine.{OpenedLine}
+use Rattle.read_open.specs.declared.OpenedLine.the-variants as found
 use Rattle.read_open.specs.Opened.{foundBy, lineBy, byRule}
 
 module _ (l : layouts.Layout) (x : Opened) (s o : List ℕ) where
-  abbrev Met : Found → List ℕ → Type 0
+  abbrev Met : OpenedLine → List ℕ → Type 0
   Met r w = (r ≡ foundBy l x s) × (w ≡ lineBy (foundBy l x s) s o)
 
-  met : (f : Found) → foundBy l x s ≡ f → Met f (lineBy f s o)
-  met f e = (sym e, ap (λ (g : Found). lineBy g s o) (sym e))
+  met : (f : OpenedLine) → foundBy l x s ≡ f → Met f (lineBy f s o)
+  met f e = (sym e, ap (λ (g : OpenedLine). lineBy g s o) (sym e))
 
   pub by-seal : (n : ℕ) → x ≡ opened.Seal n → Met (found.Seal n) o
   by-seal n e = met (found.Seal n) (ap (λ (y : Opened). foundBy l y s) e)
@@ -45,9 +45,9 @@ module _ (l : layouts.Layout) (x : Opened) (s o : List ℕ) where
       go opened.TooLong e = met found.Sizes (ap (λ (y : Opened). foundBy l y s) e)
       go opened.NoRoom e = met found.Sizes (ap (λ (y : Opened). foundBy l y s) e)
 
-  module _ (n : ℕ) (e : x ≡ opened.Done n) (j : line-judged.Judged) (p : j ≡ layoutRule l s) where
-    ruled : (k : line-judged.Judged) → j ≡ k → Met (byRule k n) (lineBy (byRule k n) s o)
-    ruled k q = met (byRule k n) (ap (λ (y : Opened). foundBy l y s) e ∙ ap (λ (i : line-judged.Judged). byRule i n) (sym p ∙ q))
+  module _ (n : ℕ) (e : x ≡ opened.Done n) (j : line-judged.LineJudged) (p : j ≡ layoutRule l s) where
+    ruled : (k : line-judged.LineJudged) → j ≡ k → Met (byRule k n) (lineBy (byRule k n) s o)
+    ruled k q = met (byRule k n) (ap (λ (y : Opened). foundBy l y s) e ∙ ap (λ (i : line-judged.LineJudged). byRule i n) (sym p ∙ q))
 
     pub by-unlisted : j ≡ Unlisted → Met (found.Unlisted n) o
     by-unlisted = ruled Unlisted

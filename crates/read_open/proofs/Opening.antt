@@ -10,21 +10,21 @@ use Rattle.line_layout.specs.declared.Layout.{Layout}
 use Rattle.ingage_spec.specs.Instances.{named, FIRST}
 use Rattle.ingage_answers.specs.declared.Opened.{Opened}
 use Rattle.ingage_answers.specs.Answers.{OpenCall, openNamed}
-use Rattle.read_open.specs.declared.Found.{Found}
-use Rattle.read_open.specs.declared.Found.the-variants as found
+use Rattle.read_open.specs.declared.OpenedLine.{OpenedLine}
+use Rattle.read_open.specs.declared.OpenedLine.the-variants as found
 use Rattle.read_open.specs.Opened.{foundBy, lineBy, LineCall, lineCall, openBeside, openLine}
 
 module _ (l : Layout) (key nonce A C T o : List ℕ) where
   -- what `open` answered and left, judged
   pub judged : (text : List ℕ) (a : Opened) (w : List ℕ) → a ≡ openNamed (named FIRST) key nonce A C T text .answer
       → w ≡ openNamed (named FIRST) key nonce A C T text .out
-      → (r : Found) (o′ : List ℕ) → r ≡ foundBy l a (take (length C - 0) (drop 0 w)) → o′ ≡ lineBy (foundBy l a (take (length C - 0) (drop 0 w)))
+      → (r : OpenedLine) (o′ : List ℕ) → r ≡ foundBy l a (take (length C - 0) (drop 0 w)) → o′ ≡ lineBy (foundBy l a (take (length C - 0) (drop 0 w)))
       (take (length C - 0) (drop 0 w)) o
       → (r ≡ openBeside l key nonce A C T text o .answer) × (o′ ≡ openBeside l key nonce A C T text o .line)
   unfolding openBeside
   judged text a w x y r o′ p q = let z : length C - 0 ≡ length C = omega arith in (p ∙ rw (z, x, y), q ∙ rw (z, x, y))
 
-  abbrev Met : Found → List ℕ → Type 0
+  abbrev Met : OpenedLine → List ℕ → Type 0
   Met r w = (r ≡ openLine l key nonce A C T o .answer) × (w ≡ openLine l key nonce A C T o .line)
 
   met : (x : LineCall) → openLine l key nonce A C T o ≡ x → Met (x .answer) (x .line)
@@ -39,7 +39,7 @@ module _ (l : Layout) (key nonce A C T o : List ℕ) where
     unfolding openLine
     no-room g = met (lineCall found.Sizes [] o) (rw (le-ltb longest (length C) h, lt-ltb (length o) (length C) g))
 
-    pub beside : length C ≤ length o → (r : Found) (o′ : List ℕ) → r ≡ openBeside l key nonce A C T (replicate longest 0) o .answer
+    pub beside : length C ≤ length o → (r : OpenedLine) (o′ : List ℕ) → r ≡ openBeside l key nonce A C T (replicate longest 0) o .answer
         → o′ ≡ openBeside l key nonce A C T (replicate longest 0) o .line → Met r o′
     unfolding openLine
     beside g r o′ p q =

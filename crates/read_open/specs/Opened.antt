@@ -8,25 +8,25 @@ use lib.ListN.{length, take, replicate}
 use Rattle.base_lists.specs.Buffers.{copied}
 use Rattle.line_spec.specs.Lines.{longest}
 use Rattle.line_layout.specs.declared.Layout as layouts
-use Rattle.line_layout.specs.declared.Judged as line-judged
-use Rattle.line_layout.specs.declared.Judged.the-variants.{Accepted, Unlisted, Trade, Layout}
+use Rattle.line_layout.specs.declared.LineJudged as line-judged
+use Rattle.line_layout.specs.declared.LineJudged.the-variants.{Accepted, Unlisted, Trade, Layout}
 use Rattle.line_layout.specs.Layouts.{layoutRule}
 use Rattle.ingage_spec.specs.Instances.{named, FIRST}
 use Rattle.ingage_answers.specs.declared.Opened.{Opened}
 use Rattle.ingage_answers.specs.declared.Opened.the-variants as opened
 use Rattle.ingage_answers.specs.Answers.{OpenCall, openNamed}
-use Rattle.read_open.specs.declared.Found.{Found}
-use Rattle.read_open.specs.declared.Found.the-variants as found
+use Rattle.read_open.specs.declared.OpenedLine.{OpenedLine}
+use Rattle.read_open.specs.declared.OpenedLine.the-variants as found
 
 -- by the rule of a line and its layout, with the count: 9, 13, 17
-abbrev pub byRule : line-judged.Judged → ℕ → Found
+abbrev pub byRule : line-judged.LineJudged → ℕ → OpenedLine
 byRule Unlisted n = found.Unlisted n
 byRule Trade n = found.Trade n
 byRule Layout n = found.Layout n
 byRule Accepted n = found.Line n
 
 -- by what `open` answers, of the bytes that it left
-abbrev pub foundBy : layouts.Layout → Opened → List ℕ → Found
+abbrev pub foundBy : layouts.Layout → Opened → List ℕ → OpenedLine
 foundBy l (opened.Done n) s = byRule (layoutRule l s) n
 foundBy l opened.Instance s = found.Sizes
 foundBy l opened.Sizes s = found.Sizes
@@ -35,7 +35,7 @@ foundBy l opened.NoRoom s = found.Sizes
 foundBy l (opened.Seal n) s = found.Seal n
 
 -- a line that is given goes over the buffer's start; nothing else is written
-abbrev pub lineBy : Found → List ℕ → List ℕ → List ℕ
+abbrev pub lineBy : OpenedLine → List ℕ → List ℕ → List ℕ
 lineBy found.Sizes s o = o
 lineBy (found.Seal n) s o = o
 lineBy (found.Unlisted n) s o = o
@@ -44,10 +44,10 @@ lineBy (found.Layout n) s o = o
 lineBy (found.Line n) s o = copied s o
 
 pub record LineCall : Type 0 where
-  pub answer : Found
+  pub answer : OpenedLine
   pub line : List ℕ
 
-abbrev pub lineCall : Found → List ℕ → List ℕ → LineCall
+abbrev pub lineCall : OpenedLine → List ℕ → List ℕ → LineCall
 lineCall f s o = record { answer = f; line = lineBy f s o }
 
 -- the text found, as long as the ciphertext
@@ -70,7 +70,7 @@ openLine l key nonce A C T o =
     (openBeside l key nonce A C T (replicate longest 0) o))
 
 -- the number of each answer
-abbrev pub foundNumber : Found → ℕ
+abbrev pub foundNumber : OpenedLine → ℕ
 foundNumber found.Sizes = 2
 foundNumber (found.Seal n) = 5
 foundNumber (found.Unlisted n) = 9

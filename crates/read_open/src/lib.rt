@@ -14,7 +14,7 @@ use line_layout::Layout;
 use line_layout::judge_line;
 
 // What opening a sealed line finds; all but Sizes with the calls of the permutation made.
-pub enum Found {
+pub enum OpenedLine {
     // Nothing is opened: key, nonce, associated data, ciphertext, seal or buffer is not of a size that a frame's has.
     Sizes,
     // The seal is not the one worked out.
@@ -37,24 +37,24 @@ fn hand_out(found: &[u8], line: &mut [u8])
 }
 
 // Judges what was opened: the answer of `open`, and the bytes that it left. The caller's buffer is written only where a line is given.
-fn judge_opened(opened: Opened, layout: Layout, found: &[u8], line: &mut [u8]) -> Found
+fn judge_opened(opened: Opened, layout: Layout, found: &[u8], line: &mut [u8]) -> OpenedLine
     ensures { λ r. ⌜ r ≡ foundBy layout opened (now (found .entry)) ⌝ }
     ensures { λ _. ⌜ now (line .exit) ≡ lineBy (foundBy layout opened (now (found .entry))) (now (found .entry)) (now (line .entry)) ⌝ }
 {
     match opened {
-        Opened::Seal(calls) => return Found::Seal(calls),
+        Opened::Seal(calls) => return OpenedLine::Seal(calls),
         Opened::Done(calls) => {
             match judge_line(layout, found) {
-                line_layout::Judged::Unlisted => return Found::Unlisted(calls),
-                line_layout::Judged::Trade => return Found::Trade(calls),
-                line_layout::Judged::Layout => return Found::Layout(calls),
-                line_layout::Judged::Accepted => {
+                line_layout::LineJudged::Unlisted => return OpenedLine::Unlisted(calls),
+                line_layout::LineJudged::Trade => return OpenedLine::Trade(calls),
+                line_layout::LineJudged::Layout => return OpenedLine::Layout(calls),
+                line_layout::LineJudged::Accepted => {
                     hand_out(found, line);
-                    return Found::Line(calls);
+                    return OpenedLine::Line(calls);
                 }
             }
         }
-        _ => return Found::Sizes,
+        _ => return OpenedLine::Sizes,
     }
 }
 
@@ -68,7 +68,7 @@ fn open_beside(
     seal: &[u8],
     text: &mut [u8],
     line: &mut [u8],
-) -> Found
+) -> OpenedLine
     requires { ⌜ length (now cipher) ≤ length (now text) ⌝ }
     ensures answer { λ r. ⌜ r ≡ openBeside layout (now (key .entry)) (now (nonce .entry)) (now (assoc .entry)) (now (cipher .entry)) (now (seal .entry))
         (now (text .entry)) (now (line .entry)) .answer ⌝ }
@@ -88,17 +88,17 @@ pub fn open_line(
     cipher: &[u8],
     seal: &[u8],
     line: &mut [u8],
-) -> Found
+) -> OpenedLine
     ensures answer { λ r. ⌜ r ≡ openLine layout (now (key .entry)) (now (nonce .entry)) (now (assoc .entry)) (now (cipher .entry)) (now (seal .entry))
         (now (line .entry)) .answer ⌝ }
     ensures line { λ _. ⌜ now (line .exit) ≡ openLine layout (now (key .entry)) (now (nonce .entry)) (now (assoc .entry)) (now (cipher .entry))
         (now (seal .entry)) (now (line .entry)) .line ⌝ }
 {
     if cipher.len() > LONGEST_LINE {
-        return Found::Sizes;
+        return OpenedLine::Sizes;
     }
     if line.len() < cipher.len() {
-        return Found::Sizes;
+        return OpenedLine::Sizes;
     }
     let mut text = [0u8; LONGEST_LINE];
     open_beside(layout, key, nonce, assoc, cipher, seal, &mut text, line)

@@ -13,8 +13,8 @@ use Rattle.base_lists.specs.Sameness.{same-refl}
 use Rattle.frame_stuff_spec.specs.Stuffing.{unstuffed}
 use Rattle.frame_stuff_spec.specs.Bytes.{unstuffed-below}
 use Rattle.line_layout.specs.declared.Layout as layouts
-use Rattle.line_layout.specs.declared.Judged as line-judged
-use Rattle.line_layout.specs.declared.Judged.the-variants.{Accepted, Unlisted, Trade, Layout}
+use Rattle.line_layout.specs.declared.LineJudged as line-judged
+use Rattle.line_layout.specs.declared.LineJudged.the-variants.{Accepted, Unlisted, Trade, Layout}
 use Rattle.line_layout.specs.Layouts.{layoutRule}
 use Rattle.ingage_spec.specs.Instances.{first}
 use Rattle.ingage_spec.specs.Cipher.{Work, decrypted, accepted}
@@ -83,7 +83,7 @@ sealed-work l own key A cipher T = by-seal (accepted (w .seal) T)
     w : Work
     w = decrypted first key (own .nonce) A cipher
 
-    by-rule : (r : line-judged.Judged) → callsIn (byRule r own w) ≡ w .calls
+    by-rule : (r : line-judged.LineJudged) → callsIn (byRule r own w) ≡ w .calls
     by-rule Accepted = refl
     by-rule Unlisted = refl
     by-rule Trade = refl

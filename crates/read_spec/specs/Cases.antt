@@ -13,8 +13,8 @@ use Rattle.base_lists.specs.Sameness.{same-refl, same-eq}
 use Rattle.frame_stuff_spec.specs.Stuffing.{longestStretch, unstuffed, WellStuffed}
 use Rattle.frame_stuff_spec.specs.GoodStuffing.{well-or-not}
 use Rattle.frame_stuff_spec.specs.Outcomes.{length-too-long, length-bad, length-good}
-use Rattle.line_layout.specs.declared.Judged as line-judged
-use Rattle.line_layout.specs.declared.Judged.the-variants.{Accepted, Unlisted, Trade, Layout}
+use Rattle.line_layout.specs.declared.LineJudged as line-judged
+use Rattle.line_layout.specs.declared.LineJudged.the-variants.{Accepted, Unlisted, Trade, Layout}
 use Rattle.line_layout.specs.Layouts.{layoutRule}
 use Rattle.ingage_spec.specs.Instances.{first}
 use Rattle.ingage_spec.specs.Cipher.{Work, decrypted}
@@ -88,7 +88,7 @@ judge-line t ed s own cipher h a =
 
 module _ (t : Told) (ed : ℕ) (s : List ℕ) where
   line-case : (own : Own) (cipher : List ℕ) → Holds ed s own (t .font) cipher (opening t own (t .font) cipher .seal)
-      → (r : line-judged.Judged) → layoutRule (t .layout) (opening t own (t .font) cipher .text) ≡ r
+      → (r : line-judged.LineJudged) → layoutRule (t .layout) (opening t own (t .font) cipher .text) ≡ r
       → Case t ed s (byRule r own (opening t own (t .font) cipher))
   line-case own cipher h Accepted e = given own cipher h e
   line-case own cipher h Unlisted e = not-listed own cipher h e

@@ -9,8 +9,8 @@ use Rattle.frame_stuff_spec.specs.declared.Unstuffed.the-variants as unstuffed-
 use Rattle.frame_stuff_spec.specs.Stuffing.{unstuffed}
 use Rattle.frame_stuff_spec.specs.Answers.{lengthAnswer}
 use Rattle.line_layout.specs.declared.Layout as layouts
-use Rattle.line_layout.specs.declared.Judged as line-judged
-use Rattle.line_layout.specs.declared.Judged.the-variants.{Accepted, Unlisted, Trade, Layout}
+use Rattle.line_layout.specs.declared.LineJudged as line-judged
+use Rattle.line_layout.specs.declared.LineJudged.the-variants.{Accepted, Unlisted, Trade, Layout}
 use Rattle.line_layout.specs.Layouts.{layoutRule}
 use Rattle.ingage_spec.specs.Instances.{first}
 use Rattle.ingage_spec.specs.Cipher.{Work, decrypted, accepted}
@@ -20,7 +20,7 @@ use Rattle.read_spec.specs.Editions.{among}
 use Rattle.read_spec.specs.Judged.{Judged, shape, stuffing, font, seal, unlisted, trade, layout, line}
 
 -- by the rule of a line and its layout: 9, 13, 17
-abbrev pub byRule : line-judged.Judged → Own → Work → Judged
+abbrev pub byRule : line-judged.LineJudged → Own → Work → Judged
 byRule Unlisted own w = unlisted (w .calls)
 byRule Trade own w = trade (w .calls)
 byRule Layout own w = layout (w .calls)

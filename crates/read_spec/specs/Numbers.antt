@@ -7,8 +7,8 @@ use Rattle.base_lists.specs.Sameness.{same-refl}
 use Rattle.frame_stuff_spec.specs.Stuffing.{unstuffed}
 use Rattle.frame_stuff_spec.specs.Answers.{lengthAnswer, unstuffNumber}
 use Rattle.frame_stuff_spec.specs.Outcomes.{length-too-long, length-bad, length-good}
-use Rattle.line_layout.specs.declared.Judged as line-judged
-use Rattle.line_layout.specs.declared.Judged.the-variants.{Accepted, Unlisted, Trade, Layout}
+use Rattle.line_layout.specs.declared.LineJudged as line-judged
+use Rattle.line_layout.specs.declared.LineJudged.the-variants.{Accepted, Unlisted, Trade, Layout}
 use Rattle.line_layout.specs.Layouts as lines
 use Rattle.line_layout.specs.Layouts.{layoutRule}
 use Rattle.ingage_spec.specs.Cipher.{Work}
@@ -51,13 +51,13 @@ module _ (t : Told) (ed : ℕ) (s : List ℕ) where
 
   -- a stretch whose font and seal are right: 9, 13, 17, or a line
   pub line-number : (own : Own) (cipher : List ℕ) → Holds ed s own (t .font) cipher (opening t own (t .font) cipher .seal)
-      → numberIn (judge t ed s) ≡ lines.numberOf (layoutRule (t .layout) (opening t own (t .font) cipher .text))
+      → numberIn (judge t ed s) ≡ lines.lineNumber (layoutRule (t .layout) (opening t own (t .font) cipher .text))
   unfolding judgeSealed
   line-number own cipher h =
       let w = opening t own (t .font) cipher in
       ap numberIn (judge-holds t ed s h) ∙ rw (same-refl (t .font), same-refl (w .seal)) (by-rule (layoutRule (t .layout) (w .text)) own w)
     where
-      by-rule : (r : line-judged.Judged) (own : Own) (w : Work) → numberIn (byRule r own w) ≡ lines.numberOf r
+      by-rule : (r : line-judged.LineJudged) (own : Own) (w : Work) → numberIn (byRule r own w) ≡ lines.lineNumber r
       by-rule Accepted own w = refl
       by-rule Unlisted own w = refl
       by-rule Trade own w = refl

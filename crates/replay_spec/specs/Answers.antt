@@ -102,10 +102,10 @@ stoodOut t ed trace n o =
     (over (replayedTo (n - 1) t ed trace .stream) o))
 
 -- the number of each answer (document 01, 'Numbers returned'; order W11)
-abbrev pub numberOf : Answer → ℕ
-numberOf Done = 0
-numberOf Sizes = 2
-numberOf NoRoom = 4
-numberOf Field = 20
-numberOf NoLine = 21
-numberOf TooLong = 3
+abbrev pub replayNumber : Answer → ℕ
+replayNumber Done = 0
+replayNumber Sizes = 2
+replayNumber NoRoom = 4
+replayNumber Field = 20
+replayNumber NoLine = 21
+replayNumber TooLong = 3

@@ -17,7 +17,7 @@ use Rattle.read_readings.specs.Readings.{ends}
 use Rattle.read_call.specs.declared.Reading.{Reading}
 use Rattle.read_call.specs.declared.Answer.the-variants as answer-is
 use Rattle.read_call.specs.Answers.{longestStream, sizedTold, Found, call, stretch, found, readingOf}
-use Rattle.read_call.specs.Answers.{buffer, answerOf, lineOver, numberOf, lengthOf, readAnswer, readOut}
+use Rattle.read_call.specs.Answers.{buffer, answerOf, lineOver, answerNumber, lengthOf, readAnswer, readOut}
 use Rattle.demand_reading.specs.Promises.{Seen}
 use Rattle.demand_reading.specs.Resync.{seen-at, sized}
 use Rattle.demand_reading.specs.GivenWritten.{told-sized}
@@ -131,7 +131,7 @@ module _ (t : Told) (ed : ℕ) (s : List ℕ) (c : Cursor) (o l : List ℕ) (y :
 
   -- the row of a stretch
   pub row-given : (r .first ≡ r .closing → ⊥) → length l′ ≤ longest → {n m : ℕ} {p : Put} {o′ : List ℕ} {a : Listed} {c′ : Cursor}
-      → n ≡ numberOf (r .answer) → m ≡ lengthOf (r .answer)
+      → n ≡ answerNumber (r .answer) → m ≡ lengthOf (r .answer)
       → p ≡ rowAnswer (r .first) n (take (m - 0) l′) o → o′ ≡ rowOut (r .first) n (take (m - 0) l′) o
       → a ≡ listedBy p → c′ ≡ countedOn c n (r .closing) → Gives (nextGiven t ed s c) o (record { answer = a; cursor = c′ }) o′
   unfolding nextGiven step
@@ -143,7 +143,7 @@ module _ (t : Told) (ed : ℕ) (s : List ℕ) (c : Cursor) (o l : List ℕ) (y :
           let seen = seen-at 0 there judged l in
           let first-is : r .first ≡ there .first = ap (λ (x : Reading). x .first) w in
           let closing-is : r .closing ≡ there .closing = ap (λ (x : Reading). x .closing) w in
-          let number-is : n ≡ numberIn judged = ne ∙ ap (λ (x : Reading). numberOf (x .answer)) w ∙ ap (λ (x : Seen). x .number) seen in
+          let number-is : n ≡ numberIn judged = ne ∙ ap (λ (x : Reading). answerNumber (x .answer)) w ∙ ap (λ (x : Seen). x .number) seen in
           let length-is : m - 0 ≡ lengthOf (answerOf judged) = let z : m ≡ lengthOf (answerOf judged) = me ∙ ap (λ (x : Reading). lengthOf (x .answer)) w in
           omega (arith, z) in
           let line-is : take (m - 0) l′ ≡ lineIn judged = ap₂ take length-is v ∙ ap (λ (x : Seen). x .line) seen in

@@ -24,7 +24,7 @@ use Rattle.read_spec.specs.Sizes.{Sizes}
 use Rattle.read_readings.specs.Readings.{Reading, reading, ends, readings, readings-step}
 use Rattle.read_call.specs.Answers.{longestStream}
 use Rattle.tool_row.specs.Rows.{lastRowText, rowRoom}
-use Rattle.tool_listing.specs.Listing.{readingRow, numberOf, zerosIn, othersIn, joined, listingOf, judgedFor, listing}
+use Rattle.tool_listing.specs.Listing.{readingRow, rowNumber, zerosIn, othersIn, joined, listingOf, judgedFor, listing}
 use Rattle.tool_listing.specs.Steps.{cursorAt, startCursor, oneMore, countedOn, endedAt, Given, refusal}
 use Rattle.tool_listing.specs.Steps.{rowGiven, stepOf, nextReading, readingGiven, given, Ready, listedLength}
 use Rattle.tool_listing.specs.Going.{given-is, next-is}
@@ -70,21 +70,21 @@ module _ (judge : List ℕ → Judged) (s : List ℕ) where
 -- the rows of readings and the last row, where so many lines and refusals came before them
 abbrev pub listedFrom : ℕ → ℕ → List Reading → List ℕ
 listedFrom lines refused rs =
-    joined (map readingRow rs) ++ lastRowText (lines + zerosIn (map numberOf rs)) (refused + othersIn (map numberOf rs))
+    joined (map readingRow rs) ++ lastRowText (lines + zerosIn (map rowNumber rs)) (refused + othersIn (map rowNumber rs))
 
 small : (n k : ℕ) → n + suc k < 2 ^ 64 → oneMore n ≡ n + 1
 small n k h = mod-eq-of-lt (omega (arith, h))
 
 -- one row before others, counted
 module _ (r : Reading) (rs : List Reading) (lines refused : ℕ) where
-  one-row : (l f : ℕ) → l + zerosIn (map numberOf rs) ≡ lines + zerosIn (numberOf r ∷ map numberOf rs)
-      → f + othersIn (map numberOf rs) ≡ refused + othersIn (numberOf r ∷ map numberOf rs)
+  one-row : (l f : ℕ) → l + zerosIn (map rowNumber rs) ≡ lines + zerosIn (rowNumber r ∷ map rowNumber rs)
+      → f + othersIn (map rowNumber rs) ≡ refused + othersIn (rowNumber r ∷ map rowNumber rs)
       → readingRow r ++ listedFrom l f rs ≡ listedFrom lines refused (r ∷ rs)
   unfolding joined
   one-row l f p q =
       ap₂ (λ (a b : ℕ). readingRow r ++ (joined (map readingRow rs) ++ lastRowText a b)) p q
-      ∙ sym (append-assoc (readingRow r) (joined (map readingRow rs)) (lastRowText (lines + zerosIn (numberOf r ∷ map numberOf rs))
-      (refused + othersIn (numberOf r ∷ map numberOf rs))))
+      ∙ sym (append-assoc (readingRow r) (joined (map readingRow rs)) (lastRowText (lines + zerosIn (rowNumber r ∷ map rowNumber rs))
+      (refused + othersIn (rowNumber r ∷ map rowNumber rs))))
 
 module _ (key font : List ℕ) (ed : ℕ) (lay : Layout) (s : List ℕ) (z : Sizes (told key font lay)) (h : length s ≤ longestStream) where
   ready : (c : Cursor) (room : ℕ) → c .place ≤ length s → rowRoom ≤ room → Ready (told key font lay) s c room
@@ -140,11 +140,11 @@ module _ (key font : List ℕ) (ed : ℕ) (lay : Layout) (s : List ℕ) (z : Siz
           refl ∙ next-is (told key font lay) ed s (cursorAt place lines refused false) y k
 
       -- behind a stretch's row: one line more, or one refusal more
-      counted : ends (nextSpan s place) ≡ false → (v : Bool) → eqb (numberOf (nextReading (told key font lay) ed s place)) 0 ≡ v
+      counted : ends (nextSpan s place) ≡ false → (v : Bool) → eqb (rowNumber (nextReading (told key font lay) ed s place)) 0 ≡ v
           → take (listedLength (r .answer)) o′ ++ rest ≡ listedFrom lines refused (reads place)
       counted k true v =
           let w = readingRow (nextReading (told key font lay) ed s place) in
-          let x = row-written c o o′ r w (countedOn (cursorAt place lines refused false) (numberOf (nextReading (told key font lay) ed s place))
+          let x = row-written c o o′ r w (countedOn (cursorAt place lines refused false) (rowNumber (nextReading (told key font lay) ed s place))
           (nextSpan s place .closing)) (is-given false k) p in
           let all = reads-is place false k in
           let long : length (reads place) ≡ suc (length (reads (nextSpan s place .closing))) = ap length all in
@@ -157,7 +157,7 @@ module _ (key font : List ℕ) (ed : ℕ) (lay : Layout) (s : List ℕ) (z : Siz
           ∙ sym (ap (listedFrom lines refused) all)
       counted k false v =
           let w = readingRow (nextReading (told key font lay) ed s place) in
-          let x = row-written c o o′ r w (countedOn (cursorAt place lines refused false) (numberOf (nextReading (told key font lay) ed s place))
+          let x = row-written c o o′ r w (countedOn (cursorAt place lines refused false) (rowNumber (nextReading (told key font lay) ed s place))
           (nextSpan s place .closing)) (is-given false k) p in
           let all = reads-is place false k in
           let long : length (reads place) ≡ suc (length (reads (nextSpan s place .closing))) = ap length all in
@@ -176,7 +176,7 @@ module _ (key font : List ℕ) (ed : ℕ) (lay : Layout) (s : List ℕ) (z : Siz
           let l : lines + 0 ≡ lines = omega arith in
           let m : refused + 0 ≡ refused = omega arith in
           ap₂ _++_ (x .0) i ∙ append-nil (lastRowText lines refused) ∙ rw (reads-is place true k, l, m) refl
-      by false k = counted k (eqb (numberOf (nextReading (told key font lay) ed s place)) 0) refl
+      by false k = counted k (eqb (rowNumber (nextReading (told key font lay) ed s place)) 0) refl
 
   -- calls from a cursor until the last row was given
   pub rows-from : {n : ℕ} {w : List ℕ} {c c′ : Cursor} (place lines refused : ℕ) → c ≡ cursorAt place lines refused false → place ≤ length s
@@ -192,8 +192,8 @@ module _ (key font : List ℕ) (ed : ℕ) (lay : Layout) (s : List ℕ) (z : Siz
   rows-join q u =
       let many = many-in (judgedFor (told key font lay) ed) s (length s) 0 (omega arith) (omega arith) in
       let few : 0 + length (reads 0) < 2 ^ 64 = omega (arith, many, h) in
-      let l : 0 + zerosIn (map numberOf (reads 0)) ≡ zerosIn (map numberOf (reads 0)) = omega arith in
-      let m : 0 + othersIn (map numberOf (reads 0)) ≡ othersIn (map numberOf (reads 0)) = omega arith in
+      let l : 0 + zerosIn (map rowNumber (reads 0)) ≡ zerosIn (map rowNumber (reads 0)) = omega arith in
+      let m : 0 + othersIn (map rowNumber (reads 0)) ≡ othersIn (map rowNumber (reads 0)) = omega arith in
       rows-from 0 0 0 refl (omega arith) few few q u ∙ rw (l, m) refl
 
   -- a call that gives a row and not the last one goes on
@@ -214,10 +214,10 @@ module _ (key font : List ℕ) (ed : ℕ) (lay : Layout) (s : List ℕ) (z : Siz
           stop (rw (x .1) (omega arith)) (ap (λ (v : Cursor). v .ended) (x .1))
       within false e y =
           let x = row-written c o o′ r (readingRow (nextReading (told key font lay) ed s (c .place)))
-          (countedOn c (numberOf (nextReading (told key font lay) ed s (c .place))) (nextSpan s (c .place) .closing))
+          (countedOn c (rowNumber (nextReading (told key font lay) ed s (c .place))) (nextSpan s (c .place) .closing))
           (given-is (told key font lay) ed s c (length o) (ready c (length o) f g) false e ∙ next-is (told key font lay) ed s c false y) p in
           let at : r .cursor .place ≡ nextSpan s (c .place) .closing = ap (λ (v : Cursor). v .place) (x .1)
-          ∙ counted-place (eqb (numberOf (nextReading (told key font lay) ed s (c .place))) 0) (numberOf (nextReading (told key font lay) ed s (c .place)))
+          ∙ counted-place (eqb (rowNumber (nextReading (told key font lay) ed s (c .place))) 0) (rowNumber (nextReading (told key font lay) ed s (c .place)))
           (nextSpan s (c .place) .closing) refl in
           on (omega (arith, at, moves s (c .place) y .1)) (omega (arith, at, k, moves s (c .place) y .0))
 

@@ -17,8 +17,8 @@ use Rattle.tool_row.specs.Rows.{rowText, lastRowText}
 abbrev pub readingRow : Reading → List ℕ
 readingRow r = rowText (r .place .first) (numberIn (r .judged)) (lineIn (r .judged))
 
-abbrev pub numberOf : Reading → ℕ
-numberOf r = numberIn (r .judged)
+abbrev pub rowNumber : Reading → ℕ
+rowNumber r = numberIn (r .judged)
 
 -- how many of some numbers are 0, and how many are not
 unfoldable pub zerosIn : List ℕ → ℕ
@@ -36,7 +36,7 @@ joined (w ∷ l) = w ++ joined l
 
 -- the listing of readings
 unfoldable pub listingOf : List Reading → List ℕ
-listingOf rs = joined (map readingRow rs) ++ lastRowText (zerosIn (map numberOf rs)) (othersIn (map numberOf rs))
+listingOf rs = joined (map readingRow rs) ++ lastRowText (zerosIn (map rowNumber rs)) (othersIn (map rowNumber rs))
 
 -- what is asked at each reading: these editions, this layout, and all the work that a stretch takes
 abbrev pub allAsked : ℕ → Layout → Asked

@@ -24,7 +24,7 @@ use Rattle.demand_reading.specs.Resync.{seen-at, sized}
 use Rattle.demand_reading.specs.Reaching.{Ended, at-end, before-end}
 use Rattle.demand_reading.specs.GivenWritten.{told-sized}
 use Rattle.tool_row.specs.Rows.{rowText, lastRowText}
-use Rattle.tool_listing.specs.Listing.{readingRow, numberOf, zerosIn, othersIn, joined, listingOf, allAsked, judgedFor, listing}
+use Rattle.tool_listing.specs.Listing.{readingRow, rowNumber, zerosIn, othersIn, joined, listingOf, allAsked, judgedFor, listing}
 use Rattle.tool_listing.specs.Steps.{nextReading}
 
 -- what is seen before the end
@@ -57,7 +57,7 @@ seen-row [] = refl
 seen-row (r ∷ rs) = let z : r .place .first ≡ r .place .first - 0 = omega arith in
     ap₂ _∷_ (ap (λ (n : ℕ). rowText n (numberIn (r .judged)) (lineIn (r .judged))) z) (seen-row rs)
 
-seen-number : (rs : List Reading) → map numberOf rs ≡ map seenNumber (map seenOf rs)
+seen-number : (rs : List Reading) → map rowNumber rs ≡ map seenNumber (map seenOf rs)
 seen-number [] = refl
 seen-number (r ∷ rs) = ap (λ (l : List ℕ). numberIn (r .judged) ∷ l) (seen-number rs)
 
@@ -109,7 +109,7 @@ module _ (key font : List ℕ) (ed : ℕ) (lay : Layout) (s : List ℕ) (z : Siz
 
   -- one row for each reading before the end, in order, and its number
   pub rows-seen : {seen : List Seen} → Run key font (allAsked ed lay) s 0 0 seen → Ended seen
-      → (map readingRow (reads 0) ≡ map seenRow (stretchesIn seen)) × (map numberOf (reads 0) ≡ map seenNumber (stretchesIn seen))
+      → (map readingRow (reads 0) ≡ map seenRow (stretchesIn seen)) × (map rowNumber (reads 0) ≡ map seenNumber (stretchesIn seen))
   rows-seen q k =
       let e = run-seen 0 (omega arith) q k in (
         seen-row (reads 0) ∙ ap (map seenRow) (sym e),

@@ -14,7 +14,7 @@ use Rattle.read_call.specs.Answers.{longestStream, sizedTold}
 use Rattle.tool_row.specs.Rows.{rowRoom, lastRowText}
 use Rattle.tool_row.specs.declared.Put as put
 use Rattle.tool_row.specs.declared.Put.the-variants as put-is
-use Rattle.tool_listing.specs.Listing.{readingRow, numberOf, judgedFor}
+use Rattle.tool_listing.specs.Listing.{readingRow, rowNumber, judgedFor}
 use Rattle.tool_listing.specs.declared.Cursor.{Cursor}
 use Rattle.tool_listing.specs.declared.Listed.{Listed}
 use Rattle.tool_listing.specs.declared.Listed.the-variants.{TooLong, NoRoom, Beyond, Over, Row}
@@ -61,7 +61,7 @@ nextReading t ed s from = reading (nextSpan s from) (judgedFor t ed (nextStretch
 
 -- the row of a reading, which is counted, and the next cursor at its closing mark
 abbrev pub readingGiven : Cursor → Reading → Given
-readingGiven c r = rowGiven (readingRow r) (countedOn c (numberOf r) (r .place .closing))
+readingGiven c r = rowGiven (readingRow r) (countedOn c (rowNumber r) (r .place .closing))
 
 unfoldable pub nextGiven : Told → ℕ → List ℕ → Cursor → Given
 nextGiven t ed s c =

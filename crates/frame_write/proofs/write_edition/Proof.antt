@@ -12,7 +12,7 @@ use Rattle.frame_spec.specs.Lengths.{Sealable}
 use Rattle.frame_spec.specs.Frames.{sealedBody}
 use Rattle.frame_spec.specs.AnyLayout.{sealable-under}
 use Rattle.line_layout.specs.declared.Layout.the-variants.{Neither}
-use Rattle.line_layout.specs.declared.Judged.the-variants as line-is
+use Rattle.line_layout.specs.declared.LineJudged.the-variants as line-is
 use Rattle.line_layout.specs.Layouts.{layoutRule}
 use Rattle.frame_body.specs.declared.Edition.the-variants.{One}
 use Rattle.frame_body.specs.Fields.{Own, ownOf}
