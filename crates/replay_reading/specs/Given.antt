@@ -37,7 +37,7 @@ abbrev pub linesSeen : List Seen → List (List ℕ)
 linesSeen [] = []
 linesSeen (v ∷ l) = cond (v .ended) (linesSeen l) (cond (eqb (v .number) 0) (v .line ∷ linesSeen l) (linesSeen l))
 
-line-seen : (j : Judged) (l : List (List ℕ)) → cond (eqb (numberIn j) 0) (lineIn j ∷ l) l ≡ ahead (givenBy j) l
+pub line-seen : (j : Judged) (l : List (List ℕ)) → cond (eqb (numberIn j) 0) (lineIn j ∷ l) l ≡ ahead (givenBy j) l
 line-seen shape l = refl
 line-seen stuffing l = refl
 line-seen font l = refl

@@ -2,3 +2,4 @@ pub mod Order
 pub mod Streams
 pub mod Given
 pub mod Requests
+pub mod Written

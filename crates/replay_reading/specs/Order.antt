@@ -45,7 +45,7 @@ pub lines-append : (a b : List Reading) → linesIn (a ++ b) ≡ linesIn a ++ li
 lines-append [] b = refl
 lines-append (r ∷ a) b = ap (ahead (givenBy (r .judged))) (lines-append a b) ∙ ahead-append (givenBy (r .judged)) (linesIn a) (linesIn b)
 
-line-behind : (g l : List (List ℕ)) → lineAt (length g) (g ++ l) ≡ lineAt 0 l
+pub line-behind : (g l : List (List ℕ)) → lineAt (length g) (g ++ l) ≡ lineAt 0 l
 line-behind [] l = refl
 line-behind (x ∷ g) l = line-behind g l
 
