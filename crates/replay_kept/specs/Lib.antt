@@ -1,0 +1,6 @@
+pub mod Promises
+pub mod Contracts
+pub mod Bytes
+pub mod Stepping
+pub mod Received
+pub mod Differs
