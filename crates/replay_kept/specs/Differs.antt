@@ -3,11 +3,11 @@
 use mathlib.Core.Path.{_≡_, refl, sym, ap, subst, _∙_}
 use mathlib.Core.Bool.{Bool, true, false, not, cond}
 use mathlib.Core.List.{List, [], _∷_, _++_, head-eq-of-cons-eq, tail-eq-of-cons-eq}
-use Prim.Native.Nat.{ℕ, _+_, _≤_}
+use Prim.Native.Nat.{ℕ, _+_}
 use native.Mathlib.Omega.{arith}
-use lib.Dec.{eqb, ltb}
+use lib.Dec.{ltb}
 use lib.ListN.{length}
-use borrow.Author.Tests.{eq-eqb, ne-eqb}
+use borrow.Author.Tests.{ne-eqb}
 use Rattle.base_lists.specs.Never.{never}
 use Rattle.base_lists.specs.Buffers.{same}
 use Rattle.base_lists.specs.Sameness.{same-refl, same-eq}
@@ -23,7 +23,7 @@ use Rattle.replay_spec.specs.declared.Answer.the-variants as answer-is
 use Rattle.replay_spec.specs.declared.Replayed.{Replayed}
 use Rattle.replay_spec.specs.Events.{events, bytesOf}
 use Rattle.replay_spec.specs.Press.{Given, nothing, gives, Press, press, start, counted, faulty, receive, ask, firstOf, printOn, does, isDone, step, turn, run}
-use Rattle.replay_spec.specs.Runs.{step-counts, turn-done, run-stays}
+use Rattle.replay_spec.specs.Runs.{step-counts, turn-done}
 use Rattle.replay_spec.specs.Answers.{judging, replayed, replayedAs, answerOf, replayAnswer, numberOf}
 use Rattle.replay_kept.specs.Promises.{Replays}
 use Rattle.replay_kept.specs.Stepping.{done-before}

@@ -4,3 +4,5 @@ pub mod Bytes
 pub mod Stepping
 pub mod Received
 pub mod Differs
+pub mod Shown
+pub mod InOrder

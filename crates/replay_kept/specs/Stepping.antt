@@ -15,7 +15,7 @@ use Rattle.replay_spec.specs.declared.Kind.the-variants.{Received, Asked, Print
 use Rattle.replay_spec.specs.declared.Event.{Event}
 use Rattle.replay_spec.specs.declared.Answer.the-variants.{TooLong}
 use Rattle.replay_spec.specs.Events.{bytesOf}
-use Rattle.replay_spec.specs.Press.{Given, nothing, gives, Press, press, counted, faulty, receive, ask, printOn, does, isDone, step, turn, run}
+use Rattle.replay_spec.specs.Press.{Given, nothing, gives, Press, press, counted, faulty, receive, ask, printOn, does, isDone, step, run}
 use Rattle.replay_spec.specs.Runs.{step-counts, turn-done, run-append, run-stays}
 
 -- the stream bytes that an event receives, by its kind

@@ -1,8 +1,8 @@
 -- `given-in-order` and `drained` (order W11), from the promise of `read` alone: whatever a trace, each request gives the next line of a whole run of read
 -- calls over the stream received before it, behind the lines given before; and nothing exactly where that run has no more. Assumes nothing.
 use mathlib.Core.Path.{_≡_, refl, sym, ap, _∙_}
-use mathlib.Core.Bool.{Bool, true, false, cond}
-use mathlib.Core.List.{List, [], _∷_, _++_, map}
+use mathlib.Core.Bool.{true, cond}
+use mathlib.Core.List.{List, [], _∷_, _++_}
 use Prim.Native.Nat.{ℕ, zero, suc, _-_, _≤_}
 use native.Mathlib.Omega.{arith}
 use lib.Dec.{eqb}
@@ -10,7 +10,7 @@ use lib.ListN.{length, take, drop}
 use lib.Seq.{take-all}
 use Rattle.base_lists.specs.Below.{Below, below-take, below-drop}
 use Rattle.read_stretch.specs.Stretches.{nextSpan, nextStretch}
-use Rattle.frame_spec.specs.Told.{Told, told}
+use Rattle.frame_spec.specs.Told.{told}
 use Rattle.read_spec.specs.Judged.{Judged, shape, stuffing, font, work, seal, unlisted, trade, layout, line, numberIn, lineIn}
 use Rattle.read_spec.specs.Sizes.{Sizes}
 use Rattle.read_spec.specs.Ceiling.{allWork}
@@ -20,13 +20,13 @@ use Rattle.read_call.specs.declared.Asked.{Asked}
 use Rattle.read_call.specs.Answers.{longestStream, judgedWithin}
 use Rattle.demand_reading.specs.Promises.{Seen}
 use Rattle.demand_reading.specs.Whole.{WholeRun}
-use Rattle.demand_joined.specs.Seeing.{seenOf, theEnd, seenTo, run-readings}
+use Rattle.demand_joined.specs.Seeing.{seenTo, run-readings}
 use Rattle.accept_spec.specs.Readings.{readings-by}
 use Rattle.replay_spec.specs.declared.Kind.{Kind}
 use Rattle.replay_spec.specs.declared.Kind.the-variants as kinds
 use Rattle.replay_spec.specs.declared.Event.{Event}
 use Rattle.replay_spec.specs.Events.{events, bytesOf}
-use Rattle.replay_spec.specs.Press.{Given, nothing, gives, givenBy, request, Press, start, counted, ask, does, isDone, step, turn, run}
+use Rattle.replay_spec.specs.Press.{Given, nothing, givenBy, request, Press, start, counted, ask, does, isDone, step, run}
 use Rattle.replay_spec.specs.Runs.{run-append, turn-done}
 use Rattle.replay_spec.specs.Answers.{judging}
 use Rattle.replay_reading.specs.Order.{ahead, linesIn, lineAt, gave, in-order}

@@ -1,10 +1,10 @@
 -- `request-as-read` (order W11), from the promise of `read` alone: a request gives what read calls from its place meet first, each from where the one before
 -- closed, all the work allowed: a line, with its closing mark as the place; or at the end nothing, and the place is the closing mark of the last stretch
 -- that these calls refused, unchanged where they refused none. Assumes nothing.
-use mathlib.Core.Path.{_≡_, refl, sym, ap, ap₂, subst, _∙_}
-use mathlib.Core.Bool.{Bool, true, false, cond}
-use mathlib.Core.List.{List, [], _∷_, head-eq-of-cons-eq, tail-eq-of-cons-eq}
-use Prim.Native.Nat.{ℕ, _≤_, _<_}
+use mathlib.Core.Path.{_≡_, refl, sym, ap, subst, _∙_}
+use mathlib.Core.Bool.{true, false}
+use mathlib.Core.List.{List, [], _∷_}
+use Prim.Native.Nat.{ℕ, _≤_}
 use native.Mathlib.Omega.{arith}
 use lib.ListN.{length}
 use borrow.Author.Tests.{eq-eqb, ne-eqb}
@@ -22,7 +22,7 @@ use Rattle.read_readings.specs.Readings.{reading, ends}
 use Rattle.read_call.specs.declared.Asked.{Asked}
 use Rattle.read_call.specs.declared.Reading.{Reading}
 use Rattle.read_call.specs.Answers.{longestStream, judgedWithin}
-use Rattle.demand_reading.specs.Promises.{Reads, Seen, seenFrom, Run, none, next}
+use Rattle.demand_reading.specs.Promises.{Reads, Seen, seenFrom, Run, next}
 use Rattle.demand_joined.specs.Seeing.{seenOf, theEnd, end-seen, stretch-seen}
 use Rattle.replay_spec.specs.Press as press-of
 use Rattle.replay_spec.specs.Press.{gives, givenBy, Met, met, orElse, request}

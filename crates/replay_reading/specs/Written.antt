@@ -1,7 +1,7 @@
 -- `replay-given-written` (order W11, demand 3), from the promises of `read` and `write` alone: a line that a request gives is what a write call makes, under
 -- that key and font and some nonce, of a stretch of the stream received before it; and every such line of that stream is one of those that the requests come
 -- to, and was given where a request gives nothing. Assumes nothing.
-use mathlib.Core.Path.{_≡_, refl, sym, ap, subst, _∙_}
+use mathlib.Core.Path.{_≡_, refl, sym, ap, _∙_}
 use mathlib.Core.Bool.{Bool, true, false, cond}
 use mathlib.Core.List.{List, [], _∷_, _++_}
 use Prim.Native.Nat.{ℕ, zero, suc, _-_, _≤_}
@@ -17,7 +17,7 @@ use Rattle.read_stretch.specs.Places as places
 use Rattle.read_stretch.specs.Places.{Next, nothing, something, next-cases}
 use Rattle.frame_body.specs.Fields.{Own}
 use Rattle.frame_body.specs.Lengths.{job-field-most}
-use Rattle.frame_spec.specs.Told.{Told, told}
+use Rattle.frame_spec.specs.Told.{told}
 use Rattle.read_spec.specs.Judged.{Label, labelOf, Judged, shape, stuffing, font, work, seal, unlisted, trade, layout, line, numberIn}
 use Rattle.read_spec.specs.Judging.{judge}
 use Rattle.read_spec.specs.Sizes.{Sizes}
@@ -30,14 +30,14 @@ use Rattle.read_call.specs.Answers.{longestStream, judgedWithin}
 use Rattle.demand_reading.specs.Promises.{Reads, Seen, seenFrom, Run, none, next}
 use Rattle.demand_reading.specs.Written.{given-made}
 use Rattle.demand_reading.specs.GivenWritten.{Made, made-written, written-made}
-use Rattle.demand_reading.specs.EveryLine.{SeenGiven, every-line-given}
+use Rattle.demand_reading.specs.EveryLine.{every-line-given}
 use Rattle.demand_reading.specs.Whole.{WholeRun}
 use Rattle.demand_joined.specs.Seeing.{seenOf, theEnd, end-seen, stretch-seen}
 use Rattle.replay_spec.specs.declared.Kind.the-variants as kinds
 use Rattle.replay_spec.specs.declared.Event.{Event}
 use Rattle.replay_spec.specs.Events.{events}
 use Rattle.replay_spec.specs.Press as press-of
-use Rattle.replay_spec.specs.Press.{Given, gives, givenBy, Press, start, isDone, run}
+use Rattle.replay_spec.specs.Press.{Given, gives, givenBy, start, isDone, run}
 use Rattle.replay_reading.specs.Order.{ahead, lineAt, line-behind, gave}
 use Rattle.replay_reading.specs.Streams.{stream-few, stream-below}
 use Rattle.replay_reading.specs.Given.{linesSeen, line-seen, J, given-in-order, drained}
