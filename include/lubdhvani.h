@@ -8,8 +8,8 @@
  *  - A pointer is to as many bytes as the length behind it says, readable, or writable where it is not const. With a length of 0 the
  *    pointer may be anything, NULL included.
  *  - Buffers that are written overlap no other argument of the call.
- *  - A call that answers a number alone returns it as a uint32_t. Every other call returns a struct by value, all of whose fields are size_t: it has no
- *    padding, and each field is set at every call. The field `number` is one of the numbers below; lubdhvani_next_stretch, lubdhvani_bundle_name,
+ *  - A call that answers a number alone returns it as a uint32_t. Every other call returns a struct by value, whose numbers are size_t (lubdhvani_nonce's is
+ *    a uint32_t): it has no padding, and each field is set at every call. The field `number` is one of the numbers below; lubdhvani_next_stretch, lubdhvani_bundle_name,
  *    lubdhvani_bundle_rows and the look-ups in an index refuse nothing and answer places alone. `calls` are counts of calls of the permutation.
  *  - Refusals are tested in an order, and the first that holds is given:
  *      permute, unpermute           1, 18
@@ -19,6 +19,8 @@
  *      write, write_two             2, 3, 9, 13, 17, 4
  *      read, next                   2, 3, 4, 10, then the stretch: 7 for its length, 6, 7 for its fields, 8, 15, 5, 9, 13, 17
  *      accept                       2, 3, 19, then stretch by stretch: the stretch's own as for read, but 15, then 22
+ *      replay                       2, 4, then event by event: 20, 21 or 3
+ *      stood                        2, 4
  *      to_one, to_two               2, 4, then the stretch: 7 for its length, 6, 7 for its fields, 16, 8, 5, 9, 13, 17
  *      bundle_write / _read / _digest   11, 12, 4 / 11, 12 / 3, 11, 12, 4
  *      index_update                 2, 3, 4, 19 for the count handed in, 10, 19 for the entries that there would be
@@ -26,8 +28,8 @@
  *  - Nothing is changed but what is named; the rest of a longer buffer stays as it was.
  *  - The library has no state of its own: calls on different buffers may run at the same time. Keys and states that a call works with are
  *    not wiped from the stack.
- *  - lubdhvani_read, lubdhvani_next, lubdhvani_to_one, lubdhvani_to_two, lubdhvani_index_update, lubdhvani_accept and lubdhvani_nonce, which read
- *    stretches, run in LUBDHVANI_STACK bytes of stack, every other call in LUBDHVANI_STACK_BUT_READ. This is measured, not proved: tests/stack/run runs each call on a painted stack, with memcpy and memset bound
+ *  - lubdhvani_read, lubdhvani_next, lubdhvani_to_one, lubdhvani_to_two, lubdhvani_index_update, lubdhvani_accept, lubdhvani_nonce, lubdhvani_replay
+ *    and lubdhvani_stood, which read stretches, run in LUBDHVANI_STACK bytes of stack, every other call in LUBDHVANI_STACK_BUT_READ. This is measured, not proved: tests/stack/run runs each call on a painted stack, with memcpy and memset bound
  *    at their first call (the binding takes stack as well) and when the program starts, prints what was used and fails over these figures.
  *    Reading takes the most for a damaged stretch of the greatest length, which is measured byte by byte in calls of its own.
  *
@@ -52,7 +54,7 @@ enum {
     LUBDHVANI_ROUNDS = 32,             /* what the digest runs; the cipher runs these and, after each block, half of them */
     LUBDHVANI_MOST_ROUNDS = 255,       /* the permutation may be run at 1 to 255 rounds */
     LUBDHVANI_DIGEST = 32,             /* a digest, and the least room for one */
-    LUBDHVANI_LONGEST_INPUT = 65536,   /* a message to digest, and a stream to read */
+    LUBDHVANI_LONGEST_INPUT = 65536,   /* a message to digest, and a stream to read; also the least room for the stream of a replay */
     LUBDHVANI_KEY = 16,                /* key and nonce of cipher instance 1, by which frames are sealed; others' stand at lubdhvani_seal */
     LUBDHVANI_NONCE = 12,
     LUBDHVANI_SEAL = 16,               /* of every cipher instance */
@@ -86,7 +88,7 @@ enum {
     LUBDHVANI_UNKNOWN = 1,     /* unknown hash or cipher instance, state size not permitted, or a running digest's record whose instance is unknown
                                   or whose total is over 65,536; its other fields are not judged */
     LUBDHVANI_SIZES = 2,       /* key, nonce, digest, seal, seal buffer or job not of its size: 16, 12, 32, 16, 16, 4 bytes, or the cipher's */
-    LUBDHVANI_TOO_LONG = 3,    /* an input over its limit, or the writer's line not 1 to 65 bytes */
+    LUBDHVANI_TOO_LONG = 3,    /* an input over its limit, the writer's line not 1 to 65 bytes, or an event that takes a replay's stream past its limit */
     LUBDHVANI_NO_ROOM = 4,     /* a buffer too small */
     LUBDHVANI_BAD_SEAL = 5,    /* the seal is not the one worked out */
     LUBDHVANI_BAD_STUFFING = 6,
@@ -103,6 +105,8 @@ enum {
     LUBDHVANI_OTHER_LAYOUT = 17, /* the line is the trade's, but not of the layout named */
     LUBDHVANI_NO_ROUNDS = 18,  /* a count of rounds that is not 1 to 255 */
     LUBDHVANI_TOO_MANY = 19,   /* an index of more than 512 entries, handed in or to come, or a stream of over 512 stretches to accept */
+    LUBDHVANI_BAD_EVENT = 20,  /* no event of a trace: another tag, a field that is cut off, or a request that carries bytes */
+    LUBDHVANI_NO_LINE = 21,    /* an event that prints where no line is given and unprinted */
     LUBDHVANI_REPEATED = 22    /* the nonce of the stretch occurs in a stretch before it */
 };
 
@@ -323,6 +327,63 @@ struct lubdhvani_nonce_found {
  * lubdhvani_read gives a line for is it the nonce that the line was sealed under. */
 struct lubdhvani_nonce_found lubdhvani_nonce(const uint8_t *stretch, size_t stretch_length);
 
+/* Replay: a press records what it received, asked for and printed, and the trace is run again. A trace is events one after the other, each a tag, two
+ * bytes of length (high byte first) and so many bytes:
+ *   0x20  stream bytes received, any number of them, none too: they are added to the stream, which is empty at the start
+ *   0x21  a line asked for, of length 0: the stream as received so far is read on from where the last reading ended, refused stretches are passed over, and
+ *         the first line met is given. None: nothing is given, and the next request reads on from the last closing mark passed, so that a frame that has
+ *         come in part is read when it is whole. A line that was given before and not printed is dropped
+ *   0x22  a line printed, with the printed bytes, any number of them: they are compared whole with the line given, right or wrong, which is printed then
+ * A trace may have any length. The editions are those that a reader allows; every stretch has all the work it takes. */
+enum {
+    LUBDHVANI_RECEIVED = 0x20,
+    LUBDHVANI_ASKED_FOR = 0x21,
+    LUBDHVANI_PRINTED = 0x22
+};
+
+/* What a replay comes to. */
+struct lubdhvani_replayed {
+    size_t number;
+    size_t event;    /* counted from 1 */
+    size_t received; /* how many bytes the stream has */
+};
+
+/* Runs a trace. The stream is gathered in `stream`, of at least 65,536 bytes; a longer buffer raises no limit.
+ * 0: every event was carried out; event is the first that printed other bytes than the line given, 0 where none did.
+ * 20, 21, 3 (the stream would have over 65,536 bytes): event is the first at fault, whatever was printed before it; it takes nothing in, and nothing behind
+ * it is looked at. Within one event 20 comes first.
+ * Then stream[0..received] is what the events before the fault received, all of them where there is none, and the rest of the buffer is as it was.
+ * 2, 4 (room under 65,536): the buffer is untouched, event and received are 0. */
+struct lubdhvani_replayed lubdhvani_replay(const uint8_t *trace, size_t trace_length, const uint8_t *key, size_t key_length, const uint8_t *font,
+                                           size_t font_length, size_t editions, size_t layout, uint8_t *stream, size_t room);
+
+/* What stood at an event. */
+struct lubdhvani_stood_there {
+    size_t number;
+    size_t length;                        /* of the line given, 1 to 65; 0 where no line stood there */
+    size_t place;                         /* the printed bytes are trace[place .. place + printed] */
+    size_t printed;
+    size_t received;                      /* how many bytes the stream has */
+    uint8_t line[LUBDHVANI_LONGEST_LINE]; /* the line given, zeros behind it */
+    uint8_t zeros[7];
+};
+
+/* The line that was given when an event, counted from 1, printed, and where the printed bytes stand in the trace: so a difference that lubdhvani_replay found
+ * can be shown. A line stood there exactly if that event prints and neither it nor one before it is at fault.
+ * 0: length, line, place and printed tell it, and are all zero where none stood there. stream[0..received] is what was received before that event, or before
+ * the first at fault where that comes earlier; the rest is as it was. Event 0 has none before it; an event behind the last has all before it.
+ * 2, 4 (room under 65,536): the buffer is untouched, all else is 0.
+ *
+ *     static uint8_t stream[LUBDHVANI_LONGEST_INPUT];
+ *     struct lubdhvani_replayed r = lubdhvani_replay(trace, n, key, 16, font, 32, LUBDHVANI_EDITION_ONE, LUBDHVANI_LAYOUT_NEITHER, stream, sizeof stream);
+ *     if (r.number == LUBDHVANI_DONE && r.event != 0) {
+ *         struct lubdhvani_stood_there s = lubdhvani_stood(trace, n, r.event, key, 16, font, 32, LUBDHVANI_EDITION_ONE, LUBDHVANI_LAYOUT_NEITHER, stream,
+ *                                                          sizeof stream);
+ *         show(s.line, s.length, trace + s.place, s.printed);
+ *     } */
+struct lubdhvani_stood_there lubdhvani_stood(const uint8_t *trace, size_t trace_length, size_t event, const uint8_t *key, size_t key_length,
+                                             const uint8_t *font, size_t font_length, size_t editions, size_t layout, uint8_t *stream, size_t room);
+
 /* Glyph bundles: a font as a name and fourteen glyphs of nine rows. A bundle is the tag 0x10, two bytes of length (high byte first) and the name;
  * then for each character 0 to 9, A to D the tag 0x12, two bytes of length, which is ten, the character byte and its nine rows. No two glyphs
  * have the same dots. Its font digest is the digest of the whole bundle with instance 1. */
@@ -427,6 +488,8 @@ _Static_assert(sizeof(struct lubdhvani_entry) == 3 * sizeof(size_t), "no padding
 _Static_assert(sizeof(struct lubdhvani_entry_line) == 3 * sizeof(size_t), "no padding");
 _Static_assert(sizeof(struct lubdhvani_accepted) == 3 * sizeof(size_t), "no padding");
 _Static_assert(sizeof(struct lubdhvani_nonce_found) == 16, "no padding");
+_Static_assert(sizeof(struct lubdhvani_replayed) == 3 * sizeof(size_t), "no padding");
+_Static_assert(sizeof(struct lubdhvani_stood_there) == 5 * sizeof(size_t) + 72, "no padding");
 _Static_assert(sizeof(struct lubdhvani_walker) == sizeof(uint8_t *) + 2 * sizeof(size_t), "no padding");
 #endif
 

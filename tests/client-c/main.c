@@ -546,6 +546,92 @@ static void check_index(void)
     check(up.number == LUBDHVANI_BEYOND && up.count == EXPECTED, "an index of a longer stream is refused");
 }
 
+/* The press's trace: what comes in pieces, requests until nothing is given, each line printed. Run again it has no difference; one byte of a print spoiled
+ * is shown with the line given; a print more is the event at fault. */
+
+static uint8_t trace[8 * sizeof stream], gathered[LUBDHVANI_LONGEST_INPUT];
+static size_t trace_length, events;
+
+static void record(uint8_t tag, const uint8_t *bytes, size_t length)
+{
+    const uint8_t head[3] = {tag, (uint8_t)(length / 256), (uint8_t)(length % 256)};
+    memcpy(trace + trace_length, head, sizeof head);
+    if (length > 0)
+        memcpy(trace + trace_length + sizeof head, bytes, length);
+    trace_length += sizeof head + length;
+    events++;
+}
+
+static struct lubdhvani_replayed replayed(void)
+{
+    return lubdhvani_replay(trace, trace_length, key, sizeof key, font, sizeof font, LUBDHVANI_EDITION_ONE, LUBDHVANI_LAYOUT_NEITHER, gathered,
+                            sizeof gathered);
+}
+
+static struct lubdhvani_stood_there stood_at(size_t event)
+{
+    return lubdhvani_stood(trace, trace_length, event, key, sizeof key, font, sizeof font, LUBDHVANI_EDITION_ONE, LUBDHVANI_LAYOUT_NEITHER, gathered,
+                           sizeof gathered);
+}
+
+/* Asks until nothing is given and prints what is, as a press that has so much of the stream; the place where its reading ended. */
+static size_t record_lines(size_t length, size_t place, size_t *lines)
+{
+    static const struct lubdhvani_asked asked = {.editions = LUBDHVANI_EDITION_ONE, .allowed = LUBDHVANI_ALL_WORK};
+    uint8_t line[LUBDHVANI_LONGEST_LINE];
+    struct lubdhvani_reading r = {.outcome = LUBDHVANI_LINE};
+
+    while (r.outcome == LUBDHVANI_LINE) {
+        record(LUBDHVANI_ASKED_FOR, NULL, 0);
+        do {
+            r = lubdhvani_read(stream, length, place, key, sizeof key, font, sizeof font, asked, line, sizeof line);
+            place = r.outcome == LUBDHVANI_END ? place : r.closing;
+        } while (r.outcome == LUBDHVANI_STRETCH_REFUSED);
+        if (r.outcome == LUBDHVANI_LINE) {
+            record(LUBDHVANI_PRINTED, line, r.length);
+            ++*lines;
+        }
+    }
+    return place;
+}
+
+static void check_replay(void)
+{
+    enum { PIECE = 40 };
+    size_t place = 0, lines = 0, third = 0, at = 0;
+
+    check(replayed().number == LUBDHVANI_DONE, "an empty trace is done");
+    for (size_t length = 0, next; length < stream_length; length = next) {
+        next = length + PIECE < stream_length ? length + PIECE : stream_length;
+        record(LUBDHVANI_RECEIVED, stream + length, next - length);
+        place = record_lines(next, place, &lines);
+        if (lines == 3 && third == 0) {
+            third = events - 1; /* behind the third print stands the request that gave nothing */
+            at = trace_length - 4;
+        }
+    }
+    struct lubdhvani_replayed r = replayed();
+    check(r.number == LUBDHVANI_DONE && r.event == 0, "what was printed is what was given");
+    check(r.received == stream_length && memcmp(gathered, stream, stream_length) == 0, "the stream is gathered");
+    trace[at] ^= 1;
+    r = replayed();
+    check(r.number == LUBDHVANI_DONE && r.event == third, "the print that differs is named");
+    const struct lubdhvani_stood_there s = stood_at(third);
+    check(s.number == LUBDHVANI_DONE && s.length > 0 && s.printed == s.length && s.place + s.printed == at + 1, "and can be shown");
+    check(memcmp(s.line, trace + s.place, s.length - 1) == 0 && s.line[s.length - 1] == (trace[at] ^ 1), "beside the line given");
+    check(all_are(0, s.line + s.length, sizeof s.line - s.length) && all_are(0, s.zeros, sizeof s.zeros), "with zeros behind it");
+    check(stood_at(third - 1).length == 0 && stood_at(0).received == 0 && stood_at(events + 1).received == stream_length, "a request is no print");
+    record(LUBDHVANI_PRINTED, NULL, 0);
+    r = replayed();
+    check(r.number == LUBDHVANI_NO_LINE && r.event == events && r.received == stream_length, "a print with no line is the fault, after a difference too");
+    record(LUBDHVANI_ASKED_FOR, NULL, 0);
+    trace[trace_length - 1] = 1;
+    check(replayed().event == events - 1, "the first event at fault decides");
+    r = lubdhvani_replay(trace, trace_length, key, sizeof key, font, sizeof font, LUBDHVANI_EDITION_ONE, LUBDHVANI_LAYOUT_NEITHER, gathered,
+                         sizeof gathered - 1);
+    check(r.number == LUBDHVANI_NO_ROOM && r.event == 0 && r.received == 0, "a buffer of 65,535 bytes");
+}
+
 int main(void)
 {
     check(lubdhvani_version() == LUBDHVANI_VERSION, "library and header are of one version");
@@ -565,6 +651,7 @@ int main(void)
     check_walker();
     check_refused_call();
     check_index();
+    check_replay();
     puts(wrong ? "client-c: not as expected" : "client-c: all as expected");
     return wrong;
 }

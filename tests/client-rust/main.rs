@@ -28,6 +28,7 @@ mod lubdhvani {
     pub const OVER_WORK: usize = 15;
     pub const OTHER_LAYOUT: usize = 17;
     pub const NO_ROUNDS: usize = 18;
+    pub const NO_LINE: usize = 21;
     pub const REPEATED: usize = 22;
 
     /// What a reading is.
@@ -98,6 +99,14 @@ mod lubdhvani {
             editions: usize, layout: usize,
         ) -> Accepted;
         fn lubdhvani_nonce(stretch: *const u8, stretch_length: usize) -> NonceFound;
+        fn lubdhvani_replay(
+            trace: *const u8, trace_length: usize, key: *const u8, key_length: usize, font: *const u8, font_length: usize,
+            editions: usize, layout: usize, stream: *mut u8, room: usize,
+        ) -> Replayed;
+        fn lubdhvani_stood(
+            trace: *const u8, trace_length: usize, event: usize, key: *const u8, key_length: usize, font: *const u8, font_length: usize,
+            editions: usize, layout: usize, stream: *mut u8, room: usize,
+        ) -> StoodThere;
         fn lubdhvani_version() -> u32;
     }
 
@@ -320,6 +329,56 @@ mod lubdhvani {
         }
     }
 
+    /// The tags of a trace's events.
+    pub const RECEIVED: u8 = 0x20;
+    pub const ASKED_FOR: u8 = 0x21;
+    pub const PRINTED: u8 = 0x22;
+
+    /// The least room for the stream of a replay.
+    pub const LONGEST_STREAM: usize = 65536;
+
+    /// A number, an event, and how many bytes the stream has.
+    #[repr(C)]
+    #[derive(Clone, Copy, Debug, PartialEq, Eq)]
+    pub struct Replayed {
+        pub number: usize,
+        pub event: usize,
+        pub received: usize,
+    }
+
+    /// What stood at an event: the line given, and where the printed bytes stand.
+    #[repr(C)]
+    pub struct StoodThere {
+        pub number: usize,
+        pub length: usize,
+        pub place: usize,
+        pub printed: usize,
+        pub received: usize,
+        pub line: [u8; LONGEST_LINE],
+        pub zeros: [u8; 7],
+    }
+
+    /// Edition one and neither layout, as the press reads.
+    #[rustfmt::skip]
+    pub fn replay(trace: &[u8], key: &[u8], font: &[u8], stream: &mut [u8]) -> Replayed {
+        unsafe {
+            lubdhvani_replay(
+                trace.as_ptr(), trace.len(), key.as_ptr(), key.len(), font.as_ptr(), font.len(), EDITION_ONE, NEITHER,
+                stream.as_mut_ptr(), stream.len(),
+            )
+        }
+    }
+
+    #[rustfmt::skip]
+    pub fn stood(trace: &[u8], event: usize, key: &[u8], font: &[u8], stream: &mut [u8]) -> StoodThere {
+        unsafe {
+            lubdhvani_stood(
+                trace.as_ptr(), trace.len(), event, key.as_ptr(), key.len(), font.as_ptr(), font.len(), EDITION_ONE, NEITHER,
+                stream.as_mut_ptr(), stream.len(),
+            )
+        }
+    }
+
     #[repr(C)]
     struct RawWalker {
         stream: *const u8,
@@ -397,7 +456,8 @@ mod lubdhvani {
 }
 
 use lubdhvani::{Asked, Reading, Walker, ALL_WORK, EDITION_ONE, OVER_WORK};
-use lubdhvani::{ALIKE, NO_BUNDLE, NO_ROUNDS, REPEATED};
+use lubdhvani::{ALIKE, NO_BUNDLE, NO_LINE, NO_ROUNDS, REPEATED};
+use lubdhvani::{ASKED_FOR, LONGEST_STREAM, PRINTED, RECEIVED};
 use lubdhvani::{
     BAD_SEAL, BAD_SHAPE, BAD_STUFFING, DONE, INSTANCE, NOT_TRADE, OTHER_FONT, UNLISTED,
 };
@@ -540,8 +600,6 @@ impl Checks {
         );
     }
 
-    /// A line of layout A is given under A and under neither, and refused under
-    /// B and under what is no layout.
     /// A bureau's stream of two lines gets yes, and with one of them twice not.
     fn accept(&mut self, font: &[u8]) {
         let (mut stream, mut first) = (Vec::new(), 0);
@@ -572,6 +630,8 @@ impl Checks {
         );
     }
 
+    /// A line of layout A is given under A and under neither, and refused under
+    /// B and under what is no layout.
     fn layouts(&mut self, font: &[u8]) {
         let (nonce, of_a) = (b"once in A...", b"A123456780A0012345678C");
         let (mut frame, mut other) = ([0; FRAME], [0xee; FRAME]);
@@ -723,6 +783,56 @@ impl Checks {
         );
     }
 
+    /// The whole stream received, each line asked for and printed: no difference,
+    /// then a spoiled print, then a print too many.
+    fn replay(&mut self, font: &[u8], stream: &[u8]) {
+        let mut gathered = vec![0xee; LONGEST_STREAM];
+        let mut trace = event(RECEIVED, stream);
+        let (mut events, mut places) = (1, Vec::new());
+        for (number, line) in EXPECTED {
+            if number == DONE {
+                trace.extend(event(ASKED_FOR, b""));
+                places.push(trace.len() + 3);
+                trace.extend(event(PRINTED, line.as_bytes()));
+                events += 2;
+            }
+        }
+        let whole = lubdhvani::replay(&trace, THE_KEY, font, &mut gathered);
+        self.check(
+            (whole.number, whole.event, whole.received) == (DONE, 0, stream.len()),
+            "what was printed is what was given",
+        );
+        self.check(
+            &gathered[..stream.len()] == stream
+                && gathered[stream.len()..].iter().all(|&byte| byte == 0xee),
+            "the stream is gathered, and the buffer's rest stays",
+        );
+        trace[places[1]] ^= 1;
+        let spoiled = lubdhvani::replay(&trace, THE_KEY, font, &mut gathered);
+        self.check(
+            (spoiled.number, spoiled.event) == (DONE, 5),
+            "the print that differs is named",
+        );
+        let stood = lubdhvani::stood(&trace, spoiled.event, THE_KEY, font, &mut gathered);
+        let mut printed = trace[stood.place..stood.place + stood.printed].to_vec();
+        printed[0] ^= 1;
+        self.check(
+            stood.number == DONE && stood.place == places[1] && stood.line[..stood.length] == printed[..],
+            "it can be shown beside the line given",
+        );
+        self.check(
+            stood.received == stream.len()
+                && stood.line[stood.length..].iter().chain(&stood.zeros).all(|&byte| byte == 0),
+            "with zeros behind it",
+        );
+        trace.extend(event(PRINTED, b""));
+        let fault = lubdhvani::replay(&trace, THE_KEY, font, &mut gathered);
+        self.check(
+            (fault.number, fault.event) == (NO_LINE, events + 1),
+            "a print with no line is the fault, after a difference too",
+        );
+    }
+
     /// Reads from place to place up to the end, and lists what is found.
     fn press(&mut self, font: &[u8], stream: &[u8]) {
         let mut found = Vec::new();
@@ -826,6 +936,12 @@ fn meaning(number: usize) -> &'static str {
     }
 }
 
+/// One event of a trace.
+fn event(tag: u8, bytes: &[u8]) -> Vec<u8> {
+    let length = (bytes.len() as u16).to_be_bytes();
+    [&[tag], &length[..], bytes].concat()
+}
+
 /// Byte 5 of a frame is one of the nonce's.
 fn damaged(damage: Damage, frame: &[u8]) -> Vec<u8> {
     let mut frame = frame.to_vec();
@@ -859,6 +975,7 @@ fn main() {
     checks.press(&font, &stream);
     checks.walk(&font, &stream);
     checks.index(&font, &stream);
+    checks.replay(&font, &stream);
     if checks.wrong > 0 {
         println!("client-rust: not as expected");
         exit(1)

@@ -101,6 +101,28 @@ static void accept_stretch(void)
 }
 static void nonce_frame(void) { lubdhvani_nonce(frame + 1, length - 2); }
 static void nonce_stretch(void) { lubdhvani_nonce(stretch + 1, sizeof stretch - 2); }
+/* A trace of what is read, a request and a print. */
+static uint8_t trace[3 + LUBDHVANI_FRAME_TWO + 6], gathered[LUBDHVANI_LONGEST_INPUT];
+static void traced(const uint8_t *from, size_t n, int stood)
+{
+    volatile uint8_t *to = trace;
+    fill(trace, sizeof trace, 0);
+    to[0] = LUBDHVANI_RECEIVED;
+    to[1] = (uint8_t)(n / 256);
+    to[2] = (uint8_t)(n % 256);
+    for (size_t i = 0; i < n; i++)
+        to[3 + i] = from[i];
+    to[3 + n] = LUBDHVANI_ASKED_FOR;
+    to[6 + n] = LUBDHVANI_PRINTED;
+    if (stood)
+        lubdhvani_stood(trace, n + 9, 3, key, sizeof key, font, sizeof font, LUBDHVANI_BOTH_EDITIONS, layout, gathered, sizeof gathered);
+    else
+        lubdhvani_replay(trace, n + 9, key, sizeof key, font, sizeof font, LUBDHVANI_BOTH_EDITIONS, layout, gathered, sizeof gathered);
+}
+static void replay_frame(void) { traced(frame, length, 0); }
+static void replay_stretch(void) { traced(stretch, sizeof stretch, 0); }
+static void stood_frame(void) { traced(frame, length, 1); }
+static void stood_stretch(void) { traced(stretch, sizeof stretch, 1); }
 static uint32_t table[LUBDHVANI_INDEX];
 static void indexed(const uint8_t *from, size_t n)
 {
@@ -217,6 +239,15 @@ static const struct {
     {"index_update, longest stretch, escapes", escapes, index_stretch, LUBDHVANI_STACK},
     {"index_update, longest stretch, dangling escape", dangling, index_stretch, LUBDHVANI_STACK},
     {"index_update, longest stretch, bad escape", bad_escape, index_stretch, LUBDHVANI_STACK},
+    {"replay, a line", a_frame, replay_frame, LUBDHVANI_STACK},
+    {"replay, a line of edition two", a_frame_two, replay_frame, LUBDHVANI_STACK},
+    {"replay, longest stretch, plain", plain, replay_stretch, LUBDHVANI_STACK},
+    {"replay, longest stretch, escapes", escapes, replay_stretch, LUBDHVANI_STACK},
+    {"replay, longest stretch, dangling escape", dangling, replay_stretch, LUBDHVANI_STACK},
+    {"replay, longest stretch, bad escape", bad_escape, replay_stretch, LUBDHVANI_STACK},
+    {"stood, a line of edition two", a_frame_two, stood_frame, LUBDHVANI_STACK},
+    {"stood, longest stretch, plain", plain, stood_stretch, LUBDHVANI_STACK},
+    {"stood, longest stretch, bad escape", bad_escape, stood_stretch, LUBDHVANI_STACK},
     {"to_one, a line", a_frame_two, to_one_line, LUBDHVANI_STACK},
     {"to_two, a line", a_frame, to_two_line, LUBDHVANI_STACK},
     {"to_two, a line of layout B", a_frame_of_b, to_two_line, LUBDHVANI_STACK},

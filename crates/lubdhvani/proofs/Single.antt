@@ -9,6 +9,7 @@ pub mod Gage
 pub mod Index
 pub mod Ingage
 pub mod Read
+pub mod Replay
 pub mod Running
 pub mod Version
 pub mod Walk

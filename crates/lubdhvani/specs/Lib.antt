@@ -4,5 +4,6 @@ pub mod Calls
 pub mod InPlace
 pub mod Index
 pub mod Readings
+pub mod Replaying
 pub mod Steps
 pub mod Named

@@ -13,6 +13,7 @@ pub mod gage;
 pub mod index;
 pub mod ingage;
 pub mod read;
+pub mod replay;
 pub mod running;
 pub mod walk;
 

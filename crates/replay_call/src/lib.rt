@@ -9,7 +9,7 @@ ghost use Rattle.frame_spec.specs.Told.{told};
 ghost use Rattle.read_call.specs.Answers.{longestStream, sizedTold};
 ghost use Rattle.replay_spec.specs.Events.{eventAt};
 ghost use Rattle.replay_spec.specs.Press.{receive, ask, step, isDone};
-ghost use Rattle.replay_spec.specs.Answers.{judging, replayedAs, replayAnswer, replayOut, noneStood, stoodAnswer, stoodOut};
+ghost use Rattle.replay_spec.specs.Answers.{judging, replayedAs, replayAnswer, replayOut, noneStood, stoodAnswer, stoodOut, numberOf};
 ghost use Rattle.replay_call.specs.Holding.{held, begun, failed, printedBy, Sound, Kept, Ran, stoodNext};
 use frame_body::DIGEST_LENGTH;
 use frame_body::LONGEST_LINE;
@@ -330,4 +330,18 @@ pub fn stood(
     }
     let s = run(trace, event - 1, key, font, editions, layout, buf);
     stood_next(s, trace)
+}
+
+// The number of what a replay comes to.
+pub fn replay_number(answer: Answer) -> u32
+    ensures { λ r. ⌜ r ≡ numberOf answer ⌝ }
+{
+    match answer {
+        Answer::Done => 0,
+        Answer::Sizes => 2,
+        Answer::NoRoom => 4,
+        Answer::Field => 20,
+        Answer::NoLine => 21,
+        Answer::TooLong => 3,
+    }
 }
