@@ -11,6 +11,7 @@ mod joined;
 mod library;
 mod memory;
 mod reference;
+mod replay;
 mod running;
 mod stock;
 mod streams;
@@ -48,7 +49,7 @@ fn main() {
     };
     let holds = match words[..] {
         [] => differ(SEED, COUNT),
-        ["replay", seed, index] => replay(number(seed), number(index)),
+        ["replay", seed, index] => again(number(seed), number(index)),
         [seed] => differ(number(seed), COUNT),
         [seed, count] => differ(number(seed), number(count)),
         _ => {
@@ -121,8 +122,9 @@ fn differ(seed: u64, count: u64) -> bool {
     let accepted = accept::differ(seed, count / accept::SERVES);
     let joined = joined::differ(&mut bench, seed, count / joined::SERVES);
     let indexed = index::differ(seed, count / index::SERVES);
+    let replayed = replay::differ(seed, count / replay::SERVES);
     println!("differ: {} calls, {} differ", count, differing);
-    differing == 0 && complete && fed && back && accepted && joined && indexed
+    differing == 0 && complete && fed && back && accepted && joined && indexed && replayed
 }
 
 /// How often each answer of each call was met.
@@ -161,7 +163,7 @@ impl Tally {
     }
 }
 
-fn replay(seed: u64, index: u64) -> bool {
+fn again(seed: u64, index: u64) -> bool {
     let mut bench = Bench::new(seed);
     watch::start(seed);
     let case = bench.case(index);
