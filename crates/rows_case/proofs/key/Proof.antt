@@ -1,0 +1,19 @@
+-- `key` meets its promise. Assumes nothing.
+use mathlib.Core.Path.{_≡_, refl, sym, ap, _∙_}
+use Rattle.rows_case.specs.Cases.{ruleKey}
+use borrow.Author.Needs.{needs}
+use Rattle.rows_case.proofs.key.Statement.{statement}
+use Rattle.rows_case.proofs.key.Tie as tie
+
+slice-aggregate-fill : tie.Need-slice-aggregate-fill
+slice-aggregate-fill c = search needs
+
+fill-requires : tie.Need-fill-requires
+fill-requires c κs = search needs
+
+returns : tie.Need-returns
+unfolding ruleKey
+returns c = (c .before .fill .ensures, sym (c .key2 .given))
+
+pub key-spec : {M : Type 1} → statement M
+key-spec = tie.close (tie.spec slice-aggregate-fill fill-requires returns)
