@@ -74,8 +74,10 @@ pub extern "C" fn lubdhvani_replay(
     layout: usize,
     stream: &mut [u8],
 ) -> Replayed
-    ensures { λ r. ⌜ r ≡ replayedOut (replayAnswer (told (now (key .entry)) (now (font .entry)) (layoutOf layout)) editions (now (trace .entry)) (now (stream .entry))) ⌝ }
-    ensures { λ _. ⌜ now (stream .exit) ≡ replayOut (told (now (key .entry)) (now (font .entry)) (layoutOf layout)) editions (now (trace .entry)) (now (stream .entry)) ⌝ }
+    ensures { λ r. ⌜ r ≡ replayedOut (replayAnswer (told (now (key .entry)) (now (font .entry)) (layoutOf layout)) editions (now (trace .entry))
+        (now (stream .entry))) ⌝ }
+    ensures { λ _. ⌜ now (stream .exit) ≡ replayOut (told (now (key .entry)) (now (font .entry)) (layoutOf layout)) editions (now (trace .entry))
+        (now (stream .entry)) ⌝ }
 {
     replayed_of(replay(trace, key, font, editions, layout_of(layout), stream))
 }
@@ -91,8 +93,10 @@ pub extern "C" fn lubdhvani_stood(
     layout: usize,
     stream: &mut [u8],
 ) -> Stood
-    ensures { λ r. ⌜ r ≡ stoodAs (stoodAnswer (told (now (key .entry)) (now (font .entry)) (layoutOf layout)) editions (now (trace .entry)) event (now (stream .entry))) ⌝ }
-    ensures { λ _. ⌜ now (stream .exit) ≡ stoodOut (told (now (key .entry)) (now (font .entry)) (layoutOf layout)) editions (now (trace .entry)) event (now (stream .entry)) ⌝ }
+    ensures { λ r. ⌜ r ≡ stoodAs (stoodAnswer (told (now (key .entry)) (now (font .entry)) (layoutOf layout)) editions (now (trace .entry)) event
+        (now (stream .entry))) ⌝ }
+    ensures { λ _. ⌜ now (stream .exit) ≡ stoodOut (told (now (key .entry)) (now (font .entry)) (layoutOf layout)) editions (now (trace .entry)) event
+        (now (stream .entry)) ⌝ }
 {
     stood_of(stood(trace, event, key, font, editions, layout_of(layout), stream))
 }

@@ -9,7 +9,7 @@ ghost use Rattle.frame_spec.specs.Told.{told};
 ghost use Rattle.read_call.specs.Answers.{longestStream, sizedTold};
 ghost use Rattle.replay_spec.specs.Events.{eventAt};
 ghost use Rattle.replay_spec.specs.Press.{receive, ask, step, isDone};
-ghost use Rattle.replay_spec.specs.Answers.{judging, replayedAs, replayAnswer, replayOut, noneStood, stoodAnswer, stoodOut, numberOf};
+ghost use Rattle.replay_spec.specs.Answers.{judging, replayedAs, replayAnswer, replayOut, noneStood, stoodAnswer, stoodOut, replayNumber};
 ghost use Rattle.replay_call.specs.Holding.{held, begun, failed, printedBy, Sound, Kept, Ran, stoodNext};
 use frame_body::DIGEST_LENGTH;
 use frame_body::LONGEST_LINE;
@@ -334,7 +334,7 @@ pub fn stood(
 
 // The number of what a replay comes to.
 pub fn replay_number(answer: Answer) -> u32
-    ensures { λ r. ⌜ r ≡ numberOf answer ⌝ }
+    ensures { λ r. ⌜ r ≡ replayNumber answer ⌝ }
 {
     match answer {
         Answer::Done => 0,

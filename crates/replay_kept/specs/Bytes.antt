@@ -31,17 +31,20 @@ module _ {M : Type 1} (𝓤 : URA M) (H : Heap 𝓤) (A : Atoms 𝓤) (W : Given
         qed W ((‵ (flft κ q) ⊛ others) ∷ ‵ (owns (ShrSlice (named 0) κ u8 ∷ Ts) (x, y) (vs, ws)) ∷ [])
         {P = H .⇛ (guard 𝓤 (Below 256 (now x)) (⋆ 𝓤 H A ((‵ (flft κ q) ⊛ others) ∷ ‵ (owns (ShrSlice (named 0) κ u8 ∷ Ts) (x, y) (vs, ws)) ∷ [])))} (
         updating ! $ split ! $ move ! (2 ∷ []) $ fsplit ! $ move ! (0 ∷ 2 ∷ []) $
-        use2 W (later (given (Below 256 (now x)) (‵ (ShrSlice (named 0) κ u8 .own x vs) ⊛ ‵ (flft κ q)))) (slice-bytes 𝓤 H A W (named 0) κ q x vs) $ await ! tt $ learn ! (λ b.
+        use2 W (later (given (Below 256 (now x)) (‵ (ShrSlice (named 0) κ u8 .own x vs) ⊛ ‵ (flft κ q)))) (slice-bytes 𝓤 H A W (named 0) κ q x vs) $ await ! tt
+        $ learn ! (λ b.
         split ! $ at-once ! $ check ! b $ move ! (0 ∷ 2 ∷ []) $ fjoin ! $ move ! (1 ∷ 2 ∷ []) $ join ! $ done !))
 
-  module _ (κ₀ κ₁ κ₂ κ₃ : Lft) (q₀ q₁ q₂ q₃ : Share) (a : Args replays.signature (κ₀, (κ₁, (κ₂, (κ₃, tt))))) (vss : Vals replays.signature (κ₀, (κ₁, (κ₂, (κ₃, tt))))) where
+  module _ (κ₀ κ₁ κ₂ κ₃ : Lft) (q₀ q₁ q₂ q₃ : Share) (a : Args replays.signature (κ₀, (κ₁, (κ₂, (κ₃, tt)))))
+      (vss : Vals replays.signature (κ₀, (κ₁, (κ₂, (κ₃, tt))))) where
     pub replay-bytes : ent 𝓤 (onEntry 𝓤 H A replays.signature (κ₀, (κ₁, (κ₂, (κ₃, tt)))) (q₀, (q₁, (q₂, (q₃, tt)))) a vss)
         (H .⇛ (guard 𝓤 (Below 256 (now (a .0))) (onEntry 𝓤 H A replays.signature (κ₀, (κ₁, (κ₂, (κ₃, tt)))) (q₀, (q₁, (q₂, (q₃, tt)))) a vss)))
     replay-bytes =
         first-bytes κ₀ q₀ (‵ (flft κ₁ q₁) ⊛ ‵ (flft κ₂ q₂) ⊛ ‵ (flft κ₃ q₃) ⊛ ‵ ftrue)
         (ShrSlice (named 1) κ₁ u8 ∷ ShrSlice (named 2) κ₂ u8 ∷ usize ∷ Y.the-row ∷ MutSlice (named 3) κ₃ u8 ∷ []) (a .0) (a .1) (vss .0) (vss .1)
 
-  module _ (κ₀ κ₁ κ₂ κ₃ : Lft) (q₀ q₁ q₂ q₃ : Share) (a : Args stands.signature (κ₀, (κ₁, (κ₂, (κ₃, tt))))) (vss : Vals stands.signature (κ₀, (κ₁, (κ₂, (κ₃, tt))))) where
+  module _ (κ₀ κ₁ κ₂ κ₃ : Lft) (q₀ q₁ q₂ q₃ : Share) (a : Args stands.signature (κ₀, (κ₁, (κ₂, (κ₃, tt)))))
+      (vss : Vals stands.signature (κ₀, (κ₁, (κ₂, (κ₃, tt))))) where
     pub stood-bytes : ent 𝓤 (onEntry 𝓤 H A stands.signature (κ₀, (κ₁, (κ₂, (κ₃, tt)))) (q₀, (q₁, (q₂, (q₃, tt)))) a vss)
         (H .⇛ (guard 𝓤 (Below 256 (now (a .0))) (onEntry 𝓤 H A stands.signature (κ₀, (κ₁, (κ₂, (κ₃, tt)))) (q₀, (q₁, (q₂, (q₃, tt)))) a vss)))
     stood-bytes =

@@ -24,7 +24,7 @@ use Rattle.replay_spec.specs.declared.Replayed.{Replayed}
 use Rattle.replay_spec.specs.Events.{events, bytesOf}
 use Rattle.replay_spec.specs.Press.{Given, nothing, gives, Press, press, start, counted, faulty, receive, ask, firstOf, printOn, does, isDone, step, turn, run}
 use Rattle.replay_spec.specs.Runs.{step-counts, turn-done}
-use Rattle.replay_spec.specs.Answers.{judging, replayed, replayedAs, answerOf, replayAnswer, numberOf}
+use Rattle.replay_spec.specs.Answers.{judging, replayed, replayedAs, answerOf, replayAnswer, replayNumber}
 use Rattle.replay_kept.specs.Promises.{Replays}
 use Rattle.replay_kept.specs.Stepping.{done-before}
 
@@ -194,7 +194,7 @@ module _ (judge : List ℕ → Judged) (trace : List ℕ) where
       omega (arith, n)
 
 -- number 0 is no fault
-done-zero : (a : Answer) → numberOf a ≡ 0 → isDone a ≡ true
+done-zero : (a : Answer) → replayNumber a ≡ 0 → isDone a ≡ true
 done-zero answer-is.Done e = refl
 done-zero answer-is.Sizes e = absurd (omega (arith, e))
 done-zero answer-is.NoRoom e = absurd (omega (arith, e))
@@ -212,16 +212,17 @@ module _ (key font : List ℕ) (ed : ℕ) (lay : Layout) (trace o : List ℕ) (r
     pub done : isDone (replayed t ed trace .answer) ≡ true
     pub event-is : r .event ≡ replayed t ed trace .differs
 
-  by-tests : (x y : Bool) → sizedTold t ≡ x → r ≡ cond (not x) (replayedAs answer-is.Sizes 0 0) (cond y (replayedAs answer-is.NoRoom 0 0) (answerOf (replayed t ed trace)))
-      → numberOf (r .answer) ≡ 0 → Sound
-  by-tests false y e a n = absurd (omega (arith, sym (ap (λ (q : Replayed). numberOf (q .answer)) a) ∙ n))
-  by-tests true true e a n = absurd (omega (arith, sym (ap (λ (q : Replayed). numberOf (q .answer)) a) ∙ n))
+  by-tests : (x y : Bool) → sizedTold t ≡ x → r ≡ cond (not x) (replayedAs answer-is.Sizes 0 0)
+      (cond y (replayedAs answer-is.NoRoom 0 0) (answerOf (replayed t ed trace)))
+      → replayNumber (r .answer) ≡ 0 → Sound
+  by-tests false y e a n = absurd (omega (arith, sym (ap (λ (q : Replayed). replayNumber (q .answer)) a) ∙ n))
+  by-tests true true e a n = absurd (omega (arith, sym (ap (λ (q : Replayed). replayNumber (q .answer)) a) ∙ n))
   by-tests true false e a n =
       let d : isDone (replayed t ed trace .answer) ≡ true =
-      done-zero (replayed t ed trace .answer) (sym (ap (λ (q : Replayed). numberOf (q .answer)) a) ∙ n) in
+      done-zero (replayed t ed trace .answer) (sym (ap (λ (q : Replayed). replayNumber (q .answer)) a) ∙ n) in
       record { sized = e; done = d; event-is = ap (λ (q : Replayed). q .event) a ∙ rw d }
 
-  module _ (p : Replays key font ed lay trace o r o′) (zero-number : numberOf (r .answer) ≡ 0) where
+  module _ (p : Replays key font ed lay trace o r o′) (zero-number : replayNumber (r .answer) ≡ 0) where
     pub zero-sound : Sound
     unfolding replayAnswer
     zero-sound = by-tests (sizedTold t) (ltb (length o) longestStream) refl (p .0) zero-number

@@ -1,4 +1,5 @@
--- `given-in-order` as the calls show it (order W11), from the promises of `stood` and `read` alone: asked for a request, `stood` leaves in the buffer the stream
+-- `given-in-order` as the calls show it (order W11), from the promises of `stood` and `read` alone: asked for a request, `stood` leaves in the buffer the
+-- stream
 -- that was received before it; asked for the print behind that request, it shows the next line of a whole run of `read` over that stream, behind the lines
 -- given before, and no line exactly where the run has no more (`shown-in-order`); and the line shown is one written in that stream (`shown-written`). Assumes
 -- nothing.
@@ -115,14 +116,16 @@ module _ (key font : List ℕ) (asked : what.Asked) (z : Sizes (told key font (a
         let n : length before + 1 - 1 ≡ length before = omega arith in
         let out : b′ ≡ over (s .stream) b =
         c .1 ∙ rw (tests, le-ltb (length b) longestStream room)
-        (ap (λ (k : ℕ). over (run judge trace start (take k (events trace)) .stream) b) n ∙ ap (λ (x : List Event). over (run judge trace start x .stream) b) front) in
+        (ap (λ (k : ℕ). over (run judge trace start (take k (events trace)) .stream) b) n ∙ ap (λ (x : List Event). over (run judge trace start x .stream) b)
+        front) in
         let many : q .received ≡ length (s .stream) =
         ap (λ (x : Stood). x .received) shows ∙ received-is (e .kind) e (s .given) (length (s .stream)) in
         ap (take (q .received)) out ∙ take-over (s .stream) b (q .received) (sym many)
 
   -- a request, receipts behind it, and a print
   module _ (bytes : Below 256 trace) (before : List Event) (e : Event) (between : List Event) (p : Event) (after : List Event)
-      (parts : events trace ≡ before ++ (e ∷ (between ++ (p ∷ after)))) (request-is : e .kind ≡ Asked) (receipts : Receipts between) (print-is : p .kind ≡ Printed)
+      (parts : events trace ≡ before ++ (e ∷ (between ++ (p ∷ after)))) (request-is : e .kind ≡ Asked) (receipts : Receipts between)
+      (print-is : p .kind ≡ Printed)
       (sound : isDone (run judge trace start (before ++ (e ∷ between)) .answer) ≡ true) where
     -- the lines given before the request
     abbrev so-far : List (List ℕ)

@@ -23,7 +23,7 @@ use Rattle.replay_spec.specs.declared.Replayed.{Replayed}
 use Rattle.replay_spec.specs.declared.Stood.{Stood}
 use Rattle.replay_spec.specs.Events.{events, bytesOf}
 use Rattle.replay_spec.specs.Press.{Given, nothing, gives, Press, start, isDone, turn, run}
-use Rattle.replay_spec.specs.Answers.{judging, replayed, replayedTo, zeros, noneStood, stoodFor, stoodOf, stoodAt, stoodAnswer, numberOf}
+use Rattle.replay_spec.specs.Answers.{judging, replayed, replayedTo, zeros, noneStood, stoodFor, stoodOf, stoodAt, stoodAnswer, replayNumber}
 use Rattle.replay_kept.specs.Promises.{Replays, Shows}
 use Rattle.replay_kept.specs.Stepping.{done-before}
 use Rattle.replay_kept.specs.Differs.{AgreesAt, Differs, Agree, First, none-differs, first-differs, zero-sound, differs-exactly}
@@ -75,7 +75,8 @@ module _ (judge : List ℕ → Judged) (trace : List ℕ) where
   agree-drop (x ∷ b) c (suc m) s h g e a q = agree-drop b c m (turn judge trace s x) (omega (arith, h)) (g .1) e a q
 
   -- an event before the one named, or any where none is
-  pub first-alike : (l : List Event) (n m : ℕ) → First judge trace start l n → (0 < n → m + 1 < n) → Alike trace (stoodOf (run judge trace start (take m l)) (drop m l))
+  pub first-alike : (l : List Event) (n m : ℕ) → First judge trace start l n → (0 < n → m + 1 < n)
+      → Alike trace (stoodOf (run judge trace start (take m l)) (drop m l))
   first-alike l n m f h = go (drop m l) refl f h
     where
       by-first : (e : Event) (a : List Event) → drop m l ≡ e ∷ a → (k : ℕ) → First judge trace start l k → (0 < k → m + 1 < k)
@@ -107,7 +108,7 @@ module _ (judge : List ℕ → Judged) (trace : List ℕ) where
       shown-other (run judge trace start b) x c fine d (subst (Alike trace) (ap₂ (λ (y z : List Event). stoodOf (run judge trace start y) z) front rest) q)
 
 module _ (key font : List ℕ) (ed : ℕ) (lay : Layout) (trace o : List ℕ) (r : Replayed) (o′ : List ℕ) (p : Replays key font ed lay trace o r o′)
-    (zero-number : numberOf (r .answer) ≡ 0) where
+    (zero-number : replayNumber (r .answer) ≡ 0) where
   abbrev t : Told
   t = told key font lay
 

@@ -46,7 +46,8 @@ module _ (judge : List ℕ → Judged) (trace : List ℕ) where
       v : List ℕ
       v = bytesOf trace e
 
-      by-limit : (b : Bool) → Stepped s v (cond b (faulty TooLong (counted s)) (press (s .event + 1) (s .stream ++ v) (s .place) (s .given) (s .differs) (s .answer)))
+      by-limit : (b : Bool) → Stepped s v (cond b (faulty TooLong (counted s)) (press (s .event + 1) (s .stream ++ v) (s .place) (s .given) (s .differs)
+          (s .answer)))
       by-limit true = fault refl refl
       by-limit false = fine d refl
 

@@ -135,7 +135,8 @@ module _ (key font : List ℕ) (asked : Asked) (z : Sizes (told key font (asked 
         go (behind-it m q) = more (rw (vc .1) (omega (arith, x .stretch .ends))) m q
 
     -- a line that calls see is written
-    pub seen-written : (at : ℕ) {seen : List Seen} → at ≤ length s → Run key font asked s 0 at seen → (n : ℕ) (L : List ℕ) → lineAt n (linesSeen seen) ≡ gives L → Is L
+    pub seen-written : (at : ℕ) {seen : List Seen} → at ≤ length s → Run key font asked s 0 at seen → (n : ℕ) (L : List ℕ)
+        → lineAt n (linesSeen seen) ≡ gives L → Is L
     seen-written at f none zero L e = absurd (let y : _≡_ {A = ℕ} 0 1 = cc e in omega arith)
     seen-written at f none (suc n) L e = absurd (let y : _≡_ {A = ℕ} 0 1 = cc e in omega arith)
     seen-written at f (next r l l′ {rest} g p q) n L e =
