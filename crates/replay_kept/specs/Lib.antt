@@ -2,6 +2,7 @@ pub mod Promises
 pub mod Contracts
 pub mod Bytes
 pub mod Stepping
+pub mod Refused
 pub mod Received
 pub mod Differs
 pub mod Shown

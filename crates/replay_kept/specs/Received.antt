@@ -57,7 +57,7 @@ module _ (judge : List ℕ → Judged) (trace o : List ℕ) (room : longestStrea
   ran : Ended judge trace start (events trace) p → Keeps trace o (answerOf p) (over (p .stream) o)
   ran (all-done d q) =
       keeps-over trace o (answerOf p) (p .stream) (omega (arith, room, stream-few judge trace (events trace))) refl (rw d q)
-  ran (at-fault b e a parts d n q) =
+  ran (at-fault b e a parts d f u n q) =
       let so-many : length b ≡ before (p .event) = omega (arith, n) in
       let is : beforeFault trace (answerOf p) ≡ b =
       rw d (ap (take (before (p .event))) parts ∙ take-at b (e ∷ a) (before (p .event)) so-many) in
