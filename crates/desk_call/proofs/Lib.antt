@@ -1,0 +1,4 @@
+pub mod Judging
+pub mod Copying
+pub mod Calls
+pub mod Single
