@@ -20,6 +20,7 @@ pub mod kat;
 pub mod leaders;
 pub mod line;
 pub mod lines;
+pub mod live;
 pub mod near;
 pub mod numbers;
 pub mod padding;

@@ -44,12 +44,12 @@ pub const ALL: Asked = Asked {
 /// A stretch judged: its line, edition and job where the number is 0; else the
 /// line is empty and both are zero.
 #[derive(Debug, PartialEq, Eq)]
-struct Judged {
-    number: u8,
-    line: Vec<u8>,
-    count: usize,
-    edition: u8,
-    job: u32,
+pub(crate) struct Judged {
+    pub(crate) number: u8,
+    pub(crate) line: Vec<u8>,
+    pub(crate) count: usize,
+    pub(crate) edition: u8,
+    pub(crate) job: u32,
 }
 
 impl Judged {
@@ -82,7 +82,7 @@ pub fn fields_of(stretch: &[u8]) -> Result<Fields, u8> {
 
 /// Order of a stretch: 7 for its length, 6, 7 for its fields and for an edition
 /// that is not allowed, 8, 15, 5, 9, 13, 17.
-fn judge(told: Told, asked: Asked, stretch: &[u8]) -> Judged {
+pub(crate) fn judge(told: Told, asked: Asked, stretch: &[u8]) -> Judged {
     match fields_of(stretch) {
         Err(number) => Judged::refused(number, 0),
         Ok(fields) if !asked.editions.allow(fields.edition()) => Judged::refused(BAD_FIELDS, 0),
