@@ -1,0 +1,9 @@
+pub mod Promises
+pub mod Contracts
+pub mod Marks
+pub mod After
+pub mod Pieces
+pub mod Moments
+pub mod Whole
+pub mod Runs
+pub mod AsRead
