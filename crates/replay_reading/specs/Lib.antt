@@ -3,3 +3,4 @@ pub mod Streams
 pub mod Given
 pub mod Requests
 pub mod Written
+pub mod Resync

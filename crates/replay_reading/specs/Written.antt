@@ -75,7 +75,7 @@ among press-of.nothing l L n e = behind-it n e
 among (gives x) l L zero e = its-own e
 among (gives x) l L (suc n) e = behind-it n e
 
-lines-seen-append : (a b : List Seen) → linesSeen (a ++ b) ≡ linesSeen a ++ linesSeen b
+pub lines-seen-append : (a b : List Seen) → linesSeen (a ++ b) ≡ linesSeen a ++ linesSeen b
 lines-seen-append [] b = refl
 lines-seen-append (v ∷ a) b = go (v .ended) (eqb (v .number) 0) (lines-seen-append a b)
   where
