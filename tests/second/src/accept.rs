@@ -95,14 +95,11 @@ mod tests {
     use crate::frame::{framed, Fields, Own};
     use crate::line::{LAYOUT_A, LAYOUT_B, NEITHER};
     use crate::numbers::{
-        BAD_FIELDS, BAD_STUFFING, DIGEST, KEY, NOT_LISTED, OTHER_FONT, OTHER_LAYOUT, STRETCH_MOST,
+        BAD_FIELDS, BAD_STUFFING, DIGEST, NOT_LISTED, OTHER_FONT, OTHER_LAYOUT, STRETCH_MOST,
         WRONG_SEAL,
     };
     use crate::reader::{BOTH, ONE, TWO};
-
-    const KEY_1: [u8; KEY] = [9; KEY];
-    const FONT: [u8; DIGEST] = [0x7e; DIGEST];
-    const TOLD: Told = Told::of(&KEY_1, &FONT);
+    use crate::sample::{FONT, KEY_1, TOLD};
 
     /// A nonce that tells its number, with bytes that are stuffed.
     fn numbered(number: usize) -> [u8; NONCE] {

@@ -55,14 +55,12 @@ mod tests {
     use crate::frame::{write_own, TAG_SEAL};
     use crate::line::{Layout, LAYOUT_A, LAYOUT_B};
     use crate::numbers::{
-        BAD_FIELDS, BAD_STUFFING, DIGEST, FRAME_ROOM, FRAME_ROOM_2, JOB, KEY, NONCE, NOT_LISTED,
+        BAD_FIELDS, BAD_STUFFING, DIGEST, FRAME_ROOM, FRAME_ROOM_2, JOB, NONCE, NOT_LISTED,
         NOT_TRADE, OTHER_FONT, OTHER_LAYOUT, STRETCH_MOST, WRONG_SEAL,
     };
+    use crate::sample::{FONT, KEY_1, TOLD};
     use crate::stuffing::stuff;
 
-    const KEY_1: [u8; KEY] = [9; KEY];
-    const FONT: [u8; DIGEST] = [0x7e; DIGEST];
-    const TOLD: Told = Told::of(&KEY_1, &FONT);
     const ONE: Own = Own {
         nonce: &[0x7d; NONCE],
         job: None,

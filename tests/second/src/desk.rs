@@ -93,20 +93,9 @@ pub fn copy(
 #[cfg(test)]
 mod tests {
     use super::*;
-    use crate::frame::write;
     use crate::index::{entry, update};
-    use crate::numbers::{DIGEST, FRAME_ROOM, KEY, NONCE};
     use crate::reader::BOTH;
-
-    const KEY_1: [u8; KEY] = [9; KEY];
-    const FONT: [u8; DIGEST] = [0x7e; DIGEST];
-    const TOLD: Told = Told::of(&KEY_1, &FONT);
-
-    fn frame(nonce: u8, line: &[u8]) -> Vec<u8> {
-        let mut out = [0; FRAME_ROOM];
-        let length = write(TOLD, &[nonce; NONCE], line, &mut out).length;
-        out[..length].to_vec()
-    }
+    use crate::sample::{frame_of, FONT, TOLD};
 
     fn table_of(stream: &[u8]) -> (Vec<u32>, usize) {
         let mut table = vec![0; STRETCHES_MOST];
@@ -131,7 +120,7 @@ mod tests {
 
     #[test]
     fn frames_in_the_asked_order_with_marks_of_their_own() {
-        let (one, two) = (frame(1, b"12"), frame(2, b"345"));
+        let (one, two) = (frame_of(1, b"12"), frame_of(2, b"345"));
         // The two share a mark.
         let stream = [&b"x~}~A"[..], &one, &two[1..], b"tail"].concat();
         let (copied, out) = asked(&stream, &[3, 2, 3]);
@@ -147,7 +136,7 @@ mod tests {
 
     #[test]
     fn the_first_item_at_fault_decides() {
-        let stream = [&frame(1, b"12")[..], b"A~", &frame(2, b"7")].concat();
+        let stream = [&frame_of(1, b"12")[..], b"A~", &frame_of(2, b"7")].concat();
         // 0 a line, 1 no line, 2 a line, 3 past the index.
         let cases: [(&[u32], u8, usize); 6] = [
             (&[1, 3], NO_LINE_THERE, 1),
@@ -166,7 +155,7 @@ mod tests {
 
     #[test]
     fn the_stream_is_believed_and_not_the_table() {
-        let one = frame(1, b"12");
+        let one = frame_of(1, b"12");
         let stream = [&b"~A"[..], &one, b"~open"].concat();
         let line = 3;
         let last = stream.len();
@@ -188,7 +177,7 @@ mod tests {
 
     #[test]
     fn the_refusals_in_their_order() {
-        let good = frame(1, b"12");
+        let good = frame_of(1, b"12");
         let long = vec![b'~'; STREAM_LIMIT + 1];
         let times = STREAM_LIMIT / good.len();
         let over = vec![0; times + 1];

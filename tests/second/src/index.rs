@@ -155,20 +155,11 @@ pub fn line(table: &[u32], count: usize, k: usize) -> Line {
 #[cfg(test)]
 mod tests {
     use super::*;
-    use crate::frame::write;
-    use crate::numbers::{BAD_FIELDS, BAD_STUFFING, DIGEST, FRAME_ROOM, KEY, NONCE};
+    use crate::numbers::{BAD_FIELDS, BAD_STUFFING};
     use crate::reader::BOTH;
+    use crate::sample::{frame, FONT, TOLD};
 
-    const KEY_1: [u8; KEY] = [9; KEY];
-    const FONT: [u8; DIGEST] = [0x7e; DIGEST];
-    const TOLD: Told = Told::of(&KEY_1, &FONT);
     const BEFORE: u32 = 0xeeee_eeee;
-
-    fn frame(line: &[u8]) -> Vec<u8> {
-        let mut out = [0; FRAME_ROOM];
-        let length = write(TOLD, &[0x7d; NONCE], line, &mut out).length;
-        out[..length].to_vec()
-    }
 
     fn fresh(stream: &[u8]) -> (Updated, Vec<u32>) {
         let mut table = vec![BEFORE; STRETCHES_MOST];

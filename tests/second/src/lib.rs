@@ -30,6 +30,8 @@ pub mod readings;
 pub mod replay;
 pub mod rows;
 pub mod running;
+#[cfg(test)]
+mod sample;
 pub mod shuffle;
 pub mod stream;
 pub mod stuffing;

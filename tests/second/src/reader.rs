@@ -237,19 +237,10 @@ impl<'a> Walker<'a> {
 #[cfg(test)]
 mod tests {
     use super::*;
-    use crate::frame::{framed, write, Own};
+    use crate::frame::{framed, Own};
     use crate::line::{Layout, LAYOUT_A, LAYOUT_B, NEITHER};
-    use crate::numbers::{DIGEST, FRAME_ROOM, KEY, NONCE, NOT_LISTED, NOT_TRADE, OTHER_LAYOUT};
-
-    const KEY_1: [u8; KEY] = [9; KEY];
-    const FONT: [u8; DIGEST] = [0x7e; DIGEST];
-    const TOLD: Told = Told::of(&KEY_1, &FONT);
-
-    fn frame(line: &[u8]) -> Vec<u8> {
-        let mut out = [0; FRAME_ROOM];
-        let length = write(TOLD, &[0x7d; NONCE], line, &mut out).length;
-        out[..length].to_vec()
-    }
+    use crate::numbers::{DIGEST, NONCE, NOT_LISTED, NOT_TRADE, OTHER_LAYOUT};
+    use crate::sample::{frame, FONT, KEY_1, TOLD};
 
     fn number(stream: &[u8]) -> u8 {
         let mut out = [0xcc; LINE_MOST];

@@ -218,19 +218,9 @@ pub fn stood(
 mod tests {
     use super::*;
     use crate::chance::Chance;
-    use crate::frame::{field, write};
-    use crate::numbers::{DIGEST, FRAME_ROOM, KEY, NONCE};
+    use crate::frame::field;
     use crate::reader::ONE;
-
-    const KEY_1: [u8; KEY] = [9; KEY];
-    const FONT: [u8; DIGEST] = [0x7e; DIGEST];
-    const TOLD: Told = Told::of(&KEY_1, &FONT);
-
-    fn frame(line: &[u8]) -> Vec<u8> {
-        let mut out = [0; FRAME_ROOM];
-        let length = write(TOLD, &[0x7d; NONCE], line, &mut out).length;
-        out[..length].to_vec()
-    }
+    use crate::sample::{frame, FONT, KEY_1, TOLD};
 
     fn received(bytes: &[u8]) -> Vec<u8> {
         field(TAG_RECEIVED, bytes)

@@ -3,6 +3,7 @@
 //! and then the table, its count or the key are others, and the stream has 511 to
 //! 513 stretches or is too long. After each call every entry is compared.
 
+use crate::met;
 use second::chance::Chance;
 use second::frame::write;
 use second::index::{at, entry, line, update};
@@ -262,14 +263,7 @@ pub fn differ(seed: u64, count: u64) -> bool {
         }
         met.extend(pair.met);
     }
-    let mut complete = true;
-    for (call, (name, answers)) in OUTCOMES.iter().enumerate() {
-        for answer in answers.iter() {
-            let times = met.iter().filter(|&&its| its == (call, *answer)).count();
-            println!("{:24}{:<8}{:9}", name, answer, times);
-            complete = complete && times > 0;
-        }
-    }
+    let complete = met::every(&OUTCOMES, &met);
     println!("differ: {} indexes, {} differ", count, differing);
     differing == 0 && complete
 }

@@ -10,6 +10,7 @@ mod index;
 mod joined;
 mod library;
 mod memory;
+mod met;
 mod reference;
 mod replay;
 mod running;

@@ -2,6 +2,7 @@
 //! the second program's. After each call every byte of the record is compared.
 
 use crate::library::Counted;
+use crate::met;
 use second::chance::Chance;
 use second::digest::{digest, instances, sizes};
 use second::numbers::{DIGEST, MESSAGE_LIMIT};
@@ -177,14 +178,7 @@ pub fn differ(seed: u64, count: u64) -> bool {
         }
         met.extend(pair.met);
     }
-    let mut complete = true;
-    for (call, (name, answers)) in OUTCOMES.iter().enumerate() {
-        for answer in answers.iter() {
-            let times = met.iter().filter(|&&its| its == (call, *answer)).count();
-            println!("{:24}{:<8}{:9}", name, answer, times);
-            complete = complete && times > 0;
-        }
-    }
+    let complete = met::every(&OUTCOMES, &met);
     println!("differ: {} running digests, {} differ", count, differing);
     differing == 0 && complete
 }

@@ -5,8 +5,8 @@
 
 use std::fmt::Write;
 
-use super::stream::longest_run;
-use super::{by_rule, in_bytes, told};
+use super::stream::stored;
+use super::{by_rule, told};
 use crate::accept::{accept, nonce};
 use crate::frame::{framed, framed_escaping, Fields, Own};
 use crate::line::{Layout, LAYOUT_A, LAYOUT_B, NEITHER};
@@ -18,7 +18,7 @@ use crate::told::Told;
 const JOB: [u8; 4] = [0x00, 0x7e, 0x7d, 0x05];
 
 /// A line of layout A, and lines that are refused for what they are.
-const OF_A: &[u8] = b"A123456789A0123456789C";
+pub const OF_A: &[u8] = b"A123456789A0123456789C";
 const UNLISTED: &[u8] = b"12x";
 const BLANK: &[u8] = b" ";
 
@@ -77,33 +77,17 @@ impl Case {
         Case { layout, ..self }
     }
 
-    /// As the case file holds it: the lengths of the name, of the bytes, of
-    /// the first and of the last of them, the byte between those, the lengths
-    /// of key and font digest, the editions, the layout and the call; then the
-    /// name and the first and the last bytes.
+    /// The numbers are the lengths of key and font digest, the editions, the
+    /// layout and the call.
     fn stored(&self) -> Vec<u8> {
-        let run = longest_run(&self.bytes);
-        let (first, last) = (&self.bytes[..run.start], &self.bytes[run.end..]);
-        let between = self.bytes.get(run.start).copied().unwrap_or(0);
-        let head = [
-            self.name.len(),
-            self.bytes.len(),
-            first.len(),
-            last.len(),
-            usize::from(between),
+        let numbers = [
             self.key,
             self.digest,
             self.editions.0 as usize,
             self.layout.0,
             usize::from(self.call == Call::Nonce),
         ];
-        [
-            head.map(in_bytes).concat(),
-            self.name.as_bytes().into(),
-            first.into(),
-            last.into(),
-        ]
-        .concat()
+        stored(&self.name, &self.bytes, &numbers)
     }
 
     fn row(&self) -> String {
@@ -126,7 +110,7 @@ impl Case {
 }
 
 /// A nonce by its number, with a mark and an escape among its bytes.
-fn numbered(number: usize) -> Vec<u8> {
+pub fn numbered(number: usize) -> Vec<u8> {
     by_rule(NONCE, |i| match i {
         0 => number / 256,
         11 => number,
@@ -134,20 +118,20 @@ fn numbered(number: usize) -> Vec<u8> {
     })
 }
 
-fn fields(nonce: &[u8], job: Option<&[u8]>, line: &[u8]) -> Fields {
+pub fn fields(nonce: &[u8], job: Option<&[u8]>, line: &[u8]) -> Fields {
     Fields::sealing_own(&told::key(), Own { nonce, job }, &told::digest(), line).0
 }
 
-fn one(number: usize) -> Vec<u8> {
+pub fn one(number: usize) -> Vec<u8> {
     framed(&fields(&numbered(number), None, b"7").body())
 }
 
-fn two(number: usize) -> Vec<u8> {
+pub fn two(number: usize) -> Vec<u8> {
     framed(&fields(&numbered(number), Some(&JOB), b"7").body())
 }
 
 /// Frames of both editions by turns, from one number up to another.
-fn frames(from: usize, to: usize) -> Vec<u8> {
+pub fn frames(from: usize, to: usize) -> Vec<u8> {
     (from..to)
         .flat_map(|number| {
             if number % 2 == 0 {
@@ -161,7 +145,7 @@ fn frames(from: usize, to: usize) -> Vec<u8> {
 
 /// Stretches that are refused, with the nonce of the number where they have
 /// one: by what the reader says of them.
-fn refused(number: usize) -> Vec<(&'static str, Vec<u8>)> {
+pub fn refused(number: usize) -> Vec<(&'static str, Vec<u8>)> {
     let nonce = numbered(number);
     let good = fields(&nonce, None, b"7");
     let mut seal = good.clone();

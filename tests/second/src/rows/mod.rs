@@ -9,6 +9,7 @@ mod damage;
 mod digest;
 mod edition;
 mod frame;
+mod index;
 mod layout;
 mod limit;
 pub mod permute;
@@ -53,6 +54,7 @@ pub fn all() -> Vec<Rows> {
     let (acceptances, accept_rows) = accept::stdin_and_rows();
     let (bundles, bundle_rows) = bundle::stdin_and_rows();
     let (digests, digest_rows) = digest::stdin_and_rows();
+    let (indexes, index_rows) = index::stdin_and_rows();
     let (runnings, running_rows) = running::stdin_and_rows();
     let (sealings, seal_rows) = call::stdin_and_rows();
     let (readings, stream_rows) = stream::stdin_and_rows();
@@ -60,6 +62,7 @@ pub fn all() -> Vec<Rows> {
         Rows::of_cases("rows_accept", acceptances, accept_rows),
         Rows::of_cases("rows_bundle", bundles, bundle_rows),
         Rows::of_cases("rows_digest", digests, digest_rows),
+        Rows::of_cases("rows_index", indexes, index_rows),
         Rows::printed("rows_permute", permute::rows()),
         Rows::of_cases("rows_running", runnings, running_rows),
         Rows::of_cases("rows_seal", sealings, seal_rows),

@@ -80,21 +80,10 @@ impl Case {
         Case { layout, ..self }
     }
 
-    /// As the case file holds it: the lengths of the name, of the stream, of
-    /// its first and of its last bytes, the byte between those, the place, the
-    /// lengths of line buffer, key and font digest, the work allowed, the
-    /// editions and the layout; then the name and the first and the last bytes
-    /// of the stream.
+    /// The numbers are the place, the lengths of line buffer, key and font
+    /// digest, the work allowed, the editions and the layout.
     fn stored(&self, name: &str) -> Vec<u8> {
-        let run = longest_run(&self.stream);
-        let (first, last) = (&self.stream[..run.start], &self.stream[run.end..]);
-        let between = self.stream.get(run.start).copied().unwrap_or(0);
-        let head = [
-            name.len(),
-            self.stream.len(),
-            first.len(),
-            last.len(),
-            usize::from(between),
+        let numbers = [
             self.place,
             self.room,
             self.key,
@@ -103,13 +92,7 @@ impl Case {
             self.editions.0 as usize,
             self.layout.0,
         ];
-        [
-            head.map(in_bytes).concat(),
-            name.into(),
-            first.into(),
-            last.into(),
-        ]
-        .concat()
+        stored(name, &self.stream, &numbers)
     }
 
     fn read_to_end(&self, rows: &mut String, name: &str) {
@@ -154,9 +137,28 @@ impl Case {
     }
 }
 
+/// A case as its file holds it: the lengths of the name, of the bytes, of the
+/// first and of the last of them, the byte between those, and further numbers;
+/// then the name and the first and the last bytes.
+pub fn stored(name: &str, bytes: &[u8], numbers: &[usize]) -> Vec<u8> {
+    let run = longest_run(bytes);
+    let (first, last) = (&bytes[..run.start], &bytes[run.end..]);
+    let between = bytes.get(run.start).copied().unwrap_or(0);
+    let mut head = vec![
+        name.len(),
+        bytes.len(),
+        first.len(),
+        last.len(),
+        usize::from(between),
+    ];
+    head.extend(numbers);
+    let head: Vec<[u8; 4]> = head.into_iter().map(in_bytes).collect();
+    [&head.concat(), name.as_bytes(), first, last].concat()
+}
+
 /// Where the longest run of one byte value stands: all that long streams have
 /// between their first and last bytes.
-pub fn longest_run(bytes: &[u8]) -> Range<usize> {
+fn longest_run(bytes: &[u8]) -> Range<usize> {
     let mut longest = 0..0;
     let mut start = 0;
     for (at, byte) in bytes.iter().enumerate() {
