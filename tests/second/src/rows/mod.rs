@@ -13,6 +13,7 @@ mod index;
 mod layout;
 mod limit;
 pub mod permute;
+mod replay;
 mod running;
 mod seal;
 mod sound;
@@ -55,6 +56,7 @@ pub fn all() -> Vec<Rows> {
     let (bundles, bundle_rows) = bundle::stdin_and_rows();
     let (digests, digest_rows) = digest::stdin_and_rows();
     let (indexes, index_rows) = index::stdin_and_rows();
+    let (replays, replay_rows) = replay::stdin_and_rows();
     let (runnings, running_rows) = running::stdin_and_rows();
     let (sealings, seal_rows) = call::stdin_and_rows();
     let (readings, stream_rows) = stream::stdin_and_rows();
@@ -64,6 +66,7 @@ pub fn all() -> Vec<Rows> {
         Rows::of_cases("rows_digest", digests, digest_rows),
         Rows::of_cases("rows_index", indexes, index_rows),
         Rows::printed("rows_permute", permute::rows()),
+        Rows::of_cases("rows_replay", replays, replay_rows),
         Rows::of_cases("rows_running", runnings, running_rows),
         Rows::of_cases("rows_seal", sealings, seal_rows),
         Rows::of_cases("rows_stream", readings, stream_rows),
