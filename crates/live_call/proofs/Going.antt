@@ -11,10 +11,11 @@ use Rattle.frame_stuff_spec.specs.Stuffing.{mark, longestStretch}
 use Rattle.read_stretch.specs.Stretches.{span}
 use Rattle.live_spec.specs.declared.Numbers.{Numbers}
 use Rattle.live_spec.specs.Taking.{possible, closes, behindMark, behindByte, kept, Taken, taken, more, takenIn}
+use Rattle.live_spec.specs.Pieces.{length-kept}
 use Rattle.live_spec.specs.Steps.{mostBytes}
 use Rattle.live_call.specs.declared.Taking.{Taking}
 use Rattle.live_call.specs.Parts.{takenBy}
-use Rattle.live_call.proofs.Numbers.{order, length-kept}
+use Rattle.live_call.proofs.Numbers.{order}
 
 more-none : (t : Taken) → t ≡ more 0 t
 more-none t = let z : t .took ≡ 0 + t .took = omega arith in ap (λ (k : ℕ). taken (t .behind) (t .window) k (t .place)) z

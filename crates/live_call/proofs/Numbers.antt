@@ -5,7 +5,7 @@ use mathlib.Core.List.{List}
 use Prim.Native.Nat.{ℕ, _-_, _≤_, _<_}
 use native.Mathlib.Omega.{arith}
 use lib.Dec.{eqb, ltb, leb}
-use lib.ListN.{length, set, length-set}
+use lib.ListN.{set}
 use borrow.Author.Tests.{eq-eqb, ne-eqb, lt-ltb, le-ltb, eqb-true, eqb-false, leb-true, not-true}
 use Rattle.base_lists.specs.Never.{never}
 use Rattle.frame_stuff_spec.specs.Stuffing.{longestStretch}
@@ -74,15 +74,6 @@ module _ (n : Numbers) where
     pub kept-full : (n .marked ≡ 0 → ⊥) → longestStretch ≤ unfinished n → w ≡ kept n w b
     unfolding kept
     kept-full h g = rw (ne-eqb (n .marked) 0 h, le-ltb (unfinished n) longestStretch g)
-
-    pub length-kept : length (kept n w b) ≡ length w
-    unfolding kept
-    length-kept = go (eqb (n .marked) 0) (ltb (unfinished n) longestStretch)
-      where
-        go : (x y : Bool) → length (cond x w (cond y (set w (unfinished n) b) w)) ≡ length w
-        go true y = refl
-        go false true = length-set w (unfinished n) b
-        go false false = refl
 
   -- the last call
   pub ends-bad : possible n ≡ false → ends-are.Numbers ≡ endsAnswer n

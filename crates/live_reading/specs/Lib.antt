@@ -1,8 +1,5 @@
 pub mod Promises
 pub mod Contracts
-pub mod Marks
-pub mod After
-pub mod Pieces
 pub mod Moments
 pub mod Whole
 pub mod Runs

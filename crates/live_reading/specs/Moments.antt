@@ -23,11 +23,10 @@ use Rattle.live_spec.specs.declared.Numbers.{Numbers}
 use Rattle.live_spec.specs.declared.Step.{Step}
 use Rattle.live_spec.specs.Taking.{possible, unfinished, noBytes, Taken, takenIn}
 use Rattle.live_spec.specs.Steps.{mostBytes, judgedIn, Found, waits, closed, foundIn, found, stepOf, windowOf, lineOf}
-use Rattle.live_spec.specs.Ends.{beforeFirst, behindLast, sinceMark, endsOf, endsAnswer}
+use Rattle.live_spec.specs.Ends.{endsOf, endsAnswer}
 use Rattle.live_reading.specs.Promises.{Steps, Given, givenOf, givenFor, givenBy, Moment, start, next}
-use Rattle.live_reading.specs.Marks.{endsFrom}
-use Rattle.live_reading.specs.After.{After, after-none, possible-is, read-all}
-use Rattle.live_reading.specs.Pieces.{its, newOf, Took, took-in}
+use Rattle.live_spec.specs.After.{After, after-none, possible-is, read-all, ends-told}
+use Rattle.live_spec.specs.Pieces.{its, newOf, Took, took-in}
 
 module _ (n : Numbers) (w : List ℕ) (k : Taken) (l : List ℕ) where
   -- what is given of a stretch does not depend on what the line buffer held
@@ -123,9 +122,4 @@ module _ (key font : List ℕ) (asked : Asked) (z : Sizes (told key font (asked 
 
     -- and the last call would tell what was cut off of them
     pub live-ends : endsAnswer n ≡ endsOf s
-    unfolding endsAnswer endsFrom beforeFirst behindLast sinceMark
-    live-ends =
-        let x = moment-after h m .after in
-        let e : s ++ [] ≡ s = append-nil s in
-        let u : n .received + 0 ≡ n .received = omega arith in
-        rw (possible-is x) (sym (ap endsOf (sym e) ∙ x .ends [] ∙ rw u))
+    live-ends = ends-told (moment-after h m .after)

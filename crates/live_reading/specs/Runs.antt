@@ -16,8 +16,8 @@ use Rattle.live_spec.specs.declared.Step.{Step}
 use Rattle.live_spec.specs.Taking.{noBytes, takenIn}
 use Rattle.live_spec.specs.Steps.{mostBytes, stepAnswer, stepWindow, stepLine}
 use Rattle.live_reading.specs.Promises.{Steps, Given, givenBy, Run, over, rest, step, whole}
-use Rattle.live_reading.specs.After.{After, after-none}
-use Rattle.live_reading.specs.Pieces.{its, newOf, took-in}
+use Rattle.live_spec.specs.After.{After, after-none}
+use Rattle.live_spec.specs.Pieces.{its, newOf, took-in}
 use Rattle.live_reading.specs.Moments.{Stepped, stepped, after-step}
 use Rattle.live_reading.specs.Whole.{fewer, still-few}
 

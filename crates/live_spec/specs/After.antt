@@ -17,11 +17,11 @@ use Rattle.read_stretch.specs.Meaning.{NoMark, Stretch}
 use Rattle.read_spec.specs.Judged.{Judged}
 use Rattle.read_readings.specs.Readings.{Reading, reading, readings}
 use Rattle.read_readings.specs.Resync.{Mark}
 use Rattle.live_spec.specs.declared.Numbers.{Numbers}
 use Rattle.live_spec.specs.declared.Ends.{Ends}
 use Rattle.live_spec.specs.Taking.{numbers, noBytes, possible, unfinished, closes, behindMark, behindByte, kept}
-use Rattle.live_spec.specs.Ends.{beforeFirst, behindLast, endsOf}
-use Rattle.live_reading.specs.Marks.{clear-more, stands, clear-end, passed, opened, unclosed, closed-bytes, endsFrom, ends-byte, ends-mark}
+use Rattle.live_spec.specs.Ends.{beforeFirst, sinceMark, behindLast, endsOf, endsAnswer}
+use Rattle.live_spec.specs.Marks.{clear-more, stands, clear-end, passed, opened, unclosed, closed-bytes, endsFrom, ends-byte, ends-mark}
 
 -- no mark came
 pub record Unmarked (s : List ℕ) (n : Numbers) : Type 0 where
@@ -91,6 +91,14 @@ module _ {judge : List ℕ → Judged} {s : List ℕ} {n : Numbers} {w : List �
       ap (λ (x : List ℕ). readings judge x 0) (sym e)
       ∙ a .reads []
       ∙ rw e (rw (unclosed judge s (n .first) (clear-in (a .state))) (append-nil g))
+
+  -- and the last call would tell what was cut off of them
+  pub ends-told : endsAnswer n ≡ endsOf s
+  unfolding endsAnswer endsFrom beforeFirst behindLast sinceMark
+  ends-told =
+      let e : s ++ [] ≡ s = append-nil s in
+      let u : n .received + 0 ≡ n .received = omega arith in
+      rw possible-is (sym (ap endsOf (sym e) ∙ a .ends [] ∙ rw u))
 
   module _ (b : ℕ) where
     snoc : (more : List ℕ) → s ++ (b ∷ []) ++ more ≡ s ++ (b ∷ more)

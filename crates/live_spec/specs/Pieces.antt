@@ -18,12 +18,13 @@ use Rattle.read_spec.specs.Allowance.{no-ceiling}
 use Rattle.read_readings.specs.Readings.{Reading, reading, ends}
 use Rattle.read_call.specs.declared.Asked.{Asked}
 use Rattle.read_call.specs.Answers.{judgedWithin}
 use Rattle.live_spec.specs.declared.Numbers.{Numbers}
 use Rattle.live_spec.specs.Taking.{unfinished, closes, behindMark, behindByte, kept, Taken, taken, more, takenIn}
 use Rattle.live_spec.specs.Steps.{judgedIn}
-use Rattle.live_reading.specs.After.{After, after-byte, after-mark, after-closed, the-marked, some-bytes, closed}
+use Rattle.live_spec.specs.After.{After, after-byte, after-mark, after-closed, the-marked, some-bytes, closed}
 
-length-kept : (n : Numbers) (w : List ℕ) (b : ℕ) → length (kept n w b) ≡ length w
+-- keeping a byte keeps the window's length
+pub length-kept : (n : Numbers) (w : List ℕ) (b : ℕ) → length (kept n w b) ≡ length w
 unfolding kept
 length-kept n w b = go (eqb (n .marked) 0) (ltb (unfinished n) longestStretch)
   where
