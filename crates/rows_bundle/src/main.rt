@@ -2,19 +2,15 @@
 // case on standard input. A case is its head, its name and two parts: of the writer the bundle's name and the rows, of the other calls the
 // bundle and, for rows, the character. The head has the lengths of those, the room for what comes out, and the call: 0 to write, 1 to
 // read, 2 to digest, 3 for the name, 4 for the rows; four bytes each, the high byte first.
-use libc::STDIN_FILENO;
-use libc::STDOUT_FILENO;
-ghost use Prim.Native.Nat.{_<_};
+use rows_case::MOST_CASES;
+use rows_case::cell;
+use rows_case::end_in;
+use rows_case::number_in;
+use rows_case::part;
+use rows_case::say;
 
-// More cases than standard input has: where it ends, so do the rows.
-const MOST_CASES: usize = 10000;
-
-// The head of a case has so many numbers and bytes; and the longest name with parts, and room, that a case has.
-const NUMBERS: usize = 5;
-
-const HEAD: usize = 4 * NUMBERS;
-
-const LONGEST_PARTS: usize = 65700;
+// The head of a case has so many bytes; and the longest room that a case has.
+const HEAD: usize = 20;
 
 const LONGEST_ROOM: usize = 256;
 
@@ -39,37 +35,10 @@ struct Case {
     call: usize,
 }
 
-fn say(text: &[u8]) {
-    io::write_all(STDOUT_FILENO, text);
-}
-
-// A number and the blank behind it.
-fn cell(n: usize) {
-    io::print_decimal(STDOUT_FILENO, n as u64);
-    say(b" ");
-}
-
-// In hexadecimal, or - where there is none; and the row's end.
+// The row's last cell.
 fn hex(bytes: &[u8]) {
-    let mut digits = [0u8; 2 * LONGEST_ROOM];
-    let n = base_hex::put_hex(bytes, &mut digits);
-    if n == 0 {
-        say(b"-");
-    }
-    if n <= digits.len() {
-        say(&digits[0..n]);
-    }
+    rows_case::hex_cell(bytes);
     say(b"\n");
-}
-
-fn part(all: &[u8], from: usize, to: usize) -> &[u8] {
-    if to > all.len() {
-        return &all[0..0];
-    }
-    if from > to {
-        return &all[0..0];
-    }
-    &all[from..to]
 }
 
 fn written(name: &[u8], rows: &[u8], out: &mut [u8]) {
@@ -133,7 +102,6 @@ fn case_row(c: Case, all: &[u8]) {
         return;
     }
     say(part(all, 0, c.name));
-    say(b" ");
     called(
         c.call,
         part(all, c.name, c.one),
@@ -142,33 +110,13 @@ fn case_row(c: Case, all: &[u8]) {
     );
 }
 
-// Number i of a head.
-fn number_in(h: [u8; HEAD], i: usize) -> usize {
-    if i >= NUMBERS {
-        return 0;
-    }
-    let at = 4 * i;
-    two(h[at], h[at + 1]) * 65536 + two(h[at + 2], h[at + 3])
-}
-
-fn two(high: u8, low: u8) -> usize
-    ensures { λ r. ⌜ r < 65536 ⌝ }
-{
-    (high as usize) * 256 + low as usize
-}
-
-// The end of the part of which number i is the length, where the part before it ends.
-fn end_of(h: [u8; HEAD], i: usize, before: usize) -> usize {
-    std::num::wrapping_add_usize(before, number_in(h, i))
-}
-
-fn case_of(h: [u8; HEAD]) -> Case {
+fn case_of(h: &[u8]) -> Case {
     let name = number_in(h, 0);
-    let one = end_of(h, 1, name);
+    let one = end_in(h, 1, name);
     Case {
         name,
         one,
-        two: end_of(h, 2, one),
+        two: end_in(h, 2, one),
         room: number_in(h, 3),
         call: number_in(h, 4),
     }
@@ -177,23 +125,19 @@ fn case_of(h: [u8; HEAD]) -> Case {
 // One case from standard input; false where there is none left.
 fn one(buffer: &mut [u8]) -> bool {
     let mut head = [0u8; HEAD];
-    if io::read_full(STDIN_FILENO, &mut head) != HEAD {
+    if !rows_case::taken(&mut head) {
         return false;
     }
-    let c = case_of(head);
-    let length = c.two;
-    if length > buffer.len() {
+    let c = case_of(&head);
+    if !rows_case::part_taken(buffer, 0, c.two) {
         return false;
     }
-    if io::read_full(STDIN_FILENO, &mut buffer[0..length]) != length {
-        return false;
-    }
-    case_row(c, &buffer[0..length]);
+    case_row(c, buffer);
     true
 }
 
 fn main() {
-    let mut buffer = [0u8; LONGEST_PARTS];
+    let mut buffer = rows_case::buffer();
     let mut left: usize = MOST_CASES;
     while left > 0 {
         if one(&mut buffer) {

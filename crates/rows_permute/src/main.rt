@@ -3,7 +3,10 @@
 // refused.
 use gage_spec::LARGEST;
 use gage_spec::ROUNDS;
-use libc::STDOUT_FILENO;
+use rows_case::cell;
+use rows_case::hex_cell;
+use rows_case::part;
+use rows_case::say;
 
 // The permitted sizes in bytes, and sizes that are not.
 const PERMITTED: [usize; 10] = [29, 30, 32, 34, 36, 40, 48, 64, 68, 72];
@@ -15,22 +18,9 @@ const COUNTS: [usize; 5] = [1, 2, ROUNDS / 2, ROUNDS, 255];
 
 const NO_COUNTS: [usize; 3] = [0, 256, 0xFFFF_FFFF_FFFF_FFFF];
 
-fn say(text: &[u8]) {
-    io::write_all(STDOUT_FILENO, text);
-}
-
-fn number(n: usize) {
-    io::print_decimal(STDOUT_FILENO, n as u64);
-}
-
 // The first n bytes of a state.
 fn hex(state: [u8; LARGEST], n: usize) {
-    let mut digits = [0u8; 2 * LARGEST];
-    // Never more: every size asked for is at most the largest.
-    if n <= LARGEST {
-        base_hex::put_hex(&state, &mut digits);
-        say(&digits[0..2 * n]);
-    }
+    hex_cell(part(&state, 0, n));
 }
 
 // Byte i of the ramp is 31*i + n, mod 256.
@@ -43,21 +33,18 @@ fn ramp(n: usize) -> [u8; LARGEST] {
 // Size, rounds and kind of a row.
 fn begin(call: &[u8], n: usize, k: usize, kind: &[u8]) {
     say(call);
-    number(n);
-    say(b" ");
-    number(k);
+    cell(n);
+    cell(k);
     say(b" ");
     say(kind);
-    say(b" ");
 }
 
 // The first round byte by byte, which is the substitution with the first leader, 0, and whether it is what the planes gave.
 fn first_round(n: usize, kind: &[u8], s: [u8; LARGEST], planes: [u8; LARGEST]) {
-    say(b"substitute ");
-    number(n);
+    say(b"substitute");
+    cell(n);
     say(b" ");
     say(kind);
-    say(b" ");
     let bytes = gage_substitute::substitute(s, n, 0);
     hex(bytes, n);
     if base_lists::compare(&bytes, &planes) {
@@ -69,10 +56,10 @@ fn first_round(n: usize, kind: &[u8], s: [u8; LARGEST], planes: [u8; LARGEST]) {
 
 // One state, permuted and unpermuted.
 fn rows(n: usize, k: usize, kind: &[u8], s: [u8; LARGEST]) {
-    begin(b"permute ", n, k, kind);
+    begin(b"permute", n, k, kind);
     let there = gage_permute::permute(s, n, k).state;
     hex(there, n);
-    begin(b"\nunpermute ", n, k, kind);
+    begin(b"\nunpermute", n, k, kind);
     let back = gage_permute::unpermute(s, n, k).state;
     hex(back, n);
     say(b"\n");
@@ -102,14 +89,11 @@ fn refused(n: usize, k: usize) {
     let q = gage_permute::unpermute(between, n, k);
     let back = q.answer;
     let after = q.state;
-    say(b"refused ");
-    number(n);
-    say(b" ");
-    number(k);
-    say(b" ");
-    number(gage_spec::number(there) as usize);
-    say(b" ");
-    number(gage_spec::number(back) as usize);
+    say(b"refused");
+    cell(n);
+    cell(k);
+    cell(gage_spec::number(there) as usize);
+    cell(gage_spec::number(back) as usize);
     if base_lists::compare(&before, &after) {
         say(b" same\n");
     } else {

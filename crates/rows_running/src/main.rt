@@ -3,27 +3,17 @@
 // three numbers, four bytes each, the high byte first: 0 to start (the instance), 1 to feed (the length, and the first byte), 2 to finish
 // (the room), 3 to set the record (total, instance, finished). Each row has all that the call left: number, count and room, of a set
 // none, and the record.
-ghost use mathlib.Core.Path.{_≡_};
-ghost use Prim.Native.Nat.{_<_};
-ghost use lib.ListN.{length};
-use digest_call::LONGEST_MESSAGE;
 use gage_spec::LARGEST;
 use gage_sponge::LARGEST_RATE;
-use libc::STDIN_FILENO;
-use libc::STDOUT_FILENO;
+use rows_case::MOST_CASES;
+use rows_case::cell;
+use rows_case::hex_cell;
+use rows_case::number_in;
+use rows_case::say;
 use running_spec::Record;
 
-// More cases than standard input has: where it ends, so do the rows.
-const MOST_CASES: usize = 10000;
-
-// The head of a case has so many numbers and bytes; and the longest name, feed and room that a case has.
-const NUMBERS: usize = 5;
-
-const HEAD: usize = 4 * NUMBERS;
-
-const LONGEST_NAME: usize = 64;
-
-const LONGEST_FEED: usize = LONGEST_MESSAGE + 1;
+// The head of a case has so many bytes; and the longest room that a case has.
+const HEAD: usize = 20;
 
 const LONGEST_ROOM: usize = 40;
 
@@ -40,51 +30,28 @@ const FINISHES: usize = 2;
 
 const SETS: usize = 3;
 
-fn say(text: &[u8]) {
-    io::write_all(STDOUT_FILENO, text);
-}
-
-// A blank, and a number behind it.
-fn cell(n: usize) {
-    say(b" ");
-    io::print_decimal(STDOUT_FILENO, n as u64);
-}
-
-// The same with bytes in hexadecimal, or - where there is none.
-fn hex(bytes: &[u8]) {
-    let mut digits = [0u8; 2 * LARGEST];
-    let n = base_hex::put_hex(bytes, &mut digits);
-    say(b" ");
-    if n == 0 {
-        say(b"-");
-    }
-    if n <= digits.len() {
-        say(&digits[0..n]);
-    }
-}
-
 fn record(running: Record) {
     let state = running.state;
     let block = running.block;
     cell(running.total);
     cell(running.instance as usize);
     cell(running.finished as usize);
-    hex(&state);
-    hex(&block);
+    hex_cell(&state);
+    hex_cell(&block);
     say(b"\n");
 }
 
 fn started(running: Record, instance: usize) -> Record {
     cell(running_steps::start_number(running_steps::start_answer(instance)) as usize);
     cell(0);
-    hex(b"");
+    hex_cell(b"");
     running_steps::after_start(running, instance)
 }
 
 fn fed(running: Record, bytes: &[u8]) -> Record {
     cell(running_steps::feed_number(running_steps::feed_answer(running, bytes)) as usize);
     cell(0);
-    hex(b"");
+    hex_cell(b"");
     running_steps::after_feed(running, bytes)
 }
 
@@ -92,7 +59,7 @@ fn finished(running: Record, out: &mut [u8]) -> Record {
     let answer = running_steps::give(running, out);
     cell(running_steps::finish_number(answer) as usize);
     cell(running_steps::finish_count(answer));
-    hex(out);
+    hex_cell(out);
     running_steps::after_finish(running, answer)
 }
 
@@ -127,22 +94,7 @@ fn finished_in(running: Record, room: usize) -> Record {
     finished(running, &mut out[0..room])
 }
 
-// Number i of a head.
-fn number_in(h: [u8; HEAD], i: usize) -> usize {
-    if i >= NUMBERS {
-        return 0;
-    }
-    let at = 4 * i;
-    two(h[at], h[at + 1]) * 65536 + two(h[at + 2], h[at + 3])
-}
-
-fn two(high: u8, low: u8) -> usize
-    ensures { λ r. ⌜ r < 65536 ⌝ }
-{
-    (high as usize) * 256 + low as usize
-}
-
-fn called(running: Record, h: [u8; HEAD], buffer: &mut [u8]) -> Record {
+fn called(running: Record, h: &[u8], buffer: &mut [u8]) -> Record {
     let call = number_in(h, 1);
     let one = number_in(h, 2);
     if call == FEEDS {
@@ -158,42 +110,22 @@ fn called(running: Record, h: [u8; HEAD], buffer: &mut [u8]) -> Record {
     started(running, one)
 }
 
-// Reads what fills the name, and prints it.
-fn pass(name: &mut [u8]) {
-    io::read_full(STDIN_FILENO, name);
-    say(name);
-}
-
-fn pass_name(length: usize) {
-    let mut name = [0u8; LONGEST_NAME];
-    if length > LONGEST_NAME {
-        return;
-    }
-    pass(&mut name[0..length]);
-}
-
 // The row of a case whose head was read, and the record that it leaves.
-fn one(running: Record, h: [u8; HEAD], buffer: &mut [u8]) -> Record {
-    pass_name(number_in(h, 0));
+fn one(running: Record, h: &[u8], buffer: &mut [u8]) -> Record {
+    rows_case::name_passed(number_in(h, 0));
     let left = called(running, h, buffer);
     record(left);
     left
 }
 
-fn empty() -> [u8; LONGEST_FEED]
-    ensures { λ r. ⌜ 65537 ≡ length r ⌝ }
-{
-    [0; LONGEST_FEED]
-}
-
 fn main() {
-    let mut buffer = empty();
+    let mut buffer = rows_case::buffer();
     let mut running = set(0, 0, 0);
     let mut left: usize = MOST_CASES;
     while left > 0 {
         let mut head = [0u8; HEAD];
-        if io::read_full(STDIN_FILENO, &mut head) == HEAD {
-            running = one(running, head, &mut buffer);
+        if rows_case::taken(&mut head) {
+            running = one(running, &head, &mut buffer);
             left -= 1;
         } else {
             left = 0;

@@ -7,21 +7,18 @@ use digest_call::DIGEST;
 use frame_write::Written;
 use ingage_answers::Opened;
 use ingage_answers::Sealed;
-use libc::STDIN_FILENO;
-use libc::STDOUT_FILENO;
 use line_layout::Layout;
 use line_layout::layout_of;
-ghost use Prim.Native.Nat.{_<_};
+use rows_case::MOST_CASES;
+use rows_case::cell;
+use rows_case::end_in;
+use rows_case::hex_cell;
+use rows_case::number_in;
+use rows_case::part;
+use rows_case::say;
 
-// More cases than standard input has: where it ends, so do the rows.
-const MOST_CASES: usize = 10000;
-
-// The head of a case has so many numbers and bytes; and the longest name with parts, room and seal that a case has.
-const NUMBERS: usize = 10;
-
-const HEAD: usize = 4 * NUMBERS;
-
-const LONGEST_PARTS: usize = 8192;
+// The head of a case has so many bytes; and the longest room and seal that a case has.
+const HEAD: usize = 40;
 
 const LONGEST_ROOM: usize = 5000;
 
@@ -64,37 +61,15 @@ struct Outcome {
     count: usize,
 }
 
-fn say(text: &[u8]) {
-    io::write_all(STDOUT_FILENO, text);
-}
-
-// A number and the blank behind it.
-fn cell(n: usize) {
-    io::print_decimal(STDOUT_FILENO, n as u64);
-    say(b" ");
-}
-
-// In hexadecimal, or - where there is none.
-fn hex(bytes: &[u8]) {
-    let mut digits = [0u8; 2 * PRINTED_AS_DIGEST];
-    let n = base_hex::put_hex(bytes, &mut digits);
-    if n == 0 {
-        say(b"-");
-    }
-    if n <= digits.len() {
-        say(&digits[0..n]);
-    }
-}
-
 // A room, or the digest of one that is too long for a row.
 fn shown(bytes: &[u8]) {
     let mut digest = [0u8; DIGEST];
     if bytes.len() < PRINTED_AS_DIGEST {
-        hex(bytes);
+        hex_cell(bytes);
         return;
     }
     digest_call::digest(1, bytes, &mut digest);
-    hex(&digest);
+    hex_cell(&digest);
 }
 
 fn of_seal(answer: Sealed) -> Outcome {
@@ -128,16 +103,6 @@ fn of_convert(answer: Converted) -> Outcome {
         length: convert_call::frame_length(answer),
         count: 0,
     }
-}
-
-fn part(all: &[u8], from: usize, to: usize) -> &[u8] {
-    if to > all.len() {
-        return &all[0..0];
-    }
-    if from > to {
-        return &all[0..0];
-    }
-    &all[from..to]
 }
 
 // The calls of a frame; text is the line, or the stretch to convert.
@@ -202,13 +167,11 @@ fn row(c: Case, all: &[u8], out: &mut [u8], seal: &mut [u8]) {
     base_lists::copy(part(all, c.text, c.seal), seal);
     let t = parted(c, all, out, seal);
     say(part(all, 0, c.name));
-    say(b" ");
     cell(t.number as usize);
     cell(t.length);
     cell(t.count);
     shown(out);
-    say(b" ");
-    hex(seal);
+    hex_cell(seal);
     say(b"\n");
 }
 
@@ -227,33 +190,13 @@ fn case_row(c: Case, all: &[u8]) {
     row(c, all, &mut out[0..room], &mut seal[0..n]);
 }
 
-// Number i of a head.
-fn number_in(h: [u8; HEAD], i: usize) -> usize {
-    if i >= NUMBERS {
-        return 0;
-    }
-    let at = 4 * i;
-    two(h[at], h[at + 1]) * 65536 + two(h[at + 2], h[at + 3])
-}
-
-fn two(high: u8, low: u8) -> usize
-    ensures { λ r. ⌜ r < 65536 ⌝ }
-{
-    (high as usize) * 256 + low as usize
-}
-
-// The end of the part of which number i is the length, where the part before it ends.
-fn end_of(h: [u8; HEAD], i: usize, before: usize) -> usize {
-    std::num::wrapping_add_usize(before, number_in(h, i))
-}
-
-fn case_of(h: [u8; HEAD]) -> Case {
+fn case_of(h: &[u8]) -> Case {
     let name = number_in(h, 0);
-    let key = end_of(h, 1, name);
-    let nonce = end_of(h, 2, key);
-    let associated = end_of(h, 3, nonce);
-    let text = end_of(h, 4, associated);
-    let seal = end_of(h, 5, text);
+    let key = end_in(h, 1, name);
+    let nonce = end_in(h, 2, key);
+    let associated = end_in(h, 3, nonce);
+    let text = end_in(h, 4, associated);
+    let seal = end_in(h, 5, text);
     Case {
         name,
         key,
@@ -271,23 +214,19 @@ fn case_of(h: [u8; HEAD]) -> Case {
 // One case from standard input; false where there is none left.
 fn one(buffer: &mut [u8]) -> bool {
     let mut head = [0u8; HEAD];
-    if io::read_full(STDIN_FILENO, &mut head) != HEAD {
+    if !rows_case::taken(&mut head) {
         return false;
     }
-    let c = case_of(head);
-    let length = c.seal;
-    if length > buffer.len() {
+    let c = case_of(&head);
+    if !rows_case::part_taken(buffer, 0, c.seal) {
         return false;
     }
-    if io::read_full(STDIN_FILENO, &mut buffer[0..length]) != length {
-        return false;
-    }
-    case_row(c, &buffer[0..length]);
+    case_row(c, buffer);
     true
 }
 
 fn main() {
-    let mut buffer = [0u8; LONGEST_PARTS];
+    let mut buffer = rows_case::buffer();
     let mut left: usize = MOST_CASES;
     while left > 0 {
         if one(&mut buffer) {

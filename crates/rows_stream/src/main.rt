@@ -1,49 +1,31 @@
 // Prints the rows that the second program makes of its own streams (tests/second, src/rows/stream.rs): every reading of each case on
 // standard input, good, damaged or at a limit, as a walker reads it from the case's place to the end of its stream. A case is its head, its
-// name, and the first and the last bytes of its stream, with one byte again and again between them. The head is numbers of four bytes each,
-// the high byte first.
-use libc::STDIN_FILENO;
-use libc::STDOUT_FILENO;
+// name, and the first and the last bytes of its stream, with one byte again and again between them.
 use line_layout::layout_of;
 use read_call::Asked;
-use read_call::LONGEST_STREAM;
 use read_numbers::END;
 use read_numbers::Report;
 use read_numbers::numbers;
 use read_walk::Step;
-ghost use mathlib.Core.Path.{_≡_};
-ghost use Prim.Native.Nat.{_<_};
-ghost use lib.ListN.{length};
+use rows_case::LONGEST_CASE;
+use rows_case::MOST_CASES;
+use rows_case::cell;
+use rows_case::number_in;
+use rows_case::part;
+use rows_case::say;
 
-// More cases than standard input has: where it ends, so do the rows.
-const MOST_CASES: usize = 10000;
-
-// The head of a case has so many numbers and bytes; and the longest name, stream, line buffer, key and font digest that a case has.
-const NUMBERS: usize = 12;
-
-const HEAD: usize = 4 * NUMBERS;
+// The head of a case has so many bytes; and the longest name and line buffer that a case has.
+const HEAD: usize = 48;
 
 const LONGEST_NAME: usize = 64;
 
-const LONGEST_CASE: usize = LONGEST_STREAM + 1;
-
 const LONGEST_LINE: usize = 255;
-
-const LONGEST_KEY: usize = 17;
-
-const LONGEST_FONT: usize = 33;
 
 // Each reading ends further on, so one more than the longest stream has bytes is enough.
 const MOST_TURNS: usize = LONGEST_CASE + 1;
 
-// The lengths of name, stream, its first and its last bytes, the byte between them, the place to read from, and the lengths of line
-// buffer, key and font digest, the work allowed, the editions and the layout.
+// What a reader is told: the place to read from, the lengths of line buffer, key and font digest, the work allowed, the editions and the layout.
 struct Case {
-    name: usize,
-    length: usize,
-    first: usize,
-    last: usize,
-    between: usize,
     place: usize,
     line: usize,
     key: usize,
@@ -53,40 +35,28 @@ struct Case {
     layout: usize,
 }
 
-fn say(text: &[u8]) {
-    io::write_all(STDOUT_FILENO, text);
-}
-
-// A number and the blank behind it.
-fn cell(n: usize) {
-    io::print_decimal(STDOUT_FILENO, n as u64);
-    say(b" ");
-}
-
 // The line in square brackets, or a dash where none is given.
 fn shown(line: &[u8], length: usize) {
     if length == 0 {
-        say(b"-\n");
+        say(b" -\n");
         return;
     }
-    say(b"[");
-    if length <= line.len() {
-        say(&line[0..length]);
-    }
+    say(b" [");
+    say(part(line, 0, length));
     say(b"]\n");
 }
 
 // The number of an answer; the end of the stream has a word of its own.
 fn number(its: Report) {
     if its.outcome == END {
-        say(b"end ");
+        say(b" end");
         return;
     }
     cell(its.number as usize);
 }
 
 // The next stretch itself: where its first byte stands, and its length.
-fn part(stream: &[u8], from: usize) {
+fn span(stream: &[u8], from: usize) {
     cell(read_stretch::next_span(stream, from).first);
     cell(read_stretch::next_stretch(stream, from).len());
 }
@@ -106,9 +76,8 @@ fn row(
     let answer = reading.answer;
     let its = numbers(answer);
     say(name);
-    say(b" ");
     cell(from);
-    part(stream, from);
+    span(stream, from);
     cell(reading.first);
     cell(reading.closing);
     number(its);
@@ -145,31 +114,21 @@ fn case_rows(
     }
 }
 
-// The readings with the rules' key and font digest, and buffers of the lengths that the case asks for.
+// The readings with the rules' key and font digest, and a line buffer of the length that the case asks for.
 fn told_rows(c: Case, name: &[u8], stream: &[u8]) {
-    let mut key = [0u8; LONGEST_KEY];
-    let mut font = [0u8; LONGEST_FONT];
+    let key = rows_case::key();
+    let font = rows_case::font();
     let mut line = [0u8; LONGEST_LINE];
-    let k = c.key;
-    let f = c.font;
     let l = c.line;
-    if k > LONGEST_KEY {
-        return;
-    }
-    if f > LONGEST_FONT {
-        return;
-    }
     if l > LONGEST_LINE {
         return;
     }
-    base_ramp::fill(&mut key, 0x10, 1);
-    base_ramp::fill(&mut font, 1, 3);
     case_rows(
         name,
         stream,
         c.place,
-        &key[0..k],
-        &font[0..f],
+        part(&key, 0, c.key),
+        part(&font, 0, c.font),
         Asked {
             editions: c.editions,
             allowed: c.allowed,
@@ -179,50 +138,8 @@ fn told_rows(c: Case, name: &[u8], stream: &[u8]) {
     );
 }
 
-// Reads standard input over a part of a buffer; false where there are not that many bytes.
-fn taken(buffer: &mut [u8], from: usize, length: usize) -> bool {
-    if from > buffer.len() {
-        return false;
-    }
-    if length > buffer.len() - from {
-        return false;
-    }
-    let to = from + length;
-    io::read_full(STDIN_FILENO, &mut buffer[from..to]) == length
-}
-
-// The stream of a case over the whole of a buffer.
-fn streamed(c: Case, stream: &mut [u8]) -> bool {
-    let last = std::num::wrapping_sub_usize(stream.len(), c.last);
-    base_ramp::fill(stream, (c.between % 256) as u8, 0);
-    if !taken(stream, 0, c.first) {
-        return false;
-    }
-    taken(stream, last, c.last)
-}
-
-// Number i of a head.
-fn number_in(h: [u8; HEAD], i: usize) -> usize {
-    if i >= NUMBERS {
-        return 0;
-    }
-    let at = 4 * i;
-    two(h[at], h[at + 1]) * 65536 + two(h[at + 2], h[at + 3])
-}
-
-fn two(high: u8, low: u8) -> usize
-    ensures { λ r. ⌜ r < 65536 ⌝ }
-{
-    (high as usize) * 256 + low as usize
-}
-
-fn case_of(h: [u8; HEAD]) -> Case {
+fn case_of(h: &[u8]) -> Case {
     Case {
-        name: number_in(h, 0),
-        length: number_in(h, 1),
-        first: number_in(h, 2),
-        last: number_in(h, 3),
-        between: number_in(h, 4),
         place: number_in(h, 5),
         line: number_in(h, 6),
         key: number_in(h, 7),
@@ -233,45 +150,36 @@ fn case_of(h: [u8; HEAD]) -> Case {
     }
 }
 
-// The case with its name and a buffer of its stream's length; false where either cannot be read.
-fn named(c: Case, stream: &mut [u8]) -> bool {
+// The case with its name and a buffer of its stream's length; false where either cannot be read. A head begins with the lengths of the name, of
+// the stream, of its first and of its last bytes, and the byte between them.
+fn named(h: &[u8], stream: &mut [u8]) -> bool {
     let mut name = [0u8; LONGEST_NAME];
-    let n = c.name;
-    if n > LONGEST_NAME {
+    let n = number_in(h, 0);
+    if !rows_case::part_taken(&mut name, 0, n) {
         return false;
     }
-    if !taken(&mut name, 0, n) {
+    if !rows_case::around_taken(stream, number_in(h, 2), number_in(h, 3), number_in(h, 4)) {
         return false;
     }
-    if !streamed(c, stream) {
-        return false;
-    }
-    told_rows(c, &name[0..n], stream);
+    told_rows(case_of(h), part(&name, 0, n), stream);
     true
 }
 
 // One case from standard input; false where there is none left.
 fn one(buffer: &mut [u8]) -> bool {
     let mut head = [0u8; HEAD];
-    if io::read_full(STDIN_FILENO, &mut head) != HEAD {
+    if !rows_case::taken(&mut head) {
         return false;
     }
-    let c = case_of(head);
-    let n = c.length;
+    let n = number_in(&head, 1);
     if n > buffer.len() {
         return false;
     }
-    named(c, &mut buffer[0..n])
-}
-
-fn empty() -> [u8; LONGEST_CASE]
-    ensures { λ r. ⌜ 65537 ≡ length r ⌝ }
-{
-    [0; LONGEST_CASE]
+    named(&head, &mut buffer[0..n])
 }
 
 fn main() {
-    let mut buffer = empty();
+    let mut buffer = rows_case::buffer();
     let mut left: usize = MOST_CASES;
     while left > 0 {
         if one(&mut buffer) {

@@ -11,6 +11,9 @@ Inv-loop buffer₀ left₀ buffer left = length buffer ≡ length buffer₀
 abbrev μ-loop : tie.MeasureT-loop
 μ-loop buffer₀ left₀ buffer left = left
 
+buffer-requires : tie.Need-buffer-requires Inv-loop μ-loop
+buffer-requires c κs = search needs
+
 loop-holds : tie.Need-loop-holds Inv-loop μ-loop
 loop-holds c = search needs
 
@@ -44,6 +47,7 @@ main-spec =
     (tie.spec
     Inv-loop
     μ-loop
+    buffer-requires
     loop-holds
     slice-aggregate-one
     one-requires

@@ -11,8 +11,8 @@ Inv-loop buffer₀ running₀ left₀ buffer running left = length buffer ≡ le
 abbrev μ-loop : tie.MeasureT-loop
 μ-loop buffer₀ running₀ left₀ buffer running left = left
 
-empty-requires : tie.Need-empty-requires Inv-loop μ-loop
-empty-requires c κs = search needs
+buffer-requires : tie.Need-buffer-requires Inv-loop μ-loop
+buffer-requires c κs = search needs
 
 set-requires : tie.Need-set-requires Inv-loop μ-loop
 set-requires c κs = search needs
@@ -20,14 +20,17 @@ set-requires c κs = search needs
 loop-holds : tie.Need-loop-holds Inv-loop μ-loop
 loop-holds c = search needs
 
-slice-aggregate-read-full : tie.Need-slice-aggregate-read-full Inv-loop μ-loop
-slice-aggregate-read-full c = search needs
+slice-aggregate-taken : tie.Need-slice-aggregate-taken Inv-loop μ-loop
+slice-aggregate-taken c = search needs
 
-read-full-requires : tie.Need-read-full-requires Inv-loop μ-loop
-read-full-requires c κs = search needs
+taken-requires : tie.Need-taken-requires Inv-loop μ-loop
+taken-requires c κs = search needs
 
 slice-aggregate-one : tie.Need-slice-aggregate-one Inv-loop μ-loop
 slice-aggregate-one c = search needs
+
+slice-aggregate-one-2 : tie.Need-slice-aggregate-one-2 Inv-loop μ-loop
+slice-aggregate-one-2 c = search needs
 
 one-requires : tie.Need-one-requires Inv-loop μ-loop
 one-requires c κs = search needs
@@ -56,12 +59,13 @@ main-spec =
     (tie.spec
     Inv-loop
     μ-loop
-    empty-requires
+    buffer-requires
     set-requires
     loop-holds
-    slice-aggregate-read-full
-    read-full-requires
+    slice-aggregate-taken
+    taken-requires
     slice-aggregate-one
+    slice-aggregate-one-2
     one-requires
     sub-left
     loop-less
