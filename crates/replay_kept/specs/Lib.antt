@@ -1,6 +1,7 @@
 pub mod Promises
 pub mod Contracts
 pub mod Bytes
+pub mod AsRead
 pub mod Stepping
 pub mod Refused
 pub mod Received
