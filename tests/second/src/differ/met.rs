@@ -1,8 +1,13 @@
 //! Which answers a run has met: one that misses an answer has not tried it.
 
+use std::fmt::Display;
+
 /// Prints how often each answer of each call was met, a call as its place among
 /// the outcomes; says whether every one was.
-pub fn every(outcomes: &[(&str, &[usize])], met: &[(usize, usize)]) -> bool {
+pub fn every<Answer: Copy + PartialEq + Display>(
+    outcomes: &[(&str, &[Answer])],
+    met: &[(usize, Answer)],
+) -> bool {
     let mut complete = true;
     for (call, (name, answers)) in outcomes.iter().enumerate() {
         for &answer in answers.iter() {

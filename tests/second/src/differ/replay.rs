@@ -5,6 +5,7 @@
 //! trace is cut off, or damaged at each byte in turn. After each call both
 //! buffers are compared whole.
 
+use crate::met::every;
 use crate::stock::{line, stuffy};
 use second::chance::Chance;
 use second::frame::{field, framed, Fields, Own};
@@ -420,14 +421,7 @@ pub fn differ(seed: u64, count: u64) -> bool {
         }
         met.extend(its);
     }
-    let mut complete = true;
-    for (call, (name, answers)) in OUTCOMES.iter().enumerate() {
-        for answer in answers.iter() {
-            let times = met.iter().filter(|&&its| its == (call, *answer)).count();
-            println!("{:24}{:8}{:9}", name, answer, times);
-            complete = complete && times > 0;
-        }
-    }
+    let complete = every(&OUTCOMES, &met);
     println!("differ: {} traces, {} differ", count, differing);
     differing == 0 && complete
 }

@@ -15,7 +15,7 @@ use crate::reader::{Editions, BOTH, ONE, TWO};
 use crate::text::value;
 use crate::told::Told;
 
-const JOB: [u8; 4] = [0x00, 0x7e, 0x7d, 0x05];
+pub const JOB: [u8; 4] = [0x00, 0x7e, 0x7d, 0x05];
 
 /// A line of layout A, and lines that are refused for what they are.
 pub const OF_A: &[u8] = b"A123456789A0123456789C";

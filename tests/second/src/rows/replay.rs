@@ -1,26 +1,23 @@
-//! Replays of press traces, and what stood at an event (order W11): a job
-//! received in every cutting with requests before, between and behind its bytes;
-//! stretches that are refused; prints that differ; each event at fault, alone,
-//! before and behind each other, and within one event; the limit of the stream;
-//! the refusals of the call with all of these; a trace damaged at each byte.
+//! `rows_replay`: replays of press traces, and what stood at an event (order
+//! W11), one call and one row for each case of the case file: a job received in
+//! every cutting with requests before, between and behind its bytes; stretches
+//! that are refused; prints that differ; each event at fault, alone, before and
+//! behind each other, and within one event; the limit of the stream; the
+//! refusals of the call with all of these; a trace damaged at each byte.
 
 use std::fmt::Write;
 
-use super::stream::longest_run;
-use super::{by_rule, in_bytes, told};
+use super::accept::{fields, numbered, refused, JOB, OF_A};
+use super::stream::stored;
+use super::told;
 use crate::digest::digest;
-use crate::frame::{field, framed, framed_escaping, Fields, Own};
+use crate::frame::{field, framed};
 use crate::line::{Layout, LAYOUT_A, LAYOUT_B, NEITHER};
-use crate::numbers::{DIGEST, KEY, NONCE, STREAM_LIMIT};
+use crate::numbers::{DIGEST, KEY, STREAM_LIMIT};
 use crate::reader::{Editions, BOTH, ONE, TWO};
 use crate::replay::{replay, stood, TAG_ASKED, TAG_PRINTED, TAG_RECEIVED};
 use crate::text::value;
 use crate::told::Told;
-
-const JOB: [u8; 4] = [0x00, 0x7e, 0x7d, 0x05];
-
-/// A line of layout A.
-const OF_A: &[u8] = b"A123456789A0123456789C";
 
 /// What stands in the buffer before a call, and what it has beyond its least
 /// room where a case asks for more.
@@ -87,20 +84,10 @@ impl Case {
         }
     }
 
-    /// As the case file holds it: the lengths of the name, of the trace, of the
-    /// first and of the last of its bytes, the byte between those, the lengths
-    /// of key and font digest, the editions, the layout, the room, the call and
-    /// the event; then the name and the first and the last bytes.
+    /// The numbers are the lengths of key and font digest, the editions, the
+    /// layout, the room, the call and the event.
     fn stored(&self) -> Vec<u8> {
-        let run = longest_run(&self.trace);
-        let (first, last) = (&self.trace[..run.start], &self.trace[run.end..]);
-        let between = self.trace.get(run.start).copied().unwrap_or(0);
-        let head = [
-            self.name.len(),
-            self.trace.len(),
-            first.len(),
-            last.len(),
-            usize::from(between),
+        let numbers = [
             self.key,
             self.digest,
             self.editions.0 as usize,
@@ -109,13 +96,7 @@ impl Case {
             usize::from(self.event.is_some()),
             self.event.unwrap_or(0),
         ];
-        [
-            head.map(in_bytes).concat(),
-            self.name.as_bytes().into(),
-            first.into(),
-            last.into(),
-        ]
-        .concat()
+        stored(&self.name, &self.trace, &numbers)
     }
 
     fn row(&self) -> String {
@@ -164,35 +145,12 @@ fn printed(bytes: &[u8]) -> Vec<u8> {
     field(TAG_PRINTED, bytes)
 }
 
-fn fields(number: usize, job: Option<&[u8]>, line: &[u8]) -> Fields {
-    let nonce = by_rule(NONCE, |i| 0x78 + i + 16 * number);
-    let own = Own { nonce: &nonce, job };
-    Fields::sealing_own(&told::key(), own, &told::digest(), line).0
-}
-
 fn one(line: &[u8]) -> Vec<u8> {
-    framed(&fields(0, None, line).body())
+    framed(&fields(&numbered(0), None, line).body())
 }
 
 fn two(line: &[u8]) -> Vec<u8> {
-    framed(&fields(1, Some(&JOB), line).body())
-}
-
-/// Stretches that are refused, by the reader's number.
-fn refused() -> Vec<(&'static str, Vec<u8>)> {
-    let good = fields(2, None, b"7");
-    let (mut seal, mut font) = (good.clone(), good.clone());
-    seal.seal[15] ^= 1;
-    font.digest[0] ^= 1;
-    vec![
-        ("5", framed(&seal.body())),
-        ("6", framed_escaping(&good.body(), 20)),
-        ("7", b"~A~".to_vec()),
-        ("7-long", [&b"~"[..], &[b'A'; 289], b"~"].concat()),
-        ("8", framed(&font.body())),
-        ("9", framed(&fields(2, None, b"x1").body())),
-        ("13", framed(&fields(2, None, b" ").body())),
-    ]
+    framed(&fields(&numbered(1), Some(&JOB), line).body())
 }
 
 /// A frame of each edition, with a shared mark, received up to a place and then
@@ -274,7 +232,7 @@ fn good_traces() -> Vec<Case> {
         cases.push(plain(&format!("layout {}", name), &layouts).layout(layout));
     }
     // What is refused is passed over, alone and before a line, in one request.
-    for (what, bad) in refused() {
+    for (what, bad) in refused(2) {
         let before = [
             received(&bad),
             asked(),
