@@ -1,5 +1,5 @@
-//! Says where the static library stands, for `differ` alone (feature
-//! `library`): target/staticlib of the whole tree.
+//! Says where the static library and the desk's stand, for `differ` alone
+//! (feature `library`): target/staticlib of the whole tree.
 
 use std::env;
 use std::path::Path;
@@ -11,7 +11,8 @@ fn main() {
     }
     let here = env::var("CARGO_MANIFEST_DIR").expect("cargo says where the crate is");
     let there = Path::new(&here).join("../../target/staticlib");
-    let archive = there.join("liblubdhvani.a");
-    println!("cargo:rerun-if-changed={}", archive.display());
+    for archive in ["liblubdhvani.a", "liblubdhvani_desk.a"] {
+        println!("cargo:rerun-if-changed={}", there.join(archive).display());
+    }
     println!("cargo:rustc-link-search=native={}", there.display());
 }

@@ -56,6 +56,9 @@ pub record Measured (n m : ℕ) : Type 0 where
   pub exact : m ≤ longestStream → n ≡ m
   pub beyond : longestStream < m → longestStream < n
 
+abbrev pub report : ℕ → ℕ → ℕ → Report
+report number length item = record { number = number; length = length; item = item }
+
 -- what is reported of an answer: number, length and item
 abbrev pub reportOf : Answer → Report
-reportOf a = record { number = numberOf a; length = lengthOf a; item = itemOf a }
+reportOf a = report (numberOf a) (lengthOf a) (itemOf a)

@@ -10,7 +10,7 @@ ghost use Rattle.read_call.specs.Answers.{longestStream};
 ghost use Rattle.frame_spec.specs.Told.{told};
 ghost use Rattle.index_spec.specs.Cases.{Takes};
 ghost use Rattle.desk_spec.specs.Desk.{placeOf, newStream, faultFrom, fitting, outOf, deskCall, deskOut};
-ghost use Rattle.desk_call.specs.Steps.{lengthened, itemsFrom, closingAt, frameAt, framesAt, Starts, Measured, reportOf};
+ghost use Rattle.desk_call.specs.Steps.{lengthened, itemsFrom, closingAt, frameAt, framesAt, Starts, Measured, report, reportOf};
 use base_lists::copy;
 use desk_entry::closing_of;
 use desk_spec::Answer;
@@ -197,55 +197,30 @@ pub fn desk(
     choose(stream, key, font, editions, layout, table, count, list, out)
 }
 
+// These three together.
+fn told_as(number: u32, length: usize, item: usize) -> Report
+    ensures { λ r. ⌜ r ≡ report number length item ⌝ }
+{
+    Report {
+        number,
+        length,
+        item,
+    }
+}
+
 // The number, the length and the item of what the desk answers.
 pub fn desk_report(answer: Answer) -> Report
     ensures { λ r. ⌜ r ≡ reportOf answer ⌝ }
 {
     match answer {
-        Answer::Done(n) => Report {
-            number: 0,
-            length: n,
-            item: 0,
-        },
-        Answer::Sizes => Report {
-            number: 2,
-            length: 0,
-            item: 0,
-        },
-        Answer::TooLong => Report {
-            number: 3,
-            length: 0,
-            item: 0,
-        },
-        Answer::NoTable => Report {
-            number: 4,
-            length: 0,
-            item: 0,
-        },
-        Answer::Count => Report {
-            number: 19,
-            length: 0,
-            item: 0,
-        },
-        Answer::Past(k) => Report {
-            number: 23,
-            length: 0,
-            item: k,
-        },
-        Answer::NoLine(k) => Report {
-            number: 24,
-            length: 0,
-            item: k,
-        },
-        Answer::NewTooLong => Report {
-            number: 3,
-            length: 0,
-            item: 0,
-        },
-        Answer::NoRoom => Report {
-            number: 4,
-            length: 0,
-            item: 0,
-        },
+        Answer::Done(n) => told_as(0, n, 0),
+        Answer::Sizes => told_as(2, 0, 0),
+        Answer::TooLong => told_as(3, 0, 0),
+        Answer::NoTable => told_as(4, 0, 0),
+        Answer::Count => told_as(19, 0, 0),
+        Answer::Past(k) => told_as(23, 0, k),
+        Answer::NoLine(k) => told_as(24, 0, k),
+        Answer::NewTooLong => told_as(3, 0, 0),
+        Answer::NoRoom => told_as(4, 0, 0),
     }
 }

@@ -16,6 +16,7 @@ use Rattle.read_spec.specs.Judged.{Judged}
 use Rattle.read_spec.specs.Ceiling.{allWork}
 use Rattle.read_readings.specs.Readings.{Reading, reading, readings}
 use Rattle.read_readings.specs.Joining.{every-stretch}
+use Rattle.read_nonce.specs.Nonces.{nonceOf}
 use Rattle.read_call.specs.Answers.{judgedWithin}
 use Rattle.demand_reading.specs.Promises.{Seen}
 use Rattle.demand_reading.specs.Whole.{WholeRun}
@@ -36,6 +37,11 @@ pub record FromStream (seen : List Seen) (s new : List ℕ) (place at : ℕ) (v 
   pub place-is : v .first ≡ place
   pub a-line : v .number ≡ 0
   pub same-bytes : bytesAt new (span (movedTo at v .first) (movedTo at v .closing)) ≡ bytesAt s (span (v .first) (v .closing))
+
+-- so its nonce is the same too
+pub same-nonce : {seen : List Seen} {s new : List ℕ} {place at : ℕ} {v : Seen} → FromStream seen s new place at v
+    → nonceOf (bytesAt new (span (movedTo at v .first) (movedTo at v .closing))) ≡ nonceOf (bytesAt s (span (v .first) (v .closing)))
+same-nonce x = ap nonceOf (x .same-bytes)
 
 -- bytes b between marks behind some others
 between : (pre b rest : List ℕ) (at n : ℕ) → at ≡ length pre → n ≡ length b

@@ -6,6 +6,7 @@ mod back;
 mod bundles;
 mod calls;
 mod cases;
+mod desk;
 mod index;
 mod joined;
 mod library;
@@ -124,8 +125,9 @@ fn differ(seed: u64, count: u64) -> bool {
     let joined = joined::differ(&mut bench, seed, count / joined::SERVES);
     let indexed = index::differ(seed, count / index::SERVES);
     let replayed = replay::differ(seed, count / replay::SERVES);
+    let copied = desk::differ(seed, count / desk::SERVES);
     println!("differ: {} calls, {} differ", count, differing);
-    differing == 0 && complete && fed && back && accepted && joined && indexed && replayed
+    differing == 0 && complete && fed && back && accepted && joined && indexed && replayed && copied
 }
 
 /// How often each answer of each call was met.
