@@ -19,7 +19,7 @@ use Rattle.read_readings.specs.Readings.{Reading, reading, ends}
 use Rattle.read_call.specs.declared.Asked.{Asked}
 use Rattle.read_call.specs.Answers.{judgedWithin}
 use Rattle.live_spec.specs.declared.Numbers.{Numbers}
-use Rattle.live_spec.specs.Taking.{unfinished, closes, behindMark, behindByte, kept, Taken, taken, more, takenIn}
+use Rattle.live_spec.specs.Taking.{unfinished, closes, behindMark, kept, Taken, more, takenIn}
 use Rattle.live_spec.specs.Steps.{judgedIn}
 use Rattle.live_spec.specs.After.{After, after-byte, after-mark, after-closed, the-marked, some-bytes, closed}
 
@@ -80,27 +80,42 @@ module _ (t : Told) (asked : Asked) where
   abbrev Rest : List ℕ → Type 0
   Rest p = (s : List ℕ) (n : Numbers) (w : List ℕ) (g : List Reading) → After its s n w g → Took s g p (takenIn n w p)
 
+  module _ (b : ℕ) (p s : List ℕ) (n : Numbers) (w : List ℕ) (g : List Reading) (a : After its s n w g) where
+    took-byte : Rest p → eqb b mark ≡ false → Took s g (b ∷ p) (takenIn n w (b ∷ p))
+    unfolding takenIn
+    took-byte on x = rw x (one-more b p (on _ _ _ _ (after-byte a b (eqb-false b mark x) (length-kept n w b))))
+
+    module _ (x : eqb b mark ≡ true) where
+      took-mark : Rest p → closes n ≡ false → Took s g (b ∷ p) (takenIn n w (b ∷ p))
+      unfolding takenIn
+      took-mark on c = rw (x, c) (one-more b p (on _ _ _ _ (after-mark a b (eqb-true b mark x) c)))
+
+      module _ (c : closes n ≡ true) where
+        some-first : n .first < n .received
+        some-first = omega (arith, some-bytes a b (eqb-true b mark x) c, a .received-is)
+
+        -- the stretch that is closed
+        its-reading : reading (span (n .first) (length s)) (its (drop (n .first) s))
+            ≡ reading (span (n .first) (n .received)) (judgedIn t asked w (span (n .first) (n .received)))
+        its-reading =
+            ap₂ (λ (i : ℕ) (j : Judged). reading (span (n .first) i) j) (sym (a .received-is)) (sym (held-judged a b (eqb-true b mark x) c))
+
+        took-closed : Took s g (b ∷ p) (takenIn n w (b ∷ p))
+        unfolding takenIn
+        took-closed = rw (x, c) (record {
+          after = rw (ne-eqb (n .first) (n .received) (λ z. omega (arith, z, some-first)))
+              (subst (λ (r : Reading). After its (s ++ (b ∷ [])) (behindMark n) w (g ++ (r ∷ []))) its-reading (after-closed a b (eqb-true b mark x) c));
+          some = λ h. omega arith;
+          within = omega arith;
+        })
+
   took-one : (b : ℕ) (p : List ℕ) → Rest p → Rest (b ∷ p)
-  unfolding takenIn
   took-one b p on s n w g a = go (eqb b mark) refl (closes n) refl
     where
-      go : (x : Bool) → eqb b mark ≡ x → (y : Bool) → closes n ≡ y
-          → Took s g (b ∷ p)
-          (cond x (cond y (taken (behindMark n) w 1 (span (n .first) (n .received))) (more 1 (takenIn (behindMark n) w p)))
-          (more 1 (takenIn (behindByte n) (kept n w b) p)))
-      go false x y c = one-more b p (on _ _ _ _ (after-byte a b (eqb-false b mark x) (length-kept n w b)))
-      go true x false c = one-more b p (on _ _ _ _ (after-mark a b (eqb-true b mark x) c))
-      go true x true c =
-          let m = eqb-true b mark x in
-          let d : n .first < n .received = omega (arith, some-bytes a b m c, a .received-is) in
-          let e : reading (span (n .first) (length s)) (its (drop (n .first) s)) ≡ reading (span (n .first) (n .received)) (judgedIn t asked w (span (n .first) (n .received))) =
-          ap₂ (λ (i : ℕ) (j : Judged). reading (span (n .first) i) j) (sym (a .received-is)) (sym (held-judged a b m c)) in
-          record {
-            after = rw (ne-eqb (n .first) (n .received) (λ z. omega (arith, z, d)))
-                (subst (λ (r : Reading). After its (s ++ (b ∷ [])) (behindMark n) w (g ++ (r ∷ []))) e (after-closed a b m c));
-            some = λ h. omega arith;
-            within = omega arith;
-          }
+      go : (x : Bool) → eqb b mark ≡ x → (y : Bool) → closes n ≡ y → Took s g (b ∷ p) (takenIn n w (b ∷ p))
+      go false x y c = took-byte b p s n w g a on x
+      go true x false c = took-mark b p s n w g a x on c
+      go true x true c = took-closed b p s n w g a x c
 
   took-all : (p : List ℕ) → Rest p
   unfolding takenIn

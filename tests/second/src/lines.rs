@@ -3,6 +3,7 @@
 use std::fmt::Write;
 
 use crate::digest::digest;
+use crate::live::whole;
 use crate::numbers::{DIGEST, DONE, KEY, LINE_MOST, MESSAGE_LIMIT, STREAM_LIMIT};
 use crate::reader::{Walker, ALL};
 use crate::told::Told;
@@ -65,6 +66,29 @@ fn rows(
     Ok(rows)
 }
 
+/// Everything that the program `press` prints of a link that ended: the same
+/// rows, of a stream of any length.
+pub fn pressed(key: Option<Vec<u8>>, font: Option<Vec<u8>>, stream: &[u8]) -> String {
+    let told = usable_key(key).and_then(|key| Ok((key, font_digest(font)?)));
+    let (key, font) = match told {
+        Ok(told) => told,
+        Err(refusal) => return format!("{}\n", refusal),
+    };
+    let mut rows = String::new();
+    let (mut given, mut refused) = (0, 0);
+    for (step, line) in whole(Told::of(&key, &font), ALL, stream) {
+        if step.number == DONE {
+            given += 1;
+            writeln!(rows, "{} 0 {}", step.first, String::from_utf8_lossy(&line)).unwrap();
+        } else {
+            refused += 1;
+            writeln!(rows, "{} {}", step.first, step.number).unwrap();
+        }
+    }
+    writeln!(rows, "lines {} refused {}", given, refused).unwrap();
+    rows
+}
+
 #[cfg(test)]
 mod tests {
     use super::*;
@@ -74,6 +98,21 @@ mod tests {
         let stream = [0x7e, 0x41, 0x7e, 0x7e, 0x7d, 0x7e];
         let printed = listing(Some(vec![3; 16]), Some(vec![]), &stream);
         assert_eq!(printed, "1 7\n4 6\nlines 0 refused 2\n");
+    }
+
+    #[test]
+    fn a_link_within_the_limit_is_listed_as_a_stream() {
+        let (key, font) = (Some(vec![3; 16]), Some(vec![1]));
+        for stream in [&b""[..], b"~A~~}~", b"x~AB~C", &[b'~'; 300], &[b'A'; 700]] {
+            let listed = listing(key.clone(), font.clone(), stream);
+            assert_eq!(pressed(key.clone(), font.clone(), stream), listed);
+        }
+        assert_eq!(pressed(None, None, b""), "no key\n");
+        assert_eq!(pressed(key.clone(), None, b""), "no font\n");
+        let mut long = vec![b'A'; STREAM_LIMIT];
+        long.extend(b"~A~");
+        let expected = "65537 7\nlines 0 refused 1\n";
+        assert_eq!(pressed(key, font, &long), expected);
     }
 
     #[test]

@@ -18,6 +18,7 @@ second readings                   first known answers under every reading
 second diffusion                  full diffusion and pair-matching period
 second compose KEYFILE FONTFILE   orders on standard input, frames out
 second lines KEYFILE FONTFILE     stream on standard input, listing out
+second press KEYFILE FONTFILE     the same of a stream of any length
 second sum I                      digest of standard input by hash instance I
 second permutation [back] SIZE ROUNDS STATE
                                   a state in hex after so many rounds, or before
@@ -60,6 +61,10 @@ fn run(words: &[&str]) -> Result<(), Stop> {
             // One byte more than the limit tells a longer stream.
             let stream = standard_input(STREAM_LIMIT as u64 + 1)?;
             print(lines::listing(file(key), file(font), &stream).as_bytes())
+        }
+        ["press", key, font] => {
+            let stream = standard_input(u64::MAX)?;
+            print(lines::pressed(file(key), file(font), &stream).as_bytes())
         }
         ["sum", instance] => sum(instance),
         ["permutation", ref asked @ ..] => match trial::tried(asked) {
