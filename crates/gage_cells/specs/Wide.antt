@@ -38,7 +38,8 @@ substituting-more {l} {y} {out} {p} {i} b v inv h same e = record {
   done = upto-more (substitutedAt l y) out i v (i + 1) (inv .done) h (e ∙ rw (same, inv .last)) refl;
 }
 
-substitute-at : (l : ℕ) (s : List ℕ) (i : ℕ) → i < length s
+-- byte i of a list's substitution
+pub substitute-at : (l : ℕ) (s : List ℕ) (i : ℕ) → i < length s
     → getD (substitute table l s) i 0 ≡ substitutedByte table (before l (λ k. getD s k 0) i) (getD s i 0)
 unfolding substitute cells bytes follow substitutedByte
 substitute-at l [] i h = absurd (not-suc-le-zero h)

@@ -2,10 +2,10 @@
 use mathlib.Core.Path.{_≡_, _∙_}
 use mathlib.Core.List.{[], _∷_}
 use Prim.Native.Nat.{ℕ, _+_, _*_, _/_, _%_, _≤_}
-use native.Mathlib.Nat.{add-le-add, mul-le-mul-right, mul-one, div-one}
+use native.Mathlib.Nat.{add-le-add, mul-le-mul-right, mul-one}
 use native.Mathlib.Omega.{arith}
 use lib.ListN.{getD}
-use Rattle.gage_shuffle.specs.Shuffling.{weights, weighed, gathered, returned}
+use Rattle.gage_shuffle.specs.Shuffling.{weights, weighed, returned}
 
 -- one bit without a weight, one with its weight, and one more
 pub first : (x : ℕ) → x % 2 ≤ 1
@@ -21,17 +21,9 @@ and x w h = add-le-add h (one x w)
 from-right : (a b c d e f g h : ℕ) → a + b + c + d + e + f + g + h ≡ a + (b + (c + (d + (e + (f + (g + (h + 0)))))))
 from-right a b c d e f g h = omega arith
 
--- the sums of the code are the definition's
-pub gathered-left : (a b c d e f g h : ℕ)
-    → a % 2 * getD weights 0 0 + b / 2 % 2 * getD weights 1 0 + c / 4 % 2 * getD weights 2 0 + d / 8 % 2 * getD weights 3 0 + e / 16 % 2 * getD weights 4 0 + f
-    / 32 % 2 * getD weights 5 0 + g / 64 % 2 * getD weights 6 0 + h / 128 % 2 * getD weights 7 0
-    ≡ gathered (a ∷ b ∷ c ∷ d ∷ e ∷ f ∷ g ∷ h ∷ [])
-unfolding gathered weighed
-gathered-left a b c d e f g h = rw (div-one a) (from-right _ _ _ _ _ _ _ _)
-
+-- the sum of the code is the definition's
 pub returned-left : (a b c d e f g h : ℕ)
-    → a / getD weights 0 1 % 2 + b / getD weights 1 1 % 2 * 2 + c / getD weights 2 1 % 2 * 4 + d / getD weights 3 1 % 2 * 8 + e / getD weights 4 1 % 2 * 16 + f
-    / getD weights 5 1 % 2 * 32 + g / getD weights 6 1 % 2 * 64 + h / getD weights 7 1 % 2 * 128
+    → a / getD weights 0 1 % 2 + b / getD weights 1 1 % 2 * 2 + c / getD weights 2 1 % 2 * 4 + d / getD weights 3 1 % 2 * 8 + e / getD weights 4 1 % 2 * 16 + f / getD weights 5 1 % 2 * 32 + g / getD weights 6 1 % 2 * 64 + h / getD weights 7 1 % 2 * 128
     ≡ returned (a ∷ b ∷ c ∷ d ∷ e ∷ f ∷ g ∷ h ∷ [])
 unfolding returned weighed
 returned-left a b c d e f g h = from-right _ _ _ _ _ _ _ _ ∙ rw mul-one

@@ -5,5 +5,4 @@ pub mod Places
 pub mod Tables
 pub mod Bits
 pub mod States
-pub mod Wrapped
 pub mod Inverse

@@ -1,5 +1,5 @@
 -- The bit shuffling of document 000, section 1.1.1 (formulas 1.3 and 1.4), and its inverse. The reading of those
--- formulas (docs/DECISIONS.md) stands in `element`, `places` and `weight`; `gathered`, `origins` and `source` follow from it.
+-- formulas (docs/DECISIONS.md) stands in `element`, `places` and `weight`; `origins` and `source` follow from it.
 -- Assumes nothing: these are definitions.
 use mathlib.Core.Path.{_≡_}
 use Prim.Native.Nat.{ℕ, zero, suc, _+_, _*_, _/_, _%_, _^_, _-_, _<_}
@@ -46,10 +46,7 @@ unfoldable pub tabled : (ℕ → ℕ) → ℕ → ℕ → List ℕ
 tabled f i zero = []
 tabled f i (suc n) = f i ∷ tabled f (suc i) n
 
--- the byte of eight elements, bit 7 - j of byte j, each at its place; and the byte whose bits stand at their places in eight
-unfoldable pub gathered : List ℕ → ℕ
-gathered xs = weighed (λ j. bit (7 - j) (getD xs j 0)) 0 weights
-
+-- the byte whose bits stand at their places in eight
 unfoldable pub returned : List ℕ → ℕ
 returned xs = weighed (λ j. getD xs j 0 / getD weights j 1 % 2) 0 origins
 

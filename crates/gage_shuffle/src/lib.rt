@@ -1,5 +1,6 @@
-// GAGE's bit shuffling, a byte at a time, and its inverse (document 000, section 1.1.1; specs/Shuffling.antt). For the inverse the state is first
-// copied with seven bytes wrapped around, so that no loop divides by the size; where an element goes is read from the table of places.
+// The inverse of GAGE's bit shuffling, a byte at a time (document 000, section 1.1.1; specs/Shuffling.antt). The state is first copied with seven bytes
+// wrapped around, so that no loop divides by the size; where an element went is read from the table of places. The shuffle itself is a shift of planes
+// (gage_turn).
 use gage_cells::LARGEST;
 ghost use mathlib.Core.Path.{_≡_};
 ghost use mathlib.Core.List.{[], _∷_, _++_};
@@ -8,7 +9,7 @@ ghost use lib.ListN.{getD, take, drop};
 ghost use Rattle.base_lists.specs.Upto.{Upto};
 ghost use Rattle.gage_cells.specs.Sizes.{LARGEST};
 ghost use Rattle.gage_shuffle.specs.Sizes.{AHEAD, WRAPPED, SMALLEST};
-ghost use Rattle.gage_shuffle.specs.Shuffling.{gathered, returned, Joined, unshuffle};
+ghost use Rattle.gage_shuffle.specs.Shuffling.{returned, Joined, unshuffle};
 ghost use Rattle.gage_cells.specs.Cells.{onFirst};
 ghost use Rattle.gage_shuffle.specs.Widths.{wide, whereWide};
 
@@ -42,20 +43,6 @@ const WRAPPED: usize = LARGEST + AHEAD + 1;
 
 // The smallest state whose elements all come from different bytes.
 const SMALLEST: usize = AHEAD + 1;
-
-// The byte of eight elements, one from each of eight bytes, at their places: one byte of the shuffle.
-pub fn gather(a: u8, b: u8, c: u8, d: u8, e: u8, f: u8, g: u8, h: u8) -> u8
-    ensures { λ r. ⌜ r ≡ gathered (a ∷ b ∷ c ∷ d ∷ e ∷ f ∷ g ∷ h ∷ []) ⌝ }
-{
-    a % 2 * WEIGHT_1
-        + b / 2 % 2 * WEIGHT_2
-        + c / 4 % 2 * WEIGHT_3
-        + d / 8 % 2 * WEIGHT_4
-        + e / 16 % 2 * WEIGHT_5
-        + f / 32 % 2 * WEIGHT_6
-        + g / 64 % 2 * WEIGHT_7
-        + h / 128 % 2 * WEIGHT_8
-}
 
 // The byte whose eight bits stand at their places in eight bytes.
 fn give_back(a: u8, b: u8, c: u8, d: u8, e: u8, f: u8, g: u8, h: u8) -> u8
