@@ -8,7 +8,7 @@ ghost use mathlib.Core.Path.{_≡_};
 ghost use Prim.Native.Nat.{_+_, _-_, _*_, _<_, _≤_, _^_, _%_};
 ghost use lib.Bits.{bitXor};
 ghost use Rattle.gage_leaders.specs.Leaders.{MOST-ROUNDS};
-ghost use Rattle.gage_planes_spec.specs.Planes.{turned, doubled};
+ghost use Rattle.gage_planes_spec.specs.Planes.{turned, doubled, uppers, lowers};
 ghost use Rattle.gage_planes_spec.specs.Rounds.{LEAST, MOST, Room, Permuted};
 
 // The largest state for which the spare digits allow four turns.
@@ -59,22 +59,33 @@ fn doubled(p: Planes, m: u64, n: u64) -> Planes
     drawn_out(p, p, m, n)
 }
 
+// One turn. What the bits of its leader put where a state begins is read from upper and lower, which costs nothing beside the XOR that takes it in.
+fn turn(p: Planes, starts: u64, upper: &[u64], lower: &[u64], leader: u8) -> Planes
+    requires { ⌜ (now upper ≡ uppers starts) × (now lower ≡ lowers starts) × (leader < 4) ⌝ }
+    ensures { λ r. ⌜ r ≡ turned p starts leader ⌝ }
+{
+    let i = leader as usize;
+    turned(p, starts, upper[i], lower[i])
+}
+
 // Four turns. This and the next are called in one place each, so that they are compiled in place, with the planes in registers.
-fn four(p: Planes, starts: u64, a: u8, b: u8, c: u8, d: u8) -> Planes
+fn four(p: Planes, starts: u64, upper: &[u64], lower: &[u64], a: u8, b: u8, c: u8, d: u8) -> Planes
+    requires { ⌜ (now upper ≡ uppers starts) × (now lower ≡ lowers starts) × (a < 4) × (b < 4) × (c < 4) × (d < 4) ⌝ }
     ensures { λ r. ⌜ r ≡ turned (turned (turned (turned p starts a) starts b) starts c) starts d ⌝ }
 {
-    let x = turned(p, starts, a as u64);
-    let y = turned(x, starts, b as u64);
-    let z = turned(y, starts, c as u64);
-    turned(z, starts, d as u64)
+    let x = turn(p, starts, upper, lower, a);
+    let y = turn(x, starts, upper, lower, b);
+    let z = turn(y, starts, upper, lower, c);
+    turn(z, starts, upper, lower, d)
 }
 
 // Two turns.
-fn pair(p: Planes, starts: u64, a: u8, b: u8) -> Planes
+fn pair(p: Planes, starts: u64, upper: &[u64], lower: &[u64], a: u8, b: u8) -> Planes
+    requires { ⌜ (now upper ≡ uppers starts) × (now lower ≡ lowers starts) × (a < 4) × (b < 4) ⌝ }
     ensures { λ r. ⌜ r ≡ turned (turned p starts a) starts b ⌝ }
 {
-    let q = turned(p, starts, a as u64);
-    turned(q, starts, b as u64)
+    let q = turn(p, starts, upper, lower, a);
+    turn(q, starts, upper, lower, b)
 }
 
 // k rounds.
@@ -82,33 +93,37 @@ pub fn permuted(p: Planes, n: usize, k: usize) -> Planes
     requires { ⌜ (LEAST ≤ n) × (n ≤ MOST) × (1 ≤ k) × (k ≤ MOST-ROUNDS) ⌝ }
     ensures { λ r. ⌜ Permuted n k p r ⌝ }
 {
-    let leaders = gage_leaders::table();
+    let ls = gage_leaders::table();
     let size = n as u64;
     let begins = starts(size);
+    let upper = [0, 0, begins, begins];
+    let lower = [0, begins, 0, begins];
     let m = ones(size);
     let most = room(n);
     let end = grouped(n, k);
-    let mut r = substituted(doubled(p, m, size), begins, leaders[0] as u64);
+    let mut r = substituted(doubled(p, m, size), begins, ls[0] as u64);
     let mut i = 1;
     while i + 3 < end {
         let q = four(
             r,
             begins,
-            leaders[i],
-            leaders[i + 1],
-            leaders[i + 2],
-            leaders[i + 3],
+            &upper,
+            &lower,
+            ls[i],
+            ls[i + 1],
+            ls[i + 2],
+            ls[i + 3],
         );
         r = doubled(q, m, size);
         i += 4;
     }
     while i + 1 < k {
-        let q = pair(r, begins, leaders[i], leaders[i + 1]);
+        let q = pair(r, begins, &upper, &lower, ls[i], ls[i + 1]);
         r = doubled(q, m, size);
         i += 2;
     }
     if i < k {
-        return turned(r, begins, leaders[i] as u64);
+        return turn(r, begins, &upper, &lower, ls[i]);
     }
     r
 }

@@ -12,7 +12,7 @@ use gage_turn::slid;
 ghost use mathlib.Core.Path.{_≡_};
 ghost use Prim.Native.Nat.{_+_, _-_, _*_, _<_, _≤_, _/_, _%_, _^_};
 ghost use Rattle.gage_leaders.specs.Leaders.{MOST-ROUNDS};
-ghost use Rattle.gage_planes_spec.specs.Planes.{ledFrom, substitutedBoth, turnedBoth, drawnBoth, behind, secondOf, rejoined};
+ghost use Rattle.gage_planes_spec.specs.Planes.{slid, turned, ledFrom, substitutedBehind, substitutedBoth, turnedBoth, drawnBoth, behind, secondOf, rejoined};
 ghost use Rattle.gage_planes_spec.specs.Rounds.{PermutedBoth};
 
 // The digits of a plane.
@@ -65,36 +65,39 @@ fn led_from(y: u64, x: u64, h: u64, l: u64) -> u64
     led(y, 1u64 << h, l) ^ ((x >> (h - 1)) % 2)
 }
 
-// The substitution with a leader.
+// The substitution of the second window q with a leader, p being the first.
+fn substituted_behind(q: Planes, p: Planes, h: u64, leader: u64) -> Planes
+    requires { ⌜ (0 < h) × (h < 64) ⌝ }
+    ensures { λ r. ⌜ r ≡ substitutedBehind q p h leader ⌝ }
+{
+    let y = led_from(q.g, p.g, h, leader / 2);
+    let z = led_from(q.h, p.h, h, leader);
+    products(y, z, q)
+}
+
+// The substitution of both.
 fn substituted(w: Windows, h: u64, leader: u64) -> Windows
     requires { ⌜ (0 < h) × (h < 64) ⌝ }
     ensures { λ r. ⌜ r ≡ substitutedBoth w h leader ⌝ }
 {
-    let p = w.first;
-    let q = w.second;
-    let y = led_from(q.g, p.g, h, leader / 2);
-    let z = led_from(q.h, p.h, h, leader);
     Windows {
-        first: gage_turn::substituted(p, 1, leader),
-        second: products(y, z, q),
+        first: gage_turn::substituted(w.first, 1, leader),
+        second: substituted_behind(w.second, w.first, h, leader),
     }
 }
 
-// One turn.
-fn turned(w: Windows, h: u64, leader: u64) -> Windows
-    requires { ⌜ (0 < h) × (h < 64) ⌝ }
-    ensures { λ r. ⌜ r ≡ turnedBoth w h leader ⌝ }
+// One turn of the first window, and one of the second.
+fn turned_first(p: Planes, leader: u8) -> Planes
+    ensures { λ r. ⌜ r ≡ turned p 1 leader ⌝ }
 {
-    let p = slid(w.first);
-    let q = slid(w.second);
-    substituted(
-        Windows {
-            first: p,
-            second: q,
-        },
-        h,
-        leader,
-    )
+    gage_turn::substituted(slid(p), 1, leader as u64)
+}
+
+fn turned_behind(q: Planes, p: Planes, h: u64, leader: u8) -> Planes
+    requires { ⌜ (0 < h) × (h < 64) ⌝ }
+    ensures { λ r. ⌜ r ≡ substitutedBehind (slid q) (slid p) h leader ⌝ }
+{
+    substituted_behind(slid(q), slid(p), h, leader as u64)
 }
 
 // Each window drawn out with the other behind it.
@@ -108,15 +111,30 @@ fn drawn(w: Windows, m: u64, h: u64) -> Windows
     }
 }
 
-// Four turns, called in one place, so that they are compiled in place.
+// Four turns, first of the one window and then of the other, so that eight planes at a time are in registers.
 fn four(w: Windows, h: u64, a: u8, b: u8, c: u8, d: u8) -> Windows
     requires { ⌜ (0 < h) × (h < 64) ⌝ }
     ensures { λ r. ⌜ r ≡ turnedBoth (turnedBoth (turnedBoth (turnedBoth w h a) h b) h c) h d ⌝ }
 {
-    let x = turned(w, h, a as u64);
-    let y = turned(x, h, b as u64);
-    let z = turned(y, h, c as u64);
-    turned(z, h, d as u64)
+    let x = turned_first(w.first, a);
+    let y = turned_first(x, b);
+    let z = turned_first(y, c);
+    let first = turned_first(z, d);
+    let s = turned_behind(w.second, w.first, h, a);
+    let t = turned_behind(s, x, h, b);
+    let u = turned_behind(t, y, h, c);
+    let second = turned_behind(u, z, h, d);
+    Windows { first, second }
+}
+
+// One turn.
+fn turned(w: Windows, h: u64, leader: u8) -> Windows
+    requires { ⌜ (0 < h) × (h < 64) ⌝ }
+    ensures { λ r. ⌜ r ≡ turnedBoth w h leader ⌝ }
+{
+    let first = turned_first(w.first, leader);
+    let second = turned_behind(w.second, w.first, h, leader);
+    Windows { first, second }
 }
 
 // k rounds.
@@ -141,7 +159,7 @@ pub fn permuted(w: Windows, h: u64, k: usize) -> Windows
         i += 4;
     }
     while i < k {
-        let q = turned(r, h, leaders[i] as u64);
+        let q = turned(r, h, leaders[i]);
         r = drawn(q, m, h);
         i += 1;
     }

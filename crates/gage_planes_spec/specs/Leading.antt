@@ -11,7 +11,7 @@ use lib.ListN.{length, getD}
 use Rattle.gage_shuffle.specs.Shuffling.{bit}
 use Rattle.base_digits.specs.Digits.{digit, differ-none, digit-xor, digit-and, digit-mod, digit-zero, digit-shl-low, digit-shl-high, digit-high}
 use Rattle.base_digits.specs.Held.{Held, WORD, ONES, ones-digit}
-use Rattle.gage_planes_spec.specs.Planes.{led}
+use Rattle.gage_planes_spec.specs.Planes.{begun, led}
 use Rattle.gage_planes_spec.specs.Columns.{column, column-below}
 
 -- 1 where a state begins
@@ -89,7 +89,7 @@ module _ (o v x starts l b : ℕ) (s : List ℕ) (some : 0 < length s) (fits : v
   -- what an operation makes of one digit
   raw : (i : ℕ) → i < v
       → digit (led x starts l) i ≡ differ (min (digit (x * 2 ^ 1) i) (differ 1 (first ((o + i) % length s)))) (l * first ((o + i) % length s))
-  unfolding led
+  unfolding begun
   raw i h =
       digit-xor (bitAnd (x * 2 ^ 1 % 2 ^ WORD) (bitXor ONES starts)) (l * starts) i
       ∙ ap₂ differ

@@ -2,7 +2,7 @@
 -- is `moved` with its own way of shifting. Assumes nothing: these are definitions.
 use Prim.Native.Nat.{ℕ, _-_, _*_, _/_, _%_, _^_}
 use lib.Bits.{bitAnd, bitXor}
-use mathlib.Core.List.{[], _∷_}
+use mathlib.Core.List.{List, [], _∷_}
 use Rattle.base_digits.specs.Held.{ONES}
 use Rattle.base_digits.specs.Joined.{joined}
 use Rattle.gage_planes_spec.specs.declared.Planes.{Planes}
@@ -40,9 +40,12 @@ upper y z u v = bitXor (bitXor y u) (bitAnd z (bitXor u v))
 unfoldable pub lower : ℕ → ℕ → ℕ → ℕ → ℕ
 lower y z u v = bitXor (bitXor (bitXor ONES (bitXor y z)) v) (bitAnd z (bitXor u v))
 
--- a plane one byte further on, with a bit l of the leader at every digit that begins a state
-unfoldable pub led : ℕ → ℕ → ℕ → ℕ
-led x starts l = bitXor (bitAnd (x * 2 ^ 1 % 2 ^ 64) (bitXor ONES starts)) (l * starts)
+-- a plane one byte further on, with other digits where a state begins; with a bit l of the leader at each of them
+unfoldable pub begun : ℕ → ℕ → ℕ → ℕ
+begun x starts other = bitXor (bitAnd (x * 2 ^ 1 % 2 ^ 64) (bitXor ONES starts)) other
+
+abbrev pub led : ℕ → ℕ → ℕ → ℕ
+led x starts l = begun x starts (l * starts)
 
 abbrev pub products : ℕ → ℕ → Planes → Planes
 products y z p = record {
@@ -59,9 +62,19 @@ products y z p = record {
 abbrev pub substituted : Planes → ℕ → ℕ → Planes
 substituted p starts leader = products (led (p .g) starts (leader / 2 % 2)) (led (p .h) starts (leader % 2)) p
 
--- one turn
+-- one turn, y and z being what the leader's bits put where a state begins
+abbrev pub turnedBy : Planes → ℕ → ℕ → ℕ → Planes
+turnedBy p starts y z = products (begun (slid p .g) starts y) (begun (slid p .h) starts z) (slid p)
+
 abbrev pub turned : Planes → ℕ → ℕ → Planes
 turned p starts leader = substituted (slid p) starts leader
+
+-- what they put there, by the leader: its left bit, and its right one
+abbrev pub uppers : ℕ → List ℕ
+uppers starts = 0 ∷ 0 ∷ starts ∷ starts ∷ []
+
+abbrev pub lowers : ℕ → List ℕ
+lowers starts = 0 ∷ starts ∷ 0 ∷ starts ∷ []
 
 abbrev pub turnedAround : Planes → ℕ → Planes
 turnedAround p leader = substituted (rolledAll p) 1 leader
@@ -104,11 +117,11 @@ cut p m = record {
 abbrev pub ledFrom : ℕ → ℕ → ℕ → ℕ → ℕ
 ledFrom x before h l = bitXor (led x (1 * 2 ^ h % 2 ^ 64) l) (before / 2 ^ (h - 1) % 2)
 
+abbrev pub substitutedBehind : Planes → Planes → ℕ → ℕ → Planes
+substitutedBehind q p h leader = products (ledFrom (q .g) (p .g) h (leader / 2 % 2)) (ledFrom (q .h) (p .h) h (leader % 2)) q
+
 abbrev pub substitutedBoth : Windows → ℕ → ℕ → Windows
-substitutedBoth w h leader = record {
-  first = substituted (w .first) 1 leader;
-  second = products (ledFrom (w .second .g) (w .first .g) h (leader / 2 % 2)) (ledFrom (w .second .h) (w .first .h) h (leader % 2)) (w .second);
-}
+substitutedBoth w h leader = record { first = substituted (w .first) 1 leader; second = substitutedBehind (w .second) (w .first) h leader }
 
 abbrev pub turnedBoth : Windows → ℕ → ℕ → Windows
 turnedBoth w h leader = substitutedBoth (record { first = slid (w .first); second = slid (w .second) }) h leader

@@ -1,8 +1,8 @@
 -- Rounds on a state in planes, one after the other. Assumes nothing.
 use mathlib.Core.Path.{_≡_, refl, sym, ap, _∙_}
 use mathlib.Core.List.{List, [], _∷_, _++_}
-use Prim.Native.Nat.{ℕ, zero, suc, _+_, _-_, _*_, _%_, _^_, _≤_, _<_}
-use native.Mathlib.Nat.{not-suc-le-zero}
+use Prim.Native.Nat.{ℕ, zero, suc, _+_, _-_, _*_, _/_, _%_, _^_, _≤_, _<_}
+use native.Mathlib.Nat.{not-suc-le-zero, zero-mul, one-mul}
 use native.Mathlib.Numerals.{add-one}
 use native.Mathlib.Omega.{arith}
 use lib.Bits.{bitXor}
@@ -16,7 +16,7 @@ use Rattle.gage_spec.specs.Permutation.{MOST-ROUNDS, leaders, turns, permuteBy,
 use Rattle.gage_spec.specs.States.{length-permuteBy}
 use Rattle.base_digits.specs.Held.{Held, WORD, held-fewer}
 use Rattle.gage_planes_spec.specs.declared.Planes.{Planes}
-use Rattle.gage_planes_spec.specs.Planes.{substituted, turned, turnedAround, doubled}
+use Rattle.gage_planes_spec.specs.Planes.{substituted, turned, turnedAround, doubled, uppers, lowers}
 use Rattle.gage_planes_spec.specs.Columns.{Holds, holds-fewer, doubled-holds}
 use Rattle.gage_planes_spec.specs.Leading.{first, starts-held, one-held}
 use Rattle.gage_planes_spec.specs.Turning.{substituted-holds, turned-holds, around-holds}
@@ -45,6 +45,21 @@ first-round s = ap (λ (ls : List ℕ). permuteBy ls s) (take-suc leaders 0 0 (o
 
 pub kept-fewer : {f : List ℕ → List ℕ} {n u v : ℕ} {p r : Planes} (w : ℕ) → w ≤ v → Kept f n u v p r → Kept f n u w p r
 kept-fewer w l a = record { each = λ s e b h. holds-fewer w l (a .each s e b h) }
+
+-- what a leader's bits put where a state begins, looked up by the leader
+pub upper-at : (starts l : ℕ) → l < 4 → getD (uppers starts) l 0 ≡ l / 2 % 2 * starts
+upper-at starts zero h = sym (zero-mul starts)
+upper-at starts (suc zero) h = sym (zero-mul starts)
+upper-at starts (suc (suc zero)) h = sym (one-mul starts)
+upper-at starts (suc (suc (suc zero))) h = sym (one-mul starts)
+upper-at starts (suc (suc (suc (suc l)))) h = absurd (omega arith)
+
+pub lower-at : (starts l : ℕ) → l < 4 → getD (lowers starts) l 0 ≡ l % 2 * starts
+lower-at starts zero h = sym (zero-mul starts)
+lower-at starts (suc zero) h = sym (one-mul starts)
+lower-at starts (suc (suc zero)) h = sym (zero-mul starts)
+lower-at starts (suc (suc (suc zero))) h = sym (one-mul starts)
+lower-at starts (suc (suc (suc (suc l)))) h = absurd (omega arith)
 
 -- a state of n bytes: at which digits of a word it begins
 module _ (n starts : ℕ) (some : 0 < n) (begins : starts ≡ bitXor (1 * 2 ^ n % 2 ^ 64) 1) where

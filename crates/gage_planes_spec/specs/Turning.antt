@@ -1,14 +1,14 @@
 -- One turn of a state in planes: the substitution of the state that they hold, after its shuffle. Assumes nothing.
 use mathlib.Core.Path.{_≡_, refl, sym, ap, ap₂, _∙_}
-use mathlib.Core.List.{List, [], _∷_}
+use mathlib.Core.List.{List}
 use Prim.Native.Nat.{ℕ, zero, suc, _+_, _-_, _*_, _/_, _%_, _^_, _≤_, _<_}
-use native.Mathlib.Nat.{mod-lt, mod-eq-of-lt, not-suc-le-zero, le-of-suc-le-suc}
+use native.Mathlib.Nat.{mod-lt, mod-eq-of-lt}
 use native.Mathlib.Omega.{arith}
 use lib.ListN.{length, getD}
 use Rattle.base_lists.specs.Below.{Below, below-at}
-use Rattle.gage_cells.specs.Cells.{table, cells, bytes, follow, substitute, substitutedByte}
+use Rattle.gage_cells.specs.Cells.{table, substitute, substitutedByte}
 use Rattle.gage_cells.specs.States.{length-substitute}
-use Rattle.gage_cells.specs.Wide.{before}
+use Rattle.gage_cells.specs.Wide.{before, substitute-at}
 use Rattle.gage_shuffle.specs.Shuffling.{bit, shuffle}
 use Rattle.gage_shuffle.specs.States.{length-shuffle, shuffle-below}
 use Rattle.base_digits.specs.Held.{Held, WORD, held-same, held-fewer}
@@ -18,14 +18,6 @@ use Rattle.gage_planes_spec.specs.Columns.{column, Holds}
 use Rattle.gage_planes_spec.specs.Products.{upperBit, lowerBit, upper-held, lower-held, byte0, byte1, byte2, byte3, byte4, byte5, byte6, byte7}
 use Rattle.gage_planes_spec.specs.Leading.{first, ahead, led-held, one-held}
 use Rattle.gage_planes_spec.specs.Moving.{slid-holds, rolled-holds}
-
-substitute-at : (l : ℕ) (s : List ℕ) (i : ℕ) → i < length s
-    → getD (substitute table l s) i 0 ≡ substitutedByte table (before l (λ k. getD s k 0) i) (getD s i 0)
-unfolding substitute cells bytes follow substitutedByte
-substitute-at l [] i h = absurd (not-suc-le-zero h)
-substitute-at l (b ∷ r) zero h = refl
-substitute-at l (b ∷ r) (suc zero) h = substitute-at (b % 4) r zero (le-of-suc-le-suc h)
-substitute-at l (b ∷ r) (suc (suc i)) h = substitute-at (b % 4) r (suc i) (le-of-suc-le-suc h)
 
 -- the cell before a byte: its bits, and that it is a cell
 pub ahead-upper : (l : ℕ) (f : ℕ → ℕ) (m : ℕ) → l < 4 → ahead (l / 2 % 2) (λ k. bit 6 (f k)) m ≡ before l f m / 2

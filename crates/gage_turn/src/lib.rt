@@ -5,8 +5,7 @@ use gage_planes_spec::Planes;
 ghost use mathlib.Core.Path.{_≡_};
 ghost use Prim.Native.Nat.{_<_, _/_, _%_};
 ghost use Rattle.base_digits.specs.Joined.{grown};
-ghost use Rattle.gage_planes_spec.specs.Planes.{slid, rolled, rolledAll, upper, lower, led, products};
-ghost use Rattle.gage_planes_spec.specs.Planes.{substituted, turned, turnedAround, beside, drawnOut, cut, taken};
+ghost use Rattle.gage_planes_spec.specs.Planes.{slid, rolled, rolledAll, upper, lower, begun, led, products, substituted, turnedBy, turnedAround, beside, drawnOut, cut, taken};
 
 const ONES: u64 = 0xFFFFFFFFFFFFFFFF;
 
@@ -43,11 +42,18 @@ fn lower(y: u64, z: u64, u: u64, v: u64) -> u64
     ONES ^ (y ^ z) ^ v ^ (z & (u ^ v))
 }
 
-// A plane one byte further on, with a bit of the leader at every digit that begins a state.
+// A plane one byte further on, with other digits where a state begins.
+fn begun(x: u64, starts: u64, other: u64) -> u64
+    ensures { λ r. ⌜ r ≡ begun x starts other ⌝ }
+{
+    ((x << 1) & (ONES ^ starts)) ^ other
+}
+
+// The same with a bit of the leader there.
 pub fn led(x: u64, starts: u64, l: u64) -> u64
     ensures { λ r. ⌜ r ≡ led x starts (l % 2) ⌝ }
 {
-    ((x << 1) & (ONES ^ starts)) ^ (l % 2 * starts)
+    begun(x, starts, l % 2 * starts)
 }
 
 // The products of every byte's cells, y and z being the bits of the cell before each byte.
@@ -75,11 +81,14 @@ pub fn substituted(p: Planes, starts: u64, leader: u64) -> Planes
     products(y, z, p)
 }
 
-// One turn of planes drawn out.
-pub fn turned(p: Planes, starts: u64, leader: u64) -> Planes
-    ensures { λ r. ⌜ r ≡ turned p starts leader ⌝ }
+// One turn of planes drawn out, y and z being what the leader's bits put where a state begins.
+pub fn turned(p: Planes, starts: u64, y: u64, z: u64) -> Planes
+    ensures { λ r. ⌜ r ≡ turnedBy p starts y z ⌝ }
 {
-    substituted(slid(p), starts, leader)
+    let q = slid(p);
+    let u = begun(q.g, starts, y);
+    let v = begun(q.h, starts, z);
+    products(u, v, q)
 }
 
 // A plane of as many digits as a number has, turned by j.

@@ -7,36 +7,35 @@ use Rattle.gage_planes.proofs.drawn.four.Statement.{statement}
 use Rattle.gage_planes.proofs.drawn.four.Tie as tie
 use Rattle.gage_planes.proofs.drawn.four.Reads as reads
 use Rattle.gage_planes.proofs.drawn.four.Lts as lts
-use Rattle.gage_turn.proofs.turned.Reads as turned-reads
+use Rattle.gage_planes.proofs.drawn.turn.Reads as turn-reads
 
--- src/drawn.rt:66:9
-turned-requires : tie.Need-turned-requires
-turned-requires c κs = search needs
+-- src/drawn.rt:76:9
+turn-requires : tie.Need-turn-requires
+turn-requires c κs = search needs
 
--- src/drawn.rt:67:9
-turned-requires-2 : tie.Need-turned-requires-2
-turned-requires-2 c κs = search needs
+-- src/drawn.rt:77:9
+turn-requires-2 : tie.Need-turn-requires-2
+turn-requires-2 c κs = search needs
 
--- src/drawn.rt:68:9
-turned-requires-3 : tie.Need-turned-requires-3
-turned-requires-3 c κs = search needs
+-- src/drawn.rt:78:9
+turn-requires-3 : tie.Need-turn-requires-3
+turn-requires-3 c κs = search needs
 
--- src/drawn.rt:69:5
-turned-requires-4 : tie.Need-turned-requires-4
-turned-requires-4 c κs = search needs
+-- src/drawn.rt:79:5
+turn-requires-4 : tie.Need-turn-requires-4
+turn-requires-4 c κs = search needs
 
--- src/drawn.rt:63:1
+-- src/drawn.rt:72:1
 returns : tie.Need-returns
 returns c =
-    let start = c .before .before .before .before in
+    let start = c .before .before .before .before .before .before in
     let st = start .args .starts in
-    c .turned4 .ensures
+    c .turn4 .ensures
     ∙ ap (λ (q : Planes). turned q st (start .args .d))
-    (c .before .turned3 .ensures
+    (c .before .turn3 .ensures
     ∙ ap (λ (q : Planes). turned q st (start .args .c))
-    (c .before .before .turned2 .ensures ∙ ap (λ (q : Planes). turned q st (start .args .b)) (c .before .before .before .turned .ensures)))
+    (c .before .before .turn2 .ensures ∙ ap (λ (q : Planes). turned q st (start .args .b)) (c .before .before .before .turn .ensures)))
 
 pub four-spec : {M : Type 1} → statement M
 four-spec =
-    tie.close
-    (tie.spec turned-requires turned-requires-2 turned-requires-3 turned-requires-4 returns)
+    tie.close (tie.spec turn-requires turn-requires-2 turn-requires-3 turn-requires-4 returns)

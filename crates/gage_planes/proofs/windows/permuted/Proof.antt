@@ -129,10 +129,6 @@ loop2-holds c =
 array-read-turned : tie.Need-array-read-turned Inv-loop μ-loop Inv-loop2 μ-loop2
 array-read-turned c = search needs
 
--- src/windows.rt:141:30
-cast-turned : tie.Need-cast-turned Inv-loop μ-loop Inv-loop2 μ-loop2
-cast-turned c = search needs
-
 -- src/windows.rt:141:13
 turned-requires : tie.Need-turned-requires Inv-loop μ-loop Inv-loop2 μ-loop2
 turned-requires c κs = search needs
@@ -207,7 +203,6 @@ permuted-spec =
     loop-again
     loop2-holds
     array-read-turned
-    cast-turned
     turned-requires
     drawn-requires-3
     add-i-2

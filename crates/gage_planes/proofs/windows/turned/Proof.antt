@@ -1,6 +1,3 @@
-use mathlib.Core.Path.{ap, _∙_}
-use Rattle.gage_planes_spec.specs.declared.Windows.{Windows}
-use Rattle.gage_planes_spec.specs.Planes.{substitutedBoth}
 use Rattle.gage_planes_spec.specs.Exact.{same-windows}
 use native.Mathlib.Omega.{arith}
 use borrow.Author.Needs.{needs}
@@ -8,28 +5,20 @@ use Rattle.gage_planes.proofs.windows.turned.Statement.{statement}
 use Rattle.gage_planes.proofs.windows.turned.Tie as tie
 use Rattle.gage_planes.proofs.windows.turned.Reads as reads
 use Rattle.gage_planes.proofs.windows.turned.Lts as lts
-use Rattle.gage_planes.proofs.windows.substituted.Reads as substituted-reads
-use Rattle.gage_turn.proofs.slid.Reads as slid-reads
+use Rattle.gage_planes.proofs.windows.turned_behind.Reads as turned-behind-reads
+use Rattle.gage_planes.proofs.windows.turned_first.Reads as turned-first-reads
 
--- src/windows.rt:91:16
-slid-requires : tie.Need-slid-requires
-slid-requires c κs = search needs
+-- src/windows.rt:134:9
+turned-first-requires : tie.Need-turned-first-requires
+turned-first-requires c κs = search needs
 
--- src/windows.rt:92:17
-slid-requires-2 : tie.Need-slid-requires-2
-slid-requires-2 c κs = search needs
+-- src/windows.rt:135:9
+turned-behind-requires : tie.Need-turned-behind-requires
+turned-behind-requires c κs = search needs
 
--- src/windows.rt:94:5
-substituted-requires : tie.Need-substituted-requires
-substituted-requires c κs = search needs
-
--- src/windows.rt:86:1
+-- src/windows.rt:130:1
 returns : tie.Need-returns
-returns c =
-    let start = c .before .before .before in
-    c .substituted .ensures
-    ∙ ap (λ (w : Windows). substitutedBoth w (start .args .h) (start .args .leader)) (same-windows (c .before .before .slid .ensures)
-    (c .before .slid2 .ensures))
+returns c = same-windows (c .before .turned-first .ensures) (c .turned-behind .ensures)
 
 pub turned-spec : {M : Type 1} → statement M
-turned-spec = tie.close (tie.spec slid-requires slid-requires-2 substituted-requires returns)
+turned-spec = tie.close (tie.spec turned-first-requires turned-behind-requires returns)
