@@ -4,3 +4,4 @@ pub mod Drawing
 pub mod Telling
 pub mod Mixing
 pub mod Arrays
+pub mod One

@@ -10,8 +10,9 @@ ghost use mathlib.Core.List.{[], _∷_};
 ghost use Prim.Native.Nat.{_+_, _-_, _≤_, _<_, _%_, min};
 ghost use lib.ListN.{length, getD, take, drop};
 ghost use Rattle.base_lists.specs.Buffers.{over};
+ghost use Rattle.base_digits.specs.Digits.{digit};
 ghost use Rattle.base_digits.specs.Joined.{joined};
-ghost use Rattle.gage_planes_spec.specs.Told.{LOW, ROOM, told, planesOf, restOf, stateOf, xorPlanes, mixed};
+ghost use Rattle.gage_planes_spec.specs.Told.{LOW, ROOM, byteAt, told, planesOf, restOf, stateOf, xorPlanes, mixed};
 ghost use Rattle.gage_weave.specs.Weaving.{exchanged, woven, drawn, eightOf, bytesOf};
 ghost use Rattle.gage_weave.specs.Mixing.{MixedIn};
 
@@ -168,10 +169,35 @@ fn xor_planes(p: Planes, q: Planes) -> Planes
     }
 }
 
-// A block XORed into a state's first bytes, of whatever size it is.
-pub fn mix(t: State, block: &[u8]) -> State
-    ensures state { λ r. ⌜ r ≡ mixed (now (block .entry)) t ⌝ }
-    ensures bytes { λ r. ⌜ MixedIn (now (block .entry)) t r ⌝ }
+// Digit j of a number.
+fn digit(x: u64, j: u64) -> u64
+    requires { ⌜ j < 64 ⌝ }
+    ensures { λ r. ⌜ r ≡ digit x j ⌝ }
+{
+    (x >> j) % 2
+}
+
+// A block of one byte XORed in: each plane takes one digit. Most blocks have one byte, and need no weaving.
+fn mix_byte(t: State, x: u64) -> State
+    ensures { λ r. ⌜ r ≡ mixed (x ∷ []) t ⌝ }
+{
+    let p = t.low;
+    let low = Planes {
+        a: digit(x, 7) ^ p.a,
+        b: digit(x, 6) ^ p.b,
+        c: digit(x, 5) ^ p.c,
+        d: digit(x, 4) ^ p.d,
+        e: digit(x, 3) ^ p.e,
+        f: digit(x, 2) ^ p.f,
+        g: digit(x, 1) ^ p.g,
+        h: digit(x, 0) ^ p.h,
+    };
+    State { low, rest: t.rest }
+}
+
+// A block of any size.
+fn mix_block(t: State, block: &[u8]) -> State
+    ensures { λ r. ⌜ r ≡ mixed (now (block .entry)) t ⌝ }
 {
     let w = weave(block);
     let low = xor_planes(w.low, t.low);
@@ -179,6 +205,17 @@ pub fn mix(t: State, block: &[u8]) -> State
         low,
         rest: w.rest ^ t.rest,
     }
+}
+
+// A block XORed into a state's first bytes, of whatever size it is.
+pub fn mix(t: State, block: &[u8]) -> State
+    ensures state { λ r. ⌜ r ≡ mixed (now (block .entry)) t ⌝ }
+    ensures bytes { λ r. ⌜ MixedIn (now (block .entry)) t r ⌝ }
+{
+    if block.len() == 1 {
+        return mix_byte(t, wide(block[0]));
+    }
+    mix_block(t, block)
 }
 
 // The eight bytes of a state from byte i on, woven.
@@ -209,8 +246,18 @@ fn put(out: &mut [u8], x: u64)
     }
 }
 
-// A state's first bytes over out, 72 at most.
-pub fn tell(t: State, out: &mut [u8])
+// The first byte of a state, put together from a digit of each plane.
+fn first_byte(t: State) -> u8
+    ensures { λ r. ⌜ r ≡ byteAt t 0 ⌝ }
+{
+    let p = t.low;
+    let left = p.a % 2 * 8 + p.b % 2 * 4 + p.c % 2 * 2 + p.d % 2;
+    let right = p.e % 2 * 8 + p.f % 2 * 4 + p.g % 2 * 2 + p.h % 2;
+    low_byte(left * 16 + right)
+}
+
+// A state's first bytes over out, 72 at most, in blocks.
+fn tell_blocks(t: State, out: &mut [u8])
     ensures { λ _. ⌜ now (out .exit) ≡ over (told (min (length (now (out .entry))) ROOM) t) (now (out .entry)) ⌝ }
 {
     let n = least(out.len(), ROOM);
@@ -221,4 +268,15 @@ pub fn tell(t: State, out: &mut [u8])
         i = end;
     }
     put(&mut out[i..n], woven(eight(t, i)));
+}
+
+// A state's first bytes over out, 72 at most.
+pub fn tell(t: State, out: &mut [u8])
+    ensures { λ _. ⌜ now (out .exit) ≡ over (told (min (length (now (out .entry))) ROOM) t) (now (out .entry)) ⌝ }
+{
+    if out.len() == 1 {
+        out[0] = first_byte(t);
+        return;
+    }
+    tell_blocks(t, out);
 }
