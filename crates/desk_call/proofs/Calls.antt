@@ -78,9 +78,13 @@ module _ (t : Told) (editions : ℕ) (s table : List ℕ) (count : ℕ) (list o 
       pub choose-measured : Measured n (length (framesAt s table list))
       choose-measured = let z : 0 + length (framesAt s table list) ≡ length (framesAt s table list) = omega arith in subst (Measured n) z (whole .measured)
 
-      pub choose-good : (r : Answer) (out : List ℕ) → r ≡ fitting (length (framesAt s table list)) (length o) → out ≡ outOf r (framesAt s table list) o → Chooses r out
-      choose-good r out p q =
-          (p ∙ rw (← whole .same) (sym (whole .faultless 1 (fitting (length (newStream t editions s table list)) (length o)))), q ∙ ap (λ (x : List ℕ). outOf r x o) (sym (whole .same)))
+      pub choose-good : (r : Answer) (out : List ℕ) → r ≡ fitting (length (framesAt s table list)) (length o) → out ≡ outOf r (framesAt s table list) o
+          → Chooses r out
+      choose-good r out p q = (
+        p ∙ rw (← whole .same) (sym (whole .faultless 1 (fitting (length (newStream t editions s table list)) (length o)))),
+        q ∙ ap
+            (λ (x : List ℕ). outOf r x o) (sym (whole .same)),
+      )
 
 -- 2, by its test
 not-sized : (t : Told) → (Sizes t → ⊥) → sizedTold t ≡ false
@@ -98,7 +102,8 @@ module _ (key font : List ℕ) (lay : Layout) (editions : ℕ) (s table : List �
   abbrev Met : Answer → List ℕ → Type 0
   Met r out = (r ≡ deskCall t editions s table count list o) × (out ≡ deskOut t editions s table count list o)
 
-  met : (r : Answer) → r ≡ deskAnswer t editions s table count list (length o) → (out : List ℕ) → out ≡ outOf r (newStream t editions s table list) o → Met r out
+  met : (r : Answer) → r ≡ deskAnswer t editions s table count list (length o) → (out : List ℕ) → out ≡ outOf r (newStream t editions s table list) o
+      → Met r out
   met r e out q = (e, q ∙ ap (λ (x : Answer). outOf x (newStream t editions s table list) o) e)
 
   pub bad-key : (length key ≡ keyLength → ⊥) → Met answer-is.Sizes o

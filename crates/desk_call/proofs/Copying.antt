@@ -53,7 +53,8 @@ module _ (s : List ℕ) (place : ℕ) (x : Stretch s place (closingAt s place)) 
   module _ (o : List ℕ) (to : ℕ) (h : to + length (frameAt s place) ≤ length o) where
     pub frame-put : (out : List ℕ)
         → out ≡ copied (take (p .closing - place) (drop place s)) (take (length (set o to mark) - (to + 1)) (drop (to + 1) (set o to mark)))
-        → set (take (to + 1) (set o to mark) ++ (out ++ drop (length (set o to mark) - (to + 1)) (drop (to + 1) (set o to mark)))) (to + 1 + (p .closing - place)) mark
+        → set (take (to + 1) (set o to mark) ++ (out ++ drop (length (set o to mark) - (to + 1)) (drop (to + 1) (set o to mark))))
+        (to + 1 + (p .closing - place)) mark
         ≡ sets o to (frameAt s place)
     unfolding frameAt
     frame-put out e =

@@ -12,7 +12,7 @@ use Rattle.read_stretch.specs.Meaning.{Stretch}
 use Rattle.frame_spec.specs.Told.{Told}
 use Rattle.read_call.specs.Answers.{longestStream}
 use Rattle.desk_spec.specs.declared.Answer.{Answer}
-use Rattle.desk_spec.specs.Desk.{placeOf, closingOf, numberOf, lengthOf, itemOf}
+use Rattle.desk_spec.specs.Desk.{placeOf, closingOf, deskNumber, lengthOf, itemOf}
 use Rattle.desk_call.specs.declared.Report.{Report}
 use Rattle.desk_call.specs.declared.Items.{Items}
 use Rattle.desk_call.specs.declared.Items.the-variants.{Good, Past, NoLine}
@@ -61,4 +61,4 @@ report number length item = record { number = number; length = length; item = it
 
 -- what is reported of an answer: number, length and item
 abbrev pub reportOf : Answer → Report
-reportOf a = report (numberOf a) (lengthOf a) (itemOf a)
+reportOf a = report (deskNumber a) (lengthOf a) (itemOf a)

@@ -71,7 +71,8 @@ fn judge_items(
     list: &[u32],
 ) -> Items
     requires { ⌜ Takes (told (now key) (now font) layout) (now stream) (now table) count ⌝ }
-    ensures { λ r. ⌜ r ≡ itemsFrom (told (now (key .entry)) (now (font .entry)) layout) editions (now (stream .entry)) (now (table .entry)) count 1 0 (now (list .entry)) ⌝ }
+    ensures { λ r. ⌜ r ≡ itemsFrom (told (now (key .entry)) (now (font .entry)) layout) editions (now (stream .entry)) (now (table .entry)) count 1 0
+        (now (list .entry)) ⌝ }
 {
     let mut total = 0;
     let mut k = 0;
@@ -153,8 +154,11 @@ fn choose(
     out: &mut [u8],
 ) -> Answer
     requires { ⌜ Takes (told (now key) (now font) layout) (now stream) (now table) count ⌝ }
-    ensures { λ r. ⌜ r ≡ faultFrom (told (now (key .entry)) (now (font .entry)) layout) editions (now (stream .entry)) (now (table .entry)) count 1 (now (list .entry)) (fitting (length (newStream (told (now (key .entry)) (now (font .entry)) layout) editions (now (stream .entry)) (now (table .entry)) (now (list .entry)))) (length (now (out .entry)))) ⌝ }
-    ensures { λ r. ⌜ now (out .exit) ≡ outOf r (newStream (told (now (key .entry)) (now (font .entry)) layout) editions (now (stream .entry)) (now (table .entry)) (now (list .entry))) (now (out .entry)) ⌝ }
+    ensures { λ r. ⌜ r ≡ faultFrom (told (now (key .entry)) (now (font .entry)) layout) editions (now (stream .entry)) (now (table .entry)) count 1
+        (now (list .entry)) (fitting (length (newStream (told (now (key .entry)) (now (font .entry)) layout) editions (now (stream .entry))
+        (now (table .entry)) (now (list .entry)))) (length (now (out .entry)))) ⌝ }
+    ensures { λ r. ⌜ now (out .exit) ≡ outOf r (newStream (told (now (key .entry)) (now (font .entry)) layout) editions (now (stream .entry))
+        (now (table .entry)) (now (list .entry))) (now (out .entry)) ⌝ }
 {
     match judge_items(stream, key, font, editions, layout, table, count, list) {
         Items::Past(k) => Answer::Past(k),
@@ -176,8 +180,10 @@ pub fn desk(
     list: &[u32],
     out: &mut [u8],
 ) -> Answer
-    ensures { λ r. ⌜ r ≡ deskCall (told (now (key .entry)) (now (font .entry)) layout) editions (now (stream .entry)) (now (table .entry)) count (now (list .entry)) (now (out .entry)) ⌝ }
-    ensures { λ _. ⌜ now (out .exit) ≡ deskOut (told (now (key .entry)) (now (font .entry)) layout) editions (now (stream .entry)) (now (table .entry)) count (now (list .entry)) (now (out .entry)) ⌝ }
+    ensures { λ r. ⌜ r ≡ deskCall (told (now (key .entry)) (now (font .entry)) layout) editions (now (stream .entry)) (now (table .entry)) count
+        (now (list .entry)) (now (out .entry)) ⌝ }
+    ensures { λ _. ⌜ now (out .exit) ≡ deskOut (told (now (key .entry)) (now (font .entry)) layout) editions (now (stream .entry)) (now (table .entry)) count
+        (now (list .entry)) (now (out .entry)) ⌝ }
 {
     if key.len() != KEY_LENGTH {
         return Answer::Sizes;

@@ -91,7 +91,8 @@ module _ (key digest : List ℕ) (editions : ℕ) (lay : Layout) (s table : List
       let l = readings (judgedAll t editions) s 0 in
       let e : getD (map recorded l) i 0 ≡ getD table i 0 = ap (λ (x : List ℕ). getD x i 0) (sym (c .holds)) ∙ getD-take count table i 0 h in
       subst (EntryOf (judgedAll t editions) s) e
-      (entry-at (judgedAll t editions) s (map recorded l) (walk (judgedAll t editions) s (length s) 0 (omega arith)) i (omega (arith, h, c .many, length-map l recorded)))
+      (entry-at (judgedAll t editions) s (map recorded l) (walk (judgedAll t editions) s (length s) 0 (omega arith)) i
+      (omega (arith, h, c .many, length-map l recorded)))
 
   -- an item below the count chooses a line exactly if its entry's number is 0; else it is at fault
   pub built-fault : (i : ℕ) → i < count
@@ -101,7 +102,12 @@ module _ (key digest : List ℕ) (editions : ℕ) (lay : Layout) (s table : List
       let p = placeOf table i in (
         λ y.
             let same : x .closing ≡ y .closing =
-            omega (arith, stretch-closing s p (x .closing) (y .closing) (x .stretch) (y .there .stretch-is), stretch-closing s p (y .closing) (x .closing) (y .there .stretch-is) (x .stretch)) in
+            omega (
+              arith,
+              stretch-closing s p (x .closing) (y .closing) (x .stretch) (y .there .stretch-is),
+              stretch-closing s p (y .closing) (x .closing)
+                  (y .there .stretch-is) (x .stretch),
+            ) in
             x .number-is ∙ ap (λ (c : ℕ). numberIn (judgedAll t editions (bytesAt s (span p c)))) same ∙ ap numberIn (y .there .judged),
         λ z.
             let (own, text, calls, j) = line-only (judgedAll t editions (bytesAt s (span p (x .closing)))) (sym (x .number-is) ∙ z) in

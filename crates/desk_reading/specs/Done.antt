@@ -16,7 +16,7 @@ use Rattle.index_spec.specs.Entries.{mostEntries}
 use Rattle.index_spec.specs.Cases.{Takes, sized-told, told-sized}
 use Rattle.desk_spec.specs.declared.Answer.{Answer}
 use Rattle.desk_spec.specs.declared.Answer.the-variants as answer-is
-use Rattle.desk_spec.specs.Desk.{placeOf, closingOf, newStream, faultFrom, fitting, deskAnswer, numberOf, itemOf}
+use Rattle.desk_spec.specs.Desk.{placeOf, closingOf, newStream, faultFrom, fitting, deskAnswer, deskNumber, itemOf}
 use Rattle.desk_spec.specs.Chosen.{LineAt, closing-line, line-closing}
 use Rattle.desk_reading.specs.Promises.{Desks, Done, ItemLine, AllLines}
 
@@ -37,7 +37,7 @@ pub data Fault (t : Told) (editions : ℕ) (s table : List ℕ) (count : ℕ) : 
 
 -- 23 or 24
 abbrev pub AtFault : Answer → Type 0
-AtFault r = (numberOf r ≡ 23) ⊎ (numberOf r ≡ 24)
+AtFault r = (deskNumber r ≡ 23) ⊎ (deskNumber r ≡ 24)
 
 module _ (t : Told) (editions : ℕ) (s table : List ℕ) (count : ℕ) (w : Takes t s table count) where
   -- where the stretch of a line closes
@@ -114,7 +114,7 @@ taken-answer t editions s table count list room w =
 -- the call is taken, or its number is 2, 3, 4 or 19
 pub data Taken (t : Told) (s table : List ℕ) (count : ℕ) (r : Answer) : Type 0 where
   taken : Takes t s table count → Taken t s table count r
-  refused : (numberOf r ≡ 0 → ⊥) → (AtFault r → ⊥) → Taken t s table count r
+  refused : (deskNumber r ≡ 0 → ⊥) → (AtFault r → ⊥) → Taken t s table count r
 
 no-fault : (n : ℕ) → (n ≡ 23 → ⊥) → (n ≡ 24 → ⊥) → (n ≡ 23) ⊎ (n ≡ 24) → ⊥
 no-fault n a b (inl e) = a e
@@ -146,11 +146,11 @@ desk-taken t editions s table count list room =
     })
 
 -- 3, 4 or done
-fits-when : (n room : ℕ) → numberOf (fitting n room) ≡ 0 → (n ≤ longestStream) × (n ≤ room)
+fits-when : (n room : ℕ) → deskNumber (fitting n room) ≡ 0 → (n ≤ longestStream) × (n ≤ room)
 fits-when n room = go (ltb longestStream n) refl (ltb room n) refl
   where
     go : (a : Bool) → ltb longestStream n ≡ a → (b : Bool) → ltb room n ≡ b
-        → numberOf (cond a answer-is.NewTooLong (cond b answer-is.NoRoom (answer-is.Done n))) ≡ 0 → (n ≤ longestStream) × (n ≤ room)
+        → deskNumber (cond a answer-is.NewTooLong (cond b answer-is.NoRoom (answer-is.Done n))) ≡ 0 → (n ≤ longestStream) × (n ≤ room)
     go true p b q e = absurd (omega (arith, e))
     go false p true q e = absurd (omega (arith, e))
     go false p false q e = (ltb-false longestStream n p, ltb-false room n q)
@@ -163,7 +163,7 @@ fit-number n room = go (ltb longestStream n) (ltb room n)
     go false true = no-fault 4 (λ e. omega (arith, e)) (λ e. omega (arith, e))
     go false false = no-fault 0 (λ e. omega (arith, e)) (λ e. omega (arith, e))
 
-not-both : (r : Answer) → AtFault r → numberOf r ≡ 0 → ⊥
+not-both : (r : Answer) → AtFault r → deskNumber r ≡ 0 → ⊥
 not-both r (inl e) z = omega (arith, e, z)
 not-both r (inr e) z = omega (arith, e, z)
 
@@ -180,17 +180,17 @@ module _ (key font : List ℕ) (editions : ℕ) (lay : Layout) (s table : List �
   answered w = p .0 ∙ taken-answer t editions s table count list (length o) w
 
   to-done : Done r → Taken t s table count (deskAnswer t editions s table count list (length o)) → DoneWhen t editions s table count list (length o)
-  to-done d (refused n f) = absurd (n (ap numberOf (sym (p .0)) ∙ d))
+  to-done d (refused n f) = absurd (n (ap deskNumber (sym (p .0)) ∙ d))
   to-done d (taken w) = go (either t editions s table count w 1 list)
     where
       go : AllLines t editions s table count list ⊎ ((x : Answer) × Fault t editions s table count 1 list x × AtFault x)
           → DoneWhen t editions s table count list (length o)
       go (inl a) =
           let e : r ≡ fitting (length new) (length o) = answered w ∙ faultless t editions s table count w 1 list (fitting (length new) (length o)) a in
-          let f = fits-when (length new) (length o) (ap numberOf (sym e) ∙ d) in
+          let f = fits-when (length new) (length o) (ap deskNumber (sym e) ∙ d) in
           record { takes = w; lines = a; short = f .0; fits = f .1 }
       go (inr (x, f, n)) =
-          absurd (not-both x n (ap numberOf (sym (answered w ∙ fault-decides t editions s table count w f (fitting (length new) (length o)))) ∙ d))
+          absurd (not-both x n (ap deskNumber (sym (answered w ∙ fault-decides t editions s table count w f (fitting (length new) (length o)))) ∙ d))
 
   from-done : DoneWhen t editions s table count list (length o) → r ≡ answer-is.Done (length new)
   from-done x =
@@ -198,15 +198,17 @@ module _ (key font : List ℕ) (editions : ℕ) (lay : Layout) (s table : List �
       ∙ rw (le-ltb longestStream (length new) (x .short), le-ltb (length o) (length new) (x .fits))
 
   -- done exactly then, and the new stream's length is answered
-  pub desk-done : (Done r → DoneWhen t editions s table count list (length o)) × (DoneWhen t editions s table count list (length o) → r ≡ answer-is.Done (length new))
+  pub desk-done : (Done r → DoneWhen t editions s table count list (length o)) × (DoneWhen t editions s table count list (length o) → r
+      ≡ answer-is.Done (length new))
   desk-done = (λ d. to-done d (desk-taken t editions s table count list (length o)), from-done)
 
-  to-fault : AtFault r → Taken t s table count (deskAnswer t editions s table count list (length o)) → Takes t s table count × Fault t editions s table count 1 list r
+  to-fault : AtFault r → Taken t s table count (deskAnswer t editions s table count list (length o)) → Takes t s table count
+      × Fault t editions s table count 1 list r
   to-fault d (refused n f) = absurd (f (moved d))
     where
       moved : AtFault r → AtFault (deskAnswer t editions s table count list (length o))
-      moved (inl e) = inl (ap numberOf (sym (p .0)) ∙ e)
-      moved (inr e) = inr (ap numberOf (sym (p .0)) ∙ e)
+      moved (inl e) = inl (ap deskNumber (sym (p .0)) ∙ e)
+      moved (inr e) = inr (ap deskNumber (sym (p .0)) ∙ e)
   to-fault d (taken w) = go (either t editions s table count w 1 list)
     where
       go : AllLines t editions s table count list ⊎ ((x : Answer) × Fault t editions s table count 1 list x × AtFault x)

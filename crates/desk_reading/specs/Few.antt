@@ -25,9 +25,11 @@ module _ (key font : List ℕ) (editions a : ℕ) (lay : Layout) (s table : List
   t = told key font lay
 
   -- the same line at two places
-  pub desk-entry-twice : Below 256 s → allWork ≤ a → (i : ℕ) (o : List ℕ) (r : Answer) (out : List ℕ) → Desks key font editions lay s table count (i ∷ i ∷ []) o r out → Done r
+  pub desk-entry-twice : Below 256 s → allWork ≤ a → (i : ℕ) (o : List ℕ) (r : Answer) (out : List ℕ)
+      → Desks key font editions lay s table count (i ∷ i ∷ []) o r out → Done r
       → (u : WholeRun key font (asking editions a lay) (written r out))
-      → u .seen ≡ movedTo 0 (givenSeen t editions s table i) ∷ movedTo (behind 0 (givenSeen t editions s table i)) (givenSeen t editions s table i) ∷ theEnd (lengthOf r) ∷ []
+      → u .seen ≡ movedTo 0 (givenSeen t editions s table i) ∷ movedTo (behind 0 (givenSeen t editions s table i)) (givenSeen t editions s table i) ∷ theEnd
+      (lengthOf r) ∷ []
   desk-entry-twice bytes all i o r out p d u = desk-reads key font editions a lay s table count bytes all (i ∷ i ∷ []) o r out p d u
 
   -- an empty stream, whatever the output's room, and the output as it was

@@ -99,7 +99,8 @@ module _ (key font : List ℕ) (editions a : ℕ) (lay : Layout) (s table : List
     from-all (i ∷ list) x pre at e =
         let b = chosen t editions s table i in
         let rest = newStream t editions s table list in
-        let long : length b ≡ closingOf t editions s (placeOf table i) - placeOf table i = chosen-long key font editions a lay s table count bytes all w i (x .0) in
+        let long : length b ≡ closingOf t editions s (placeOf table i) - placeOf table i = chosen-long key font editions a lay s table count bytes all w i
+        (x .0) in
         let next : behind at (givenSeen t editions s table i) ≡ length (pre ++ (mark ∷ (b ++ (mark ∷ [])))) =
         omega (arith, e, long, length-append pre (mark ∷ (b ++ (mark ∷ []))), length-append b (mark ∷ [])) in (
           from-one i (x .0) pre rest at e,

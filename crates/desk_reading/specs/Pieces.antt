@@ -55,4 +55,5 @@ module _ (t : Told) (editions : ℕ) (s table : List ℕ) where
       let b = chosen t editions s table i in
       let z : at + 1 + length b + 1 + 0 ≡ at + 1 + length b + 1 = omega arith in
       ap (λ (l : List Reading). reading (span (at + 1) (at + 1 + length b)) (judge b) ∷ l)
-      (ap₂ _++_ (no-filler judge (at + 1 + length b + 1) (map piece list)) (ap (λ (k : ℕ). piecesRead judge k (map piece list)) z ∙ pieces-read judge (at + 1 + length b + 1) list))
+      (ap₂ _++_ (no-filler judge (at + 1 + length b + 1) (map piece list)) (ap (λ (k : ℕ). piecesRead judge k (map piece list)) z ∙ pieces-read judge
+      (at + 1 + length b + 1) list))

@@ -12,7 +12,7 @@ use Rattle.demand_reading.specs.Promises.{Seen}
 use Rattle.demand_joined.specs.Seeing.{seenOf}
 use Rattle.index_spec.specs.Updating.{judgedAll}
 use Rattle.desk_spec.specs.declared.Answer.{Answer}
-use Rattle.desk_spec.specs.Desk.{placeOf, closingOf, deskCall, deskOut, numberOf, lengthOf}
+use Rattle.desk_spec.specs.Desk.{placeOf, closingOf, deskCall, deskOut, deskNumber, lengthOf}
 use Rattle.desk_spec.specs.Chosen.{LineAt}
 
 -- the desk, with this stream, table of so many entries, list and output o, under this key, font digest, editions and layout, may answer r and leave out
@@ -22,7 +22,7 @@ Desks key font editions lay s table count list o r out =
 
 -- its number is 0
 abbrev pub Done : Answer → Type 0
-Done r = numberOf r ≡ 0
+Done r = deskNumber r ≡ 0
 
 -- the new stream: as many bytes of the output as are answered
 abbrev pub written : Answer → List ℕ → List ℕ

@@ -1,7 +1,6 @@
 -- The inverse laws over the calls: at every permitted size and every count of rounds `unpermute` of what `permute` gave is the state that
 -- `permute` took, and the other way round, whatever the two proved calls give. Stated over their contracts as the check reads them (`Post`). That a state has
--- 72 bytes is no
--- premise on top: owning an array of them says so (`GoodsP`, which the check tells a function of its arguments). Assumes nothing.
+-- 72 bytes is no premise on top: owning an array of them says so (`GoodsP`, which the check tells a function of its arguments). Assumes nothing.
 use mathlib.Core.Path.{_≡_, ap, _∙_}
 use mathlib.Core.List.{List}
 use Prim.Native.Nat.{ℕ, _≤_}

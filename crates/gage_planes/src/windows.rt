@@ -1,6 +1,5 @@
 // Rounds on a state wider than a number, of 68 or 72 bytes: two windows of 64 digits a plane, from its first byte on and from its middle on. Four turns are
-// made
-// between two drawings, and the cell before the middle is carried from the first window to the second. The promises cite
+// made between two drawings, and the cell before the middle is carried from the first window to the second. The promises cite
 // gage_planes_spec/specs/Planes.antt and Rounds.antt.
 use gage_planes_spec::Planes;
 use gage_planes_spec::State;

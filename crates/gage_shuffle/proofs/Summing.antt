@@ -23,7 +23,8 @@ from-right a b c d e f g h = omega arith
 
 -- the sum of the code is the definition's
 pub returned-left : (a b c d e f g h : ℕ)
-    → a / getD weights 0 1 % 2 + b / getD weights 1 1 % 2 * 2 + c / getD weights 2 1 % 2 * 4 + d / getD weights 3 1 % 2 * 8 + e / getD weights 4 1 % 2 * 16 + f / getD weights 5 1 % 2 * 32 + g / getD weights 6 1 % 2 * 64 + h / getD weights 7 1 % 2 * 128
+    → a / getD weights 0 1 % 2 + b / getD weights 1 1 % 2 * 2 + c / getD weights 2 1 % 2 * 4 + d / getD weights 3 1 % 2 * 8 + e / getD weights 4 1 % 2 * 16 + f
+    / getD weights 5 1 % 2 * 32 + g / getD weights 6 1 % 2 * 64 + h / getD weights 7 1 % 2 * 128
     ≡ returned (a ∷ b ∷ c ∷ d ∷ e ∷ f ∷ g ∷ h ∷ [])
 unfolding returned weighed
 returned-left a b c d e f g h = from-right _ _ _ _ _ _ _ _ ∙ rw mul-one

@@ -5,7 +5,8 @@ use gage_planes_spec::Planes;
 ghost use mathlib.Core.Path.{_≡_};
 ghost use Prim.Native.Nat.{_<_, _/_, _%_};
 ghost use Rattle.base_digits.specs.Joined.{grown};
-ghost use Rattle.gage_planes_spec.specs.Planes.{slid, rolled, rolledAll, upper, lower, begun, led, products, substituted, turnedBy, turnedAround, beside, drawnOut, cut, taken};
+ghost use Rattle.gage_planes_spec.specs.Planes.{slid, rolled, rolledAll, upper, lower, begun, led, products};
+ghost use Rattle.gage_planes_spec.specs.Planes.{substituted, turnedBy, turnedAround, beside, drawnOut, cut, taken};
 
 const ONES: u64 = 0xFFFFFFFFFFFFFFFF;
 

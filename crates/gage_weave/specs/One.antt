@@ -52,13 +52,15 @@ by-weight : (a b c d e f g h : ℕ)
 by-weight a b c d e f g h = omega arith
 
 pub first-is : (t : State)
-    → ((t .low .a % 2 * 8 + t .low .b % 2 * 4 + t .low .c % 2 * 2 + t .low .d % 2) * 16 + (t .low .e % 2 * 8 + t .low .f % 2 * 4 + t .low .g % 2 * 2 + t .low .h % 2)) % 256
+    → ((t .low .a % 2 * 8 + t .low .b % 2 * 4 + t .low .c % 2 * 2 + t .low .d % 2) * 16 +
+    (t .low .e % 2 * 8 + t .low .f % 2 * 4 + t .low .g % 2 * 2 + t .low .h % 2)) % 256
     ≡ byteAt t 0
 unfolding byteAt weighed digitAt
 first-is t =
     let p = t .low in
     rw (lowest (p .a), lowest (p .b), lowest (p .c), lowest (p .d), lowest (p .e), lowest (p .f), lowest (p .g), lowest (p .h))
-    (ap (λ (x : ℕ). x % 256) (by-weight (digit (p .a) 0) (digit (p .b) 0) (digit (p .c) 0) (digit (p .d) 0) (digit (p .e) 0) (digit (p .f) 0) (digit (p .g) 0) (digit (p .h) 0))
+    (ap (λ (x : ℕ). x % 256) (by-weight (digit (p .a) 0) (digit (p .b) 0) (digit (p .c) 0) (digit (p .d) 0) (digit (p .e) 0) (digit (p .f) 0) (digit (p .g) 0)
+    (digit (p .h) 0))
     ∙ mod-eq-of-lt (byte-below t 0))
 
 pub told-one : (t : State) (o : List ℕ) (b : ℕ) → length o ≡ 1 → b ≡ byteAt t 0 → set o 0 b ≡ over (told (min (length o) ROOM) t) o

@@ -1,6 +1,5 @@
--- What each step leaves in the array that holds a state, or a block, of any size, the bytes behind the size too; and in a state in planes. That the first bytes
--- are
--- those of the crate cipher's definitions is First.antt. Assumes nothing: these are definitions.
+-- What each step leaves in the array that holds a state, or a block, of any size, the bytes behind the size too; and in a state in planes. That the first
+-- bytes are those of the crate cipher's definitions is First.antt. Assumes nothing: these are definitions.
 use Prim.Native.Nat.{ℕ, _-_}
 use mathlib.Core.Bool.{cond}
 use mathlib.Core.List.{List, _++_}

@@ -19,7 +19,8 @@ use Rattle.live_spec.specs.declared.Numbers.{Numbers}
 use Rattle.live_spec.specs.declared.Step.{Step}
 use Rattle.live_spec.specs.declared.Answer.the-variants as answer-is
 use Rattle.live_spec.specs.Taking.{possible, Taken, taken, takenIn}
-use Rattle.live_spec.specs.Steps.{mostBytes, judgedIn, Found, refused, waits, closed, foundIn, found, noReading, stepOf, windowOf, lineOf, stepAnswer, stepWindow, stepLine}
+use Rattle.live_spec.specs.Steps.{mostBytes, judgedIn, Found, refused, waits, closed, foundIn, found}
+use Rattle.live_spec.specs.Steps.{noReading, stepOf, windowOf, lineOf, stepAnswer, stepWindow, stepLine}
 use Rattle.live_call.specs.declared.Taking.{Taking}
 use Rattle.live_call.specs.declared.Read.{Read}
 use Rattle.live_call.specs.Parts.{takenBy, takenOf, readOf}
@@ -115,7 +116,8 @@ module _ (key font : List ℕ) (a : Asked) (n : Numbers) (w p o : List ℕ) wher
               shown f is r (y .0 ∙ ap (stepOf (k .numbers)) its ∙ any (k .numbers) (ends (takenIn n w p .place))) v (x ∙ whole (ends (takenIn n w p .place))) l
               (y .1 ∙ ap (lineOf o) its)
             where
-              any : (m : Numbers) (b : Bool) → stepOf m (cond b (waits (takenIn n w p)) (closed (takenIn n w p) (judgedIn t a (takenIn n w p .window) (takenIn n w p .place))))
+              any : (m : Numbers) (b : Bool) → stepOf m (cond b (waits (takenIn n w p)) (closed (takenIn n w p)
+                  (judgedIn t a (takenIn n w p .window) (takenIn n w p .place))))
                   ≡ stepOf n (cond b (waits (takenIn n w p)) (closed (takenIn n w p) (judgedIn t a (takenIn n w p .window) (takenIn n w p .place))))
               any m true = refl
               any m false = refl

@@ -14,7 +14,7 @@ ghost use Rattle.read_spec.specs.Sizes.{Sizes};
 ghost use Rattle.read_nonce.specs.Nonces.{nonceOf};
 ghost use Rattle.read_call.specs.Answers.{LINE, outcomeOf, judgedWithin, lineOver};
 ghost use Rattle.live_spec.specs.Taking.{possible, closes, behindMark, behindByte, kept, takenIn};
-ghost use Rattle.live_spec.specs.Steps.{mostBytes, judgedIn, foundIn, noNonce, noReading, stepOf, lineOf, stepAnswer, stepWindow, stepLine, numberOf};
+ghost use Rattle.live_spec.specs.Steps.{mostBytes, judgedIn, foundIn, noNonce, noReading, stepOf, lineOf, stepAnswer, stepWindow, stepLine, stepNumber};
 ghost use Rattle.live_spec.specs.Ends.{endsAnswer, endsNumber};
 ghost use Rattle.live_call.specs.Parts.{takenBy, takenOf, readOf};
 use frame_body::DIGEST_LENGTH;
@@ -388,7 +388,7 @@ pub fn end(n: Numbers) -> Ends
 
 // The number of what a step answers.
 pub fn step_number(answer: Answer) -> u32
-    ensures { λ r. ⌜ r ≡ numberOf answer ⌝ }
+    ensures { λ r. ⌜ r ≡ stepNumber answer ⌝ }
 {
     match answer {
         Answer::Numbers => 1,

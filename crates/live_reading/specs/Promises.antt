@@ -15,7 +15,7 @@ use Rattle.live_spec.specs.declared.Answer.{Answer}
 use Rattle.live_spec.specs.declared.Answer.the-variants as answer-is
 use Rattle.live_spec.specs.declared.Step.{Step}
 use Rattle.live_spec.specs.Taking.{noBytes}
-use Rattle.live_spec.specs.Steps.{mostBytes, nonceIn, stepAnswer, stepWindow, stepLine, numberOf}
+use Rattle.live_spec.specs.Steps.{mostBytes, nonceIn, stepAnswer, stepWindow, stepLine, stepNumber}
 
 -- a step with this key and font, and what it is asked, over the numbers n, the window w and the piece p, with the line buffer l before it, may answer r
 -- and leave w′ and l′
@@ -51,7 +51,7 @@ givenOf r = record {
 -- by a step: its answer's number, calls and length, and what stands in the line buffer
 abbrev pub givenWith : Step → ℕ → ℕ → List ℕ → Given
 givenWith r calls long l′ = record {
-  number = numberOf (r .answer);
+  number = stepNumber (r .answer);
   first = r .first;
   closing = r .closing;
   calls = calls;

@@ -108,10 +108,10 @@ abbrev pub stepLine : Told → Asked → Numbers → List ℕ → List ℕ → L
 stepLine t a n w p o = lineOf o (found t a n w p (length o))
 
 -- the number of each answer: 1, 2, 3, 4; wait has the number 0, as a line has; a stretch that of `read`
-abbrev pub numberOf : Answer → ℕ
-numberOf answer-is.Numbers = 1
-numberOf answer-is.Sizes = 2
-numberOf answer-is.TooLong = 3
-numberOf answer-is.NoRoom = 4
-numberOf answer-is.Wait = 0
-numberOf (answer-is.Stretch a) = read-answers.numberOf a
+abbrev pub stepNumber : Answer → ℕ
+stepNumber answer-is.Numbers = 1
+stepNumber answer-is.Sizes = 2
+stepNumber answer-is.TooLong = 3
+stepNumber answer-is.NoRoom = 4
+stepNumber answer-is.Wait = 0
+stepNumber (answer-is.Stretch a) = read-answers.answerNumber a

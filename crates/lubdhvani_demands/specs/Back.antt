@@ -1,7 +1,6 @@
 -- Order W6 over the exported calls: a frame converted and converted back under the nonce and job that it was first made with is the first frame, byte for byte.
--- The second call is handed what stands between the marks that the first left in its buffer. That the stretch is bytes is a premise; what the calls are passed
--- meets
--- it by its type (Bytes.antt). Assumes nothing.
+-- The second call is handed what stands between the marks that the first left in its buffer. That the stretch is bytes is a premise; what the calls are
+-- passed meets it by its type (Bytes.antt). Assumes nothing.
 use mathlib.Core.Path.{_≡_, refl, sym, ap, _∙_}
 use mathlib.Core.List.{List}
 use Prim.Native.Nat.{ℕ, _≤_}
@@ -30,9 +29,8 @@ use Rattle.lubdhvani_demands.specs.Written.{c-written, c-converted}
 abbrev done : ℕ → Measured
 done n = record { number = 0; length = n }
 
--- a write call made the first frame, a mark, the stretch s and a mark; a call of the converter with s was done; and one with what then stands between the marks
--- of
--- its buffer, with the first's own nonce and job and room for its frame: it is done, and leaves the first frame
+-- a write call made the first frame, a mark, the stretch s and a mark; a call of the converter with s was done; and one with what then stands between the
+-- marks of its buffer, with the first's own nonce and job and room for its frame: it is done, and leaves the first frame
 pub c-convert-back : (key font : List ℕ) (lay : ℕ) → (s : List ℕ) → Below 256 s
     → (first : Own) (M f₀ : List ℕ) (w₀ : Framed) (f₀′ : List ℕ) → Writes key first font lay M f₀ w₀ f₀′ → w₀ .number ≡ 0 → take (w₀ .length) f₀′ ≡ marked s
     → (own : Own) (f : List ℕ) (w : Measured) (f′ : List ℕ) → Converts key own font lay s f w f′ → w .number ≡ 0

@@ -42,8 +42,10 @@ pub extern "C" fn lubdhvani_desk_copy(
     list: &[u32],
     out: &mut [u8],
 ) -> Reworked
-    ensures { λ r. ⌜ r ≡ reworkedOut (deskCall (told (now (key .entry)) (now (font .entry)) (layoutOf layout)) editions (now (stream .entry)) (now (table .entry)) count (now (list .entry)) (now (out .entry))) ⌝ }
-    ensures { λ _. ⌜ now (out .exit) ≡ deskOut (told (now (key .entry)) (now (font .entry)) (layoutOf layout)) editions (now (stream .entry)) (now (table .entry)) count (now (list .entry)) (now (out .entry)) ⌝ }
+    ensures { λ r. ⌜ r ≡ reworkedOut (deskCall (told (now (key .entry)) (now (font .entry)) (layoutOf layout)) editions (now (stream .entry))
+        (now (table .entry)) count (now (list .entry)) (now (out .entry))) ⌝ }
+    ensures { λ _. ⌜ now (out .exit) ≡ deskOut (told (now (key .entry)) (now (font .entry)) (layoutOf layout)) editions (now (stream .entry))
+        (now (table .entry)) count (now (list .entry)) (now (out .entry)) ⌝ }
 {
     let answer = desk(
         stream,

@@ -1,6 +1,5 @@
 -- The count of a reading (document 01, 'Numbers returned'; orders W2 and W7): 0 for 7, 6 and 8; for 5, 9, 13, 17 and a line n + 39 (in edition two n + 46,
--- order
--- W6), n being the length of the line's ciphertext. Assumes nothing.
+-- order W6), n being the length of the line's ciphertext. Assumes nothing.
 use mathlib.Core.Path.{_≡_, refl}
 use mathlib.Core.List.{List}
 use Prim.Native.Nat.{ℕ, _+_}

@@ -1,8 +1,7 @@
 -- `given-in-order` as the calls show it (order W11), from the promises of `stood` and `read` alone: asked for a request, `stood` leaves in the buffer the
--- stream
--- that was received before it; asked for the print behind that request, it shows the next line of a whole run of `read` over that stream, behind the lines
--- given before, and no line exactly where the run has no more (`shown-in-order`); and the line shown is one written in that stream (`shown-written`). Assumes
--- nothing.
+-- stream that was received before it; asked for the print behind that request, it shows the next line of a whole run of `read` over that stream, behind the
+-- lines given before, and no line exactly where the run has no more (`shown-in-order`); and the line shown is one written in that stream (`shown-written`).
+-- Assumes nothing.
 use mathlib.Core.Path.{_≡_, refl, sym, ap, ap₂, subst, _∙_}
 use mathlib.Core.Bool.{Bool, true, false, cond}
 use mathlib.Core.List.{List, [], _∷_, _++_, append-assoc}

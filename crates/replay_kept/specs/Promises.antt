@@ -1,5 +1,5 @@
--- What `request`, `replay` and `stood` promise of one call, on plain lists (Contracts.antt beside this has that it is their contracts). Assumes nothing: these are
--- definitions.
+-- What `request`, `replay` and `stood` promise of one call, on plain lists (Contracts.antt beside this has that it is their contracts). Assumes nothing:
+-- these are definitions.
 use mathlib.Core.Path.{_≡_}
 use mathlib.Core.List.{List}
 use Prim.Native.Nat.{ℕ}

@@ -17,7 +17,7 @@ use Rattle.replay_spec.specs.declared.Answer.the-variants as answer-is
 use Rattle.replay_spec.specs.declared.Replayed.{Replayed}
 use Rattle.replay_spec.specs.Events.{events}
 use Rattle.replay_spec.specs.Press.{start, isDone, run}
-use Rattle.replay_spec.specs.Answers.{judging, replayed, replayedAs, answerOf, replayAnswer, replayOut, numberOf}
+use Rattle.replay_spec.specs.Answers.{judging, replayed, replayedAs, answerOf, replayAnswer, replayOut, replayNumber}
 use Rattle.replay_kept.specs.Promises.{Replays}
 use Rattle.replay_kept.specs.Stepping.{Fault, Ended, all-done, at-fault, run-ended}
 
@@ -43,7 +43,7 @@ module _ (key font : List ℕ) (ed : ℕ) (lay : Layout) (trace o : List ℕ) wh
     pub named : r .event ≡ length before + 1
 
   pub data Decided (r : Replayed) (o′ : List ℕ) : Type 0 where
-    refused : numberOf (r .answer) ≡ refusal (sizedTold t) (hasRoom o) → (numberOf (r .answer) ≡ 0 → ⊥) → r .event ≡ 0 → o′ ≡ o → Decided r o′
+    refused : replayNumber (r .answer) ≡ refusal (sizedTold t) (hasRoom o) → (replayNumber (r .answer) ≡ 0 → ⊥) → r .event ≡ 0 → o′ ≡ o → Decided r o′
     by-event : refusal (sizedTold t) (hasRoom o) ≡ 0 → FirstFault r → Decided r o′
     without-fault : refusal (sizedTold t) (hasRoom o) ≡ 0 → r .answer ≡ answer-is.Done → Decided r o′
 

@@ -1,6 +1,6 @@
 -- `replay-resync` (order W11, demand 3, first half), from the promise of `read` alone: take two traces whose streams, as received before a request that gives
--- nothing, are equal from some mark on, however the bytes before it differ and however they were cut into events; the lines given end with the same lines, those
--- that calls from that mark on see. Assumes nothing.
+-- nothing, are equal from some mark on, however the bytes before it differ and however they were cut into events; the lines given end with the same lines,
+-- those that calls from that mark on see. Assumes nothing.
 use mathlib.Core.Path.{_≡_, refl, sym, ap, _∙_}
 use mathlib.Core.Bool.{true, cond}
 use mathlib.Core.List.{List, [], _∷_, _++_, map}

@@ -1,6 +1,5 @@
 -- `Gives` (specs/Joining.antt) is the contract of `next_row`, and of `lines_row` with edition one and no layout, as the check reads them (`Post`): what is
--- stated of
--- `Gives` holds of whatever a proved call gives. Assumes nothing.
+-- stated of `Gives` holds of whatever a proved call gives. Assumes nothing.
 use contract.Lifetimes.{Lfts}
 use denote.Triple.Clauses.{AtExit}
 use borrow.Fn.Kinds.{Dens, endedOf}

@@ -1,6 +1,5 @@
 -- Calls of `next_row` one after the other, from the stream's start, each from the cursor that the one before gave: until the last row was given, what they
--- write
--- joins to the listing of the stream, and more calls than the stream has bytes come to it. From the promise of `next_row` alone (`next-row-promises`
+-- write joins to the listing of the stream, and more calls than the stream has bytes come to it. From the promise of `next_row` alone (`next-row-promises`
 -- under proofs/). Assumes nothing.
 use mathlib.Core.Path.{_≡_, refl, sym, ap, ap₂, _∙_}
 use mathlib.Core.Bool.{Bool, true, false, cond}

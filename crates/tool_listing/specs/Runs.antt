@@ -1,6 +1,5 @@
 -- The listing of a stream is that of a whole run of `read` (demand_reading/specs/Whole.antt), with all the work allowed: one row for each reading before the
--- end, in
--- order, with the line's bytes exactly where a line is given, and the counts of them. From the promise of `read` alone. Assumes nothing.
+-- end, in order, with the line's bytes exactly where a line is given, and the counts of them. From the promise of `read` alone. Assumes nothing.
 use mathlib.Core.Path.{_≡_, refl, sym, ap, ap₂, _∙_}
 use mathlib.Core.Bool.{Bool, true, false, cond}
 use mathlib.Core.List.{List, [], _∷_, _++_, map}

@@ -1,6 +1,5 @@
 -- No ceiling shows in the listing: each stretch is allowed all the work it takes, so that of a stream of bytes the listing is that of what each stretch is
--- judged
--- to be, and no row is a 15 (document 01: a call over many stretches allows each all its work). Assumes nothing.
+-- judged to be, and no row is a 15 (document 01: a call over many stretches allows each all its work). Assumes nothing.
 use mathlib.Core.Path.{_≡_, refl, sym, ap, ap₂, _∙_}
 use mathlib.Core.Bool.{Bool, true, false, cond}
 use mathlib.Core.List.{List, [], _∷_}

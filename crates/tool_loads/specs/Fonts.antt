@@ -1,6 +1,5 @@
--- Where the font is none of what is said, it has its digest, and nowhere else: `digest_font` over the buffer of the longest font, with room for a digest, finds
--- a
--- font exactly where `said` does. Assumes nothing.
+-- Where the font is none of what is said, it has its digest, and nowhere else: `digest_font` over the buffer of the longest font, with room for a digest,
+-- finds a font exactly where `said` does. Assumes nothing.
 use mathlib.Core.Path.{_≡_, refl, ap}
 use mathlib.Core.Bool.{Bool, true, false, cond}
 use mathlib.Core.List.{List}

@@ -1,6 +1,5 @@
 -- What is said in place of a listing (document 01, 'The listing program'): a key file missing or not of 16 bytes gives only `no key`; a missing or over-long
--- font
--- `no font`; a longer stream `too long`; checked in that order. A stream that can't be read is `no stream`. Assumes nothing: these are definitions.
+-- font `no font`; a longer stream `too long`; checked in that order. A stream that can't be read is `no stream`. Assumes nothing: these are definitions.
 use mathlib.Core.Bool.{Bool, false, not, cond}
 use mathlib.Core.List.{List, [], _∷_}
 use Prim.Native.Nat.{ℕ}

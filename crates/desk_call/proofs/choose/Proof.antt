@@ -24,18 +24,29 @@ enum-known-n c = search needs
 
 fill-requires : tie.Need-fill-requires
 fill-requires c κs =
-    let a = c .before .before .before .before .before .before .before .before .before .before .before .args in
-    (choose-starts (told (a .key .now) (a .font .now) (a .layout)) (a .editions) (a .stream .now) (a .table .now) (a .count) (a .list .now) (a .out .now) (c .before .before .before .before .before .before .before .before .before .before .before .pre) _ (sym (c .before .before .n .given .1) ∙ c .before .before .before .before .judge-items .ensures), choose-measured (told (a .key .now) (a .font .now) (a .layout)) (a .editions) (a .stream .now) (a .table .now) (a .count) (a .list .now) (a .out .now) (c .before .before .before .before .before .before .before .before .before .before .before .pre) _ (sym (c .before .before .n .given .1) ∙ c .before .before .before .before .judge-items .ensures))
+    let a = c .before .before .before .before .before .before .before .before .before .before .before .args in (
+      choose-starts (told (a .key .now) (a .font .now) (a .layout)) (a .editions) (a .stream .now) (a .table .now) (a .count) (a .list .now) (a .out .now)
+          (c .before .before .before .before .before .before .before .before .before .before .before .pre) _
+          (sym (c .before .before .n .given .1) ∙ c .before .before .before .before .judge-items .ensures),
+      choose-measured
+          (told (a .key .now) (a .font .now) (a .layout)) (a .editions) (a .stream .now) (a .table .now) (a .count) (a .list .now) (a .out .now)
+          (c .before .before .before .before .before .before .before .before .before .before .before .pre) _
+          (sym (c .before .before .n .given .1) ∙ c .before .before .before .before .judge-items .ensures),
+    )
 
 returns : tie.Need-returns
 returns c =
     let a = c .before .before .before .before .before .before .before .before .before .before .args in
-    choose-past (told (a .key .now) (a .font .now) (a .layout)) (a .editions) (a .stream .now) (a .table .now) (a .count) (a .list .now) (a .out .now) (c .before .before .before .before .before .before .before .before .before .before .pre) _ (sym (c .before .k .given .1) ∙ c .before .before .before .judge-items .ensures)
+    choose-past (told (a .key .now) (a .font .now) (a .layout)) (a .editions) (a .stream .now) (a .table .now) (a .count) (a .list .now) (a .out .now)
+    (c .before .before .before .before .before .before .before .before .before .before .pre) _
+    (sym (c .before .k .given .1) ∙ c .before .before .before .judge-items .ensures)
 
 returns-2 : tie.Need-returns-2
 returns-2 c =
     let a = c .before .before .before .before .before .before .before .before .before .before .args in
-    choose-no-line (told (a .key .now) (a .font .now) (a .layout)) (a .editions) (a .stream .now) (a .table .now) (a .count) (a .list .now) (a .out .now) (c .before .before .before .before .before .before .before .before .before .before .pre) _ (sym (c .before .k2 .given .1) ∙ c .before .before .before .judge-items .ensures)
+    choose-no-line (told (a .key .now) (a .font .now) (a .layout)) (a .editions) (a .stream .now) (a .table .now) (a .count) (a .list .now) (a .out .now)
+    (c .before .before .before .before .before .before .before .before .before .before .pre) _
+    (sym (c .before .k2 .given .1) ∙ c .before .before .before .judge-items .ensures)
 
 same-length : tie.Need-same-length
 same-length c = search needs
@@ -43,7 +54,10 @@ same-length c = search needs
 returns-3 : tie.Need-returns-3
 returns-3 c =
     let a = c .before .before .before .before .before .before .before .before .before .before .before .before .before .before .args in
-    choose-good (told (a .key .now) (a .font .now) (a .layout)) (a .editions) (a .stream .now) (a .table .now) (a .count) (a .list .now) (a .out .now) (c .before .before .before .before .before .before .before .before .before .before .before .before .before .before .pre) _ (sym (c .before .before .before .before .before .n .given .1) ∙ c .before .before .before .before .before .before .before .judge-items .ensures) (c .before .before .fill .result) _ (c .before .before .fill .ensures .0) (c .before .before .fill .ensures .1)
+    choose-good (told (a .key .now) (a .font .now) (a .layout)) (a .editions) (a .stream .now) (a .table .now) (a .count) (a .list .now) (a .out .now)
+    (c .before .before .before .before .before .before .before .before .before .before .before .before .before .before .pre) _
+    (sym (c .before .before .before .before .before .n .given .1) ∙ c .before .before .before .before .before .before .before .judge-items .ensures)
+    (c .before .before .fill .result) _ (c .before .before .fill .ensures .0) (c .before .before .fill .ensures .1)
 
 pub choose-spec : {M : Type 1} → statement M
 choose-spec =

@@ -31,10 +31,15 @@ cast-place-at : tie.Need-cast-place-at Inv-loop μ-loop
 cast-place-at c = omega (arith, c .shared-slice-known4 .given (c .before .before .loop .k))
 
 place-at-requires : tie.Need-place-at-requires Inv-loop μ-loop
-place-at-requires c κs = copying-start (c .before .before .before .before .before .before .before .pre .1) (c .before .before .loop .inv) (c .before .loop-test .taken) (getD (c .before .before .before .before .before .before .before .args .list .now) (c .before .before .loop .k) 0) refl .inside
+place-at-requires c κs = copying-start (c .before .before .before .before .before .before .before .pre .1) (c .before .before .loop .inv)
+    (c .before .loop-test .taken) (getD (c .before .before .before .before .before .before .before .args .list .now) (c .before .before .loop .k) 0)
+    refl .inside
 
 put-frame-requires : tie.Need-put-frame-requires Inv-loop μ-loop
-put-frame-requires c κs = put-ready (c .before .before .before .before .before .before .before .before .before .pre .1) (c .before .before .before .before .loop .inv) (c .before .before .before .loop-test .taken) (getD (c .before .before .before .before .before .before .before .before .before .args .list .now) (c .before .before .before .before .loop .k) 0) refl (c .before .place-at .result) (c .before .place-at .ensures)
+put-frame-requires c κs = put-ready (c .before .before .before .before .before .before .before .before .before .pre .1)
+    (c .before .before .before .before .loop .inv) (c .before .before .before .loop-test .taken)
+    (getD (c .before .before .before .before .before .before .before .before .before .args .list .now) (c .before .before .before .before .loop .k) 0) refl
+    (c .before .place-at .result) (c .before .place-at .ensures)
 
 add-k : tie.Need-add-k Inv-loop μ-loop
 add-k c = search needs
@@ -43,7 +48,12 @@ loop-less : tie.Need-loop-less Inv-loop μ-loop
 loop-less c = search needs
 
 loop-again : tie.Need-loop-again Inv-loop μ-loop
-loop-again c = put-more (c .before .before .before .before .before .before .before .before .before .before .before .before .pre .1) (c .before .before .before .before .before .before .before .loop .inv) (c .before .before .before .before .before .before .loop-test .taken) (getD (c .before .before .before .before .before .before .before .before .before .before .before .before .args .list .now) (c .before .before .before .before .before .before .before .loop .k) 0) refl (c .before .before .before .before .place-at .result) (c .before .before .before .before .place-at .ensures) _ (c .before .before .put-frame .result) (c .before .before .put-frame .ensures .1) (c .before .before .put-frame .ensures .0)
+loop-again c = put-more (c .before .before .before .before .before .before .before .before .before .before .before .before .pre .1)
+    (c .before .before .before .before .before .before .before .loop .inv) (c .before .before .before .before .before .before .loop-test .taken)
+    (getD (c .before .before .before .before .before .before .before .before .before .before .before .before .args .list .now)
+    (c .before .before .before .before .before .before .before .loop .k) 0) refl (c .before .before .before .before .place-at .result)
+    (c .before .before .before .before .place-at .ensures) _ (c .before .before .put-frame .result) (c .before .before .put-frame .ensures .1)
+    (c .before .before .put-frame .ensures .0)
 
 same-length : tie.Need-same-length Inv-loop μ-loop
 same-length c = copying-length (c .before .before .before .before .before .before .pre .1) (c .before .loop .inv)

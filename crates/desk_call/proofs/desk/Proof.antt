@@ -21,22 +21,28 @@ returns-2 c =
 returns-3 : tie.Need-returns-3
 returns-3 c =
     let a = c .before .before .before .before .before .before .before .before .before .args in
-    too-long (a .key .now) (a .font .now) (a .layout) (a .editions) (a .stream .now) (a .table .now) (a .count) (a .list .now) (a .out .now) (c .before .before .if1 .left) (c .before .if2 .left) (c .if3 .taken)
+    too-long (a .key .now) (a .font .now) (a .layout) (a .editions) (a .stream .now) (a .table .now) (a .count) (a .list .now) (a .out .now)
+    (c .before .before .if1 .left) (c .before .if2 .left) (c .if3 .taken)
 
 returns-4 : tie.Need-returns-4
 returns-4 c =
     let a = c .before .before .before .before .before .before .before .before .before .before .args in
-    no-table (a .key .now) (a .font .now) (a .layout) (a .editions) (a .stream .now) (a .table .now) (a .count) (a .list .now) (a .out .now) (c .before .before .before .if1 .left) (c .before .before .if2 .left) (omega (arith, c .before .if3 .left)) (c .if4 .taken)
+    no-table (a .key .now) (a .font .now) (a .layout) (a .editions) (a .stream .now) (a .table .now) (a .count) (a .list .now) (a .out .now)
+    (c .before .before .before .if1 .left) (c .before .before .if2 .left) (omega (arith, c .before .if3 .left)) (c .if4 .taken)
 
 returns-5 : tie.Need-returns-5
 returns-5 c =
     let a = c .before .before .before .before .before .before .before .before .before .before .before .args in
-    over-count (a .key .now) (a .font .now) (a .layout) (a .editions) (a .stream .now) (a .table .now) (a .count) (a .list .now) (a .out .now) (c .before .before .before .before .if1 .left) (c .before .before .before .if2 .left) (omega (arith, c .before .before .if3 .left)) (omega (arith, c .before .if4 .left)) (c .if5 .taken)
+    over-count (a .key .now) (a .font .now) (a .layout) (a .editions) (a .stream .now) (a .table .now) (a .count) (a .list .now) (a .out .now)
+    (c .before .before .before .before .if1 .left) (c .before .before .before .if2 .left) (omega (arith, c .before .before .if3 .left))
+    (omega (arith, c .before .if4 .left)) (c .if5 .taken)
 
 choose-requires : tie.Need-choose-requires
 choose-requires c κs =
     let a = c .before .before .before .before .before .before .before .before .before .before .before .before .args in
-    takes (a .key .now) (a .font .now) (a .layout) (a .editions) (a .stream .now) (a .table .now) (a .count) (a .list .now) (a .out .now) (c .before .before .before .before .before .if1 .left) (c .before .before .before .before .if2 .left) (omega (arith, c .before .before .before .if3 .left)) (omega (arith, c .before .before .if4 .left)) (omega (arith, c .before .if5 .left))
+    takes (a .key .now) (a .font .now) (a .layout) (a .editions) (a .stream .now) (a .table .now) (a .count) (a .list .now) (a .out .now)
+    (c .before .before .before .before .before .if1 .left) (c .before .before .before .before .if2 .left)
+    (omega (arith, c .before .before .before .if3 .left)) (omega (arith, c .before .before .if4 .left)) (omega (arith, c .before .if5 .left))
 
 same-length : tie.Need-same-length
 same-length c = search needs
@@ -44,7 +50,10 @@ same-length c = search needs
 returns-6 : tie.Need-returns-6
 returns-6 c =
     let a = c .before .before .before .before .before .before .before .before .before .before .before .before .before .before .before .args in
-    chosen-met (a .key .now) (a .font .now) (a .layout) (a .editions) (a .stream .now) (a .table .now) (a .count) (a .list .now) (a .out .now) (c .before .before .before .before .before .before .before .before .if1 .left) (c .before .before .before .before .before .before .before .if2 .left) (omega (arith, c .before .before .before .before .before .before .if3 .left)) (omega (arith, c .before .before .before .before .before .if4 .left)) (omega (arith, c .before .before .before .before .if5 .left)) (c .before .before .choose .result) _ (c .before .before .choose .ensures)
+    chosen-met (a .key .now) (a .font .now) (a .layout) (a .editions) (a .stream .now) (a .table .now) (a .count) (a .list .now) (a .out .now)
+    (c .before .before .before .before .before .before .before .before .if1 .left) (c .before .before .before .before .before .before .before .if2 .left)
+    (omega (arith, c .before .before .before .before .before .before .if3 .left)) (omega (arith, c .before .before .before .before .before .if4 .left))
+    (omega (arith, c .before .before .before .before .if5 .left)) (c .before .before .choose .result) _ (c .before .before .choose .ensures)
 
 pub desk-spec : {M : Type 1} → statement M
 desk-spec =

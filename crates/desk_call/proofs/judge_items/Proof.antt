@@ -36,10 +36,17 @@ add-t18 : tie.Need-add-t18 Inv-loop μ-loop
 add-t18 c = search needs
 
 returns : tie.Need-returns Inv-loop μ-loop
-returns c = going-past (c .before .before .before .loop .inv) (c .before .before .loop-test .taken) (getD (c .before .before .before .before .before .before .before .before .before .args .list .now) (c .before .before .before .loop .k) 0) refl (omega (arith, c .if1 .taken))
+returns c = going-past (c .before .before .before .loop .inv) (c .before .before .loop-test .taken)
+    (getD (c .before .before .before .before .before .before .before .before .before .args .list .now) (c .before .before .before .loop .k) 0) refl
+    (omega (arith, c .if1 .taken))
 
 place-at-requires : tie.Need-place-at-requires Inv-loop μ-loop
-place-at-requires c κs = omega (arith, c .if1 .left, c .before .before .before .before .before .before .before .before .before .pre .few, c .before .before .before .before .before .before .before .before .before .pre .room)
+place-at-requires c κs = omega (
+  arith,
+  c .if1 .left,
+  c .before .before .before .before .before .before .before .before .before .pre .few,
+  c .before .before .before .before .before .before .before .before .before .pre .room,
+)
 
 closing-of-requires : tie.Need-closing-of-requires Inv-loop μ-loop
 closing-of-requires c κs = search needs
@@ -48,20 +55,28 @@ add-t19 : tie.Need-add-t19 Inv-loop μ-loop
 add-t19 c = search needs
 
 returns-2 : tie.Need-returns-2 Inv-loop μ-loop
-returns-2 c = going-no-line (c .before .before .before .before .before .before .loop .inv) (c .before .before .before .before .before .loop-test .taken) (getD (c .before .before .before .before .before .before .before .before .before .before .before .before .args .list .now) (c .before .before .before .before .before .before .loop .k) 0) refl (omega (arith, c .before .before .before .if1 .left)) (c .before .before .place-at .result) (c .before .before .place-at .ensures) (c .before .closing-of .result) (c .before .closing-of .ensures) (c .if2 .taken)
+returns-2 c = going-no-line (c .before .before .before .before .before .before .loop .inv) (c .before .before .before .before .before .loop-test .taken)
+    (getD (c .before .before .before .before .before .before .before .before .before .before .before .before .args .list .now)
+    (c .before .before .before .before .before .before .loop .k) 0) refl (omega (arith, c .before .before .before .if1 .left))
+    (c .before .before .place-at .result) (c .before .before .place-at .ensures) (c .before .closing-of .result) (c .before .closing-of .ensures)
+    (c .if2 .taken)
 
 sub-lengthen : tie.Need-sub-lengthen Inv-loop μ-loop
 sub-lengthen c =
     let a = c .before .before .before .before .before .before .before .before .before .before .before .before .args in
     let t = told (a .key .now) (a .font .now) (a .layout) in
-    let x = item-closes t (a .editions) (a .stream .now) (a .table .now) (a .count) (c .before .before .before .before .before .before .before .before .before .before .before .before .pre) (c .before .before .place-at .result) (c .before .closing-of .result) (c .before .closing-of .ensures) (c .if2 .left) in
+    let x = item-closes t (a .editions) (a .stream .now) (a .table .now) (a .count)
+    (c .before .before .before .before .before .before .before .before .before .before .before .before .pre) (c .before .before .place-at .result)
+    (c .before .closing-of .result) (c .before .closing-of .ensures) (c .if2 .left) in
     omega (arith, x .some)
 
 lengthen-requires : tie.Need-lengthen-requires Inv-loop μ-loop
 lengthen-requires c κs =
     let a = c .before .before .before .before .before .before .before .before .before .before .before .before .args in
     let t = told (a .key .now) (a .font .now) (a .layout) in
-    let x = item-closes t (a .editions) (a .stream .now) (a .table .now) (a .count) (c .before .before .before .before .before .before .before .before .before .before .before .before .pre) (c .before .before .place-at .result) (c .before .closing-of .result) (c .before .closing-of .ensures) (c .if2 .left) in
+    let x = item-closes t (a .editions) (a .stream .now) (a .table .now) (a .count)
+    (c .before .before .before .before .before .before .before .before .before .before .before .before .pre) (c .before .before .place-at .result)
+    (c .before .closing-of .result) (c .before .closing-of .ensures) (c .if2 .left) in
     omega (arith, x .some, x .ends, c .before .before .before .before .before .before .before .before .before .before .before .before .pre .short)
 
 add-k : tie.Need-add-k Inv-loop μ-loop
@@ -71,7 +86,12 @@ loop-less : tie.Need-loop-less Inv-loop μ-loop
 loop-less c = search needs
 
 loop-again : tie.Need-loop-again Inv-loop μ-loop
-loop-again c = going-more (c .before .before .before .before .before .before .before .loop .inv) (c .before .before .before .before .before .before .loop-test .taken) (getD (c .before .before .before .before .before .before .before .before .before .before .before .before .before .args .list .now) (c .before .before .before .before .before .before .before .loop .k) 0) refl (omega (arith, c .before .before .before .before .if1 .left)) (c .before .before .before .place-at .result) (c .before .before .before .place-at .ensures) (c .before .before .closing-of .result) (c .before .before .closing-of .ensures) (c .before .if2 .left) (c .lengthen .result) (c .lengthen .ensures)
+loop-again c = going-more (c .before .before .before .before .before .before .before .loop .inv)
+    (c .before .before .before .before .before .before .loop-test .taken)
+    (getD (c .before .before .before .before .before .before .before .before .before .before .before .before .before .args .list .now)
+    (c .before .before .before .before .before .before .before .loop .k) 0) refl (omega (arith, c .before .before .before .before .if1 .left))
+    (c .before .before .before .place-at .result) (c .before .before .before .place-at .ensures) (c .before .before .closing-of .result)
+    (c .before .before .closing-of .ensures) (c .before .if2 .left) (c .lengthen .result) (c .lengthen .ensures)
 
 returns-3 : tie.Need-returns-3 Inv-loop μ-loop
 returns-3 c = going-all (c .before .loop .inv) (omega (arith, c .loop-test .left))

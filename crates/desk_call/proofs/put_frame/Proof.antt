@@ -27,7 +27,15 @@ slice-write-out c =
     let x = c .before .before .before .pre .0 in
     let p = c .next-span .result in
     let e = c .next-span .ensures in
-    omega (arith, c .before .before .before .pre .1, frame-long s (a .place) x p e, in-order s (a .place) x p e, in-stream s (a .place) x p e, length-set (a .out .now) (a .at) mark)
+    omega (
+      arith,
+      c .before .before .before .pre .1,
+      frame-long s (a .place) x p e,
+      in-order s (a .place) x p e,
+      in-stream s (a .place) x p e,
+      length-set
+          (a .out .now) (a .at) mark,
+    )
 
 add-from : tie.Need-add-from
 add-from c = search needs
@@ -39,7 +47,15 @@ sub-copy c =
     let x = c .before .before .before .pre .0 in
     let p = c .next-span .result in
     let e = c .next-span .ensures in
-    omega (arith, c .before .before .before .pre .1, frame-long s (a .place) x p e, in-order s (a .place) x p e, in-stream s (a .place) x p e, length-set (a .out .now) (a .at) mark)
+    omega (
+      arith,
+      c .before .before .before .pre .1,
+      frame-long s (a .place) x p e,
+      in-order s (a .place) x p e,
+      in-stream s (a .place) x p e,
+      length-set
+          (a .out .now) (a .at) mark,
+    )
 
 part-copy-start : tie.Need-part-copy-start
 part-copy-start c =
@@ -48,7 +64,15 @@ part-copy-start c =
     let x = c .before .before .before .pre .0 in
     let p = c .next-span .result in
     let e = c .next-span .ensures in
-    omega (arith, c .before .before .before .pre .1, frame-long s (a .place) x p e, in-order s (a .place) x p e, in-stream s (a .place) x p e, length-set (a .out .now) (a .at) mark)
+    omega (
+      arith,
+      c .before .before .before .pre .1,
+      frame-long s (a .place) x p e,
+      in-order s (a .place) x p e,
+      in-stream s (a .place) x p e,
+      length-set
+          (a .out .now) (a .at) mark,
+    )
 
 part-copy-end : tie.Need-part-copy-end
 part-copy-end c =
@@ -57,7 +81,15 @@ part-copy-end c =
     let x = c .before .before .before .pre .0 in
     let p = c .next-span .result in
     let e = c .next-span .ensures in
-    omega (arith, c .before .before .before .pre .1, frame-long s (a .place) x p e, in-order s (a .place) x p e, in-stream s (a .place) x p e, length-set (a .out .now) (a .at) mark)
+    omega (
+      arith,
+      c .before .before .before .pre .1,
+      frame-long s (a .place) x p e,
+      in-order s (a .place) x p e,
+      in-stream s (a .place) x p e,
+      length-set
+          (a .out .now) (a .at) mark,
+    )
 
 sub-copy-2 : tie.Need-sub-copy-2
 sub-copy-2 c =
@@ -66,7 +98,14 @@ sub-copy-2 c =
     let x = c .before .before .before .before .pre .0 in
     let p = c .before .next-span .result in
     let e = c .before .next-span .ensures in
-    omega (arith, c .before .before .before .before .pre .1, frame-long s (a .place) x p e, in-order s (a .place) x p e, in-stream s (a .place) x p e, length-set (a .out .now) (a .at) mark)
+    omega (
+      arith,
+      c .before .before .before .before .pre .1,
+      frame-long s (a .place) x p e,
+      in-order s (a .place) x p e,
+      in-stream s (a .place) x p e,
+      length-set (a .out .now) (a .at) mark,
+    )
 
 part-copy-start-2 : tie.Need-part-copy-start-2
 part-copy-start-2 c =
@@ -75,7 +114,14 @@ part-copy-start-2 c =
     let x = c .before .before .before .before .pre .0 in
     let p = c .before .next-span .result in
     let e = c .before .next-span .ensures in
-    omega (arith, c .before .before .before .before .pre .1, frame-long s (a .place) x p e, in-order s (a .place) x p e, in-stream s (a .place) x p e, length-set (a .out .now) (a .at) mark)
+    omega (
+      arith,
+      c .before .before .before .before .pre .1,
+      frame-long s (a .place) x p e,
+      in-order s (a .place) x p e,
+      in-stream s (a .place) x p e,
+      length-set (a .out .now) (a .at) mark,
+    )
 
 part-copy-end-2 : tie.Need-part-copy-end-2
 part-copy-end-2 c = search needs
@@ -90,7 +136,15 @@ sub-end c =
     let x = c .before .before .before .before .before .before .before .before .pre .0 in
     let p = c .before .before .before .before .before .next-span .result in
     let e = c .before .before .before .before .before .next-span .ensures in
-    omega (arith, c .before .before .before .before .before .before .before .before .pre .1, frame-long s (a .place) x p e, in-order s (a .place) x p e, in-stream s (a .place) x p e, length-set (a .out .now) (a .at) mark)
+    omega (
+      arith,
+      c .before .before .before .before .before .before .before .before .pre .1,
+      frame-long s (a .place) x p e,
+      in-order s (a .place) x p
+          e,
+      in-stream s (a .place) x p e,
+      length-set (a .out .now) (a .at) mark,
+    )
 
 add-end : tie.Need-add-end
 add-end c =
@@ -99,7 +153,15 @@ add-end c =
     let x = c .before .before .before .before .before .before .before .before .pre .0 in
     let p = c .before .before .before .before .before .next-span .result in
     let e = c .before .before .before .before .before .next-span .ensures in
-    omega (arith, c .before .before .before .before .before .before .before .before .pre .1, frame-long s (a .place) x p e, in-order s (a .place) x p e, in-stream s (a .place) x p e, length-set (a .out .now) (a .at) mark)
+    omega (
+      arith,
+      c .before .before .before .before .before .before .before .before .pre .1,
+      frame-long s (a .place) x p e,
+      in-order s (a .place) x p
+          e,
+      in-stream s (a .place) x p e,
+      length-set (a .out .now) (a .at) mark,
+    )
 
 slice-write-out-2 : tie.Need-slice-write-out-2
 slice-write-out-2 c =
@@ -108,7 +170,15 @@ slice-write-out-2 c =
     let x = c .before .before .before .before .before .before .before .before .pre .0 in
     let p = c .before .before .before .before .before .next-span .result in
     let e = c .before .before .before .before .before .next-span .ensures in
-    omega (arith, c .before .before .before .before .before .before .before .before .pre .1, frame-long s (a .place) x p e, in-order s (a .place) x p e, in-stream s (a .place) x p e, length-set (a .out .now) (a .at) mark)
+    omega (
+      arith,
+      c .before .before .before .before .before .before .before .before .pre .1,
+      frame-long s (a .place) x p e,
+      in-order s (a .place) x p
+          e,
+      in-stream s (a .place) x p e,
+      length-set (a .out .now) (a .at) mark,
+    )
 
 add-result : tie.Need-add-result
 add-result c =
@@ -117,7 +187,15 @@ add-result c =
     let x = c .before .before .before .before .before .before .before .before .pre .0 in
     let p = c .before .before .before .before .before .next-span .result in
     let e = c .before .before .before .before .before .next-span .ensures in
-    omega (arith, c .before .before .before .before .before .before .before .before .pre .1, frame-long s (a .place) x p e, in-order s (a .place) x p e, in-stream s (a .place) x p e, length-set (a .out .now) (a .at) mark)
+    omega (
+      arith,
+      c .before .before .before .before .before .before .before .before .pre .1,
+      frame-long s (a .place) x p e,
+      in-order s (a .place) x p
+          e,
+      in-stream s (a .place) x p e,
+      length-set (a .out .now) (a .at) mark,
+    )
 
 same-length : tie.Need-same-length
 same-length c =
@@ -127,7 +205,8 @@ same-length c =
     let p = c .before .before .before .before .before .next-span .result in
     let e = c .before .before .before .before .before .next-span .ensures in
     let h = c .before .before .before .before .before .before .before .before .pre .1 in
-    ap length (frame-put s (a .place) x p e (a .out .now) (a .at) h _ (c .before .before .copy .ensures)) ∙ length-sets (a .out .now) (a .at) (frameAt s (a .place))
+    ap length (frame-put s (a .place) x p e (a .out .now) (a .at) h _ (c .before .before .copy .ensures)) ∙ length-sets (a .out .now) (a .at)
+    (frameAt s (a .place))
 
 returns : tie.Need-returns
 returns c =
@@ -136,8 +215,11 @@ returns c =
     let x = c .before .before .before .before .before .before .before .before .pre .0 in
     let p = c .before .before .before .before .before .next-span .result in
     let e = c .before .before .before .before .before .next-span .ensures in
-    let h = c .before .before .before .before .before .before .before .before .pre .1 in
-    (omega (arith, frame-long s (a .place) x p e, in-order s (a .place) x p e, in-stream s (a .place) x p e, length-set (a .out .now) (a .at) mark), frame-put s (a .place) x p e (a .out .now) (a .at) h _ (c .before .before .copy .ensures))
+    let h = c .before .before .before .before .before .before .before .before .pre .1 in (
+      omega (arith, frame-long s (a .place) x p e, in-order s (a .place) x p e, in-stream s (a .place) x p e, length-set (a .out .now) (a .at) mark),
+      frame-put
+          s (a .place) x p e (a .out .now) (a .at) h _ (c .before .before .copy .ensures),
+    )
 
 pub put-frame-spec : {M : Type 1} → statement M
 put-frame-spec =

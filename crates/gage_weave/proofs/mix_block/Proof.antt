@@ -26,7 +26,8 @@ unfolding mixed
 returns c =
     let t = c .before .before .before .before .before .args .t in
     let weave = c .before .before .before .weave .ensures in
-    same-states (c .before .before .xor-planes .ensures ∙ ap (λ (w : State). xorPlanes (w .low) (t .low)) weave) (ap (λ (w : State). bitXor (w .rest) (t .rest)) weave)
+    same-states (c .before .before .xor-planes .ensures ∙ ap (λ (w : State). xorPlanes (w .low) (t .low)) weave)
+    (ap (λ (w : State). bitXor (w .rest) (t .rest)) weave)
 
 pub mix-block-spec : {M : Type 1} → statement M
 mix-block-spec = tie.close (tie.spec weave-requires xor-planes-requires returns)

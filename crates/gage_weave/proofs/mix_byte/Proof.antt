@@ -50,8 +50,10 @@ returns c =
     let p = start .args .t .low in
     same-states
     (same-planes
-    (ap (λ (d : ℕ). bitXor d (p .a)) (c .before .before .before .before .before .before .before .before .before .before .before .before .before .before .before .digit .ensures))
-    (ap (λ (d : ℕ). bitXor d (p .b)) (c .before .before .before .before .before .before .before .before .before .before .before .before .before .digit2 .ensures))
+    (ap (λ (d : ℕ). bitXor d (p .a)) (c .before .before .before .before .before .before .before .before .before .before .before .before .before .before .before
+    .digit .ensures))
+    (ap (λ (d : ℕ). bitXor d (p .b)) (c .before .before .before .before .before .before .before .before .before .before .before .before .before .digit2
+    .ensures))
     (ap (λ (d : ℕ). bitXor d (p .c)) (c .before .before .before .before .before .before .before .before .before .before .before .digit3 .ensures))
     (ap (λ (d : ℕ). bitXor d (p .d)) (c .before .before .before .before .before .before .before .before .before .digit4 .ensures))
     (ap (λ (d : ℕ). bitXor d (p .e)) (c .before .before .before .before .before .before .before .digit5 .ensures))

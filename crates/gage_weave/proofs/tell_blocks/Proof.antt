@@ -80,8 +80,10 @@ loop-again c =
     let x = c .before .before .before .woven .ensures ∙ ap woven (c .before .before .before .before .eight .ensures) in
     let put = c .before .before .put .ensures in
     let fits : at .i + 8 ≤ length (start .args .out .now) = omega (arith, least, test) in
-    let more = told-more (start .args .t) (start .args .out .now) (at .out) _ (at .i) (at .i + 8) _ (at .inv .0) (omega arith) (omega (arith, least, test)) (omega arith) fits x put (at .inv .3) in
-    let long = more-long (start .args .t) (start .args .out .now) (at .out) _ (at .i) (at .i + 8) _ (at .inv .0) (omega arith) (omega (arith, least, test)) (omega arith) fits x put (at .inv .3) in
+    let more = told-more (start .args .t) (start .args .out .now) (at .out) _ (at .i) (at .i + 8) _ (at .inv .0) (omega arith) (omega (arith, least, test))
+    (omega arith) fits x put (at .inv .3) in
+    let long = more-long (start .args .t) (start .args .out .now) (at .out) _ (at .i) (at .i + 8) _ (at .inv .0) (omega arith) (omega (arith, least, test))
+    (omega arith) fits x put (at .inv .3) in
     (search needs, search needs, long, more)
 
 -- src/lib.rt:221:9
@@ -118,7 +120,8 @@ same-length c =
     let n = c .before .before .before .before .before .before .before .before .least .result in
     let x = c .before .before .before .woven2 .ensures ∙ ap woven (c .before .before .before .before .eight2 .ensures) in
     let fits : n ≤ length (start .args .out .now) = omega (arith, least) in
-    more-long (start .args .t) (start .args .out .now) (at .out) _ (at .i) n _ (at .inv .0) (at .inv .1) (omega (arith, least)) (omega (arith, test)) fits x (c .before .before .put2 .ensures) (at .inv .3)
+    more-long (start .args .t) (start .args .out .now) (at .out) _ (at .i) n _ (at .inv .0) (at .inv .1) (omega (arith, least)) (omega (arith, test)) fits x
+    (c .before .before .put2 .ensures) (at .inv .3)
 
 -- src/lib.rt:211:1
 returns : tie.Need-returns Inv-loop μ-loop
@@ -130,7 +133,8 @@ returns c =
     let n = c .before .before .before .before .before .before .before .before .least .result in
     let x = c .before .before .before .woven2 .ensures ∙ ap woven (c .before .before .before .before .eight2 .ensures) in
     let fits : n ≤ length (start .args .out .now) = omega (arith, least) in
-    told-more (start .args .t) (start .args .out .now) (at .out) _ (at .i) n _ (at .inv .0) (at .inv .1) (omega (arith, least)) (omega (arith, test)) fits x (c .before .before .put2 .ensures) (at .inv .3)
+    told-more (start .args .t) (start .args .out .now) (at .out) _ (at .i) n _ (at .inv .0) (at .inv .1) (omega (arith, least)) (omega (arith, test)) fits x
+    (c .before .before .put2 .ensures) (at .inv .3)
     ∙ ap (λ (k : ℕ). over (told k (start .args .t)) (start .args .out .now)) least
 
 pub tell-blocks-spec : {M : Type 1} → statement M

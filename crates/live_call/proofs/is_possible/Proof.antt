@@ -12,10 +12,12 @@ returns-2 : tie.Need-returns-2
 returns-2 c = none-some (c .before .before .before .before .args .n) (c .before .before .if1 .taken) (c .if2 .left)
 
 returns-3 : tie.Need-returns-3
-returns-3 c = one-order (c .before .before .before .before .before .before .before .args .n) (c .before .before .before .before .before .if1 .left) (c .before .before .before .if3 .taken) (c .before .if4 .taken)
+returns-3 c = one-order (c .before .before .before .before .before .before .before .args .n) (c .before .before .before .before .before .if1 .left)
+    (c .before .before .before .if3 .taken) (c .before .if4 .taken)
 
 returns-4 : tie.Need-returns-4
-returns-4 c = one-other (c .before .before .before .before .before .before .args .n) (c .before .before .before .before .if1 .left) (c .before .before .if3 .taken) (c .if4 .left)
+returns-4 c = one-other (c .before .before .before .before .before .before .args .n) (c .before .before .before .before .if1 .left)
+    (c .before .before .if3 .taken) (c .if4 .left)
 
 returns-5 : tie.Need-returns-5
 returns-5 c = neither (c .before .before .before .before .args .n) (c .before .before .if1 .left) (c .if3 .left)

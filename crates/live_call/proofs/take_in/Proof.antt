@@ -31,10 +31,12 @@ add-t13 : tie.Need-add-t13 Inv-loop μ-loop
 add-t13 c = search needs
 
 same-length : tie.Need-same-length Inv-loop μ-loop
-same-length c = c .before .before .before .before .before .before .loop .inv .room ∙ sym (c .before .before .before .before .before .before .before .before .before .pre .0)
+same-length c = c .before .before .before .before .before .before .loop .inv .room ∙ sym
+    (c .before .before .before .before .before .before .before .before .before .pre .0)
 
 returns : tie.Need-returns Inv-loop μ-loop
-returns c = going-closed (c .before .before .before .before .before .before .loop .inv) (c .before .before .before .before .before .loop-test .taken) (c .before .before .before .if1 .taken) (sym (c .before .before .closes-here .ensures) ∙ c .before .if2 .taken) _ (c .behind-mark .ensures)
+returns c = going-closed (c .before .before .before .before .before .before .loop .inv) (c .before .before .before .before .before .loop-test .taken)
+    (c .before .before .before .if1 .taken) (sym (c .before .before .closes-here .ensures) ∙ c .before .if2 .taken) _ (c .behind-mark .ensures)
 
 behind-mark-requires-2 : tie.Need-behind-mark-requires-2 Inv-loop μ-loop
 behind-mark-requires-2 c κs = going-few (c .before .before .before .before .before .loop .inv) (c .before .before .before .before .loop-test .taken)
@@ -46,13 +48,15 @@ loop-less : tie.Need-loop-less Inv-loop μ-loop
 loop-less c = search needs
 
 loop-again : tie.Need-loop-again Inv-loop μ-loop
-loop-again c = going-mark (c .before .before .before .before .before .before .loop .inv) (c .before .before .before .before .before .loop-test .taken) (c .before .before .before .if1 .taken) (sym (c .before .before .closes-here .ensures) ∙ c .before .if2 .left) _ (c .behind-mark2 .ensures)
+loop-again c = going-mark (c .before .before .before .before .before .before .loop .inv) (c .before .before .before .before .before .loop-test .taken)
+    (c .before .before .before .if1 .taken) (sym (c .before .before .closes-here .ensures) ∙ c .before .if2 .left) _ (c .behind-mark2 .ensures)
 
 keep-requires : tie.Need-keep-requires Inv-loop μ-loop
 keep-requires c κs = (c .before .before .before .before .loop .inv .room, c .before .before .before .before .loop .inv .order-is)
 
 behind-byte-requires : tie.Need-behind-byte-requires Inv-loop μ-loop
-behind-byte-requires c κs = going-few (c .before .before .before .before .before .before .before .loop .inv) (c .before .before .before .before .before .before .loop-test .taken)
+behind-byte-requires c κs = going-few (c .before .before .before .before .before .before .before .loop .inv)
+    (c .before .before .before .before .before .before .loop-test .taken)
 
 add-i-2 : tie.Need-add-i-2 Inv-loop μ-loop
 add-i-2 c = search needs
@@ -61,7 +65,9 @@ loop-less-2 : tie.Need-loop-less-2 Inv-loop μ-loop
 loop-less-2 c = search needs
 
 loop-again-2 : tie.Need-loop-again-2 Inv-loop μ-loop
-loop-again-2 c = going-byte (c .before .before .before .before .before .before .before .before .loop .inv) (c .before .before .before .before .before .before .before .loop-test .taken) (c .before .before .before .before .before .if1 .left) _ (c .behind-byte .ensures) _ (c .before .before .before .keep .ensures)
+loop-again-2 c = going-byte (c .before .before .before .before .before .before .before .before .loop .inv)
+    (c .before .before .before .before .before .before .before .loop-test .taken) (c .before .before .before .before .before .if1 .left) _
+    (c .behind-byte .ensures) _ (c .before .before .before .keep .ensures)
 
 same-length-2 : tie.Need-same-length-2 Inv-loop μ-loop
 same-length-2 c = c .before .loop .inv .room ∙ sym (c .before .before .before .before .pre .0)

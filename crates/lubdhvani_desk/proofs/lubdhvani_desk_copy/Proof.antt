@@ -30,8 +30,10 @@ returns c =
     let l = c .before .before .before .before .before .before .layout-of .ensures in
     let d = c .before .before .before .before .desk .ensures in (
       c .reworked-of .ensures ∙ ap reportOut (c .before .desk-report .ensures) ∙ ap reworkedOut (d .0)
-          ∙ ap (λ (x : Layout). reworkedOut (deskCall (told (a .key .now) (a .font .now) x) (a .editions) (a .stream .now) (a .table .now) (a .count) (a .list .now) (a .out .now))) l,
-      d .1 ∙ ap (λ (x : Layout). deskOut (told (a .key .now) (a .font .now) x) (a .editions) (a .stream .now) (a .table .now) (a .count) (a .list .now) (a .out .now)) l,
+          ∙ ap (λ (x : Layout). reworkedOut (deskCall (told (a .key .now) (a .font .now) x) (a .editions) (a .stream .now) (a .table .now) (a .count)
+          (a .list .now) (a .out .now))) l,
+      d .1 ∙ ap (λ (x : Layout). deskOut (told (a .key .now) (a .font .now) x) (a .editions) (a .stream .now) (a .table .now) (a .count) (a .list .now)
+          (a .out .now)) l,
     )
 
 pub lubdhvani-desk-copy-spec : {M : Type 1} → statement M

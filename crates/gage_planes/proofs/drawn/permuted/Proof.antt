@@ -118,8 +118,15 @@ array-read-four-4 c = search needs
 four-requires : tie.Need-four-requires Inv-loop μ-loop Inv-loop2 μ-loop2
 four-requires c κs =
     let t = c .before .before .before .before .before .before .before .before .before .before .table .ensures in
-    let i = c .before .before .before .loop .i in
-    (refl, refl, leader-at t i (search needs) .1, leader-at t (i + 1) (search needs) .1, leader-at t (i + 2) (search needs) .1, leader-at t (i + 3) (search needs) .1)
+    let i = c .before .before .before .loop .i in (
+      refl,
+      refl,
+      leader-at t i (search needs) .1,
+      leader-at t (i + 1) (search needs) .1,
+      leader-at t (i + 2) (search needs) .1,
+      leader-at t (i + 3)
+          (search needs) .1,
+    )
 
 -- src/drawn.rt:117:9
 doubled-requires-2 : tie.Need-doubled-requires-2 Inv-loop μ-loop Inv-loop2 μ-loop2
@@ -143,8 +150,13 @@ loop-again c =
     let i = c .before .before .before .before .before .loop .i in (
       search needs,
       search needs,
-      onward-four (at .args .n) _ _ _ (search needs) (begun .before .before .before .before .before .starts .ensures) (begun .before .before .before .before .ones .ensures)
-          (room .some) (room .twice) (room .fits) _ _ _ _ i (omega (arith, room .all (begun .before .before .grouped .ensures .1 (omega (arith, c .before .before .before .before .loop-test .taken)))))
+      onward-four (at .args .n) _ _ _ (search needs) (begun .before .before .before .before .before .starts .ensures)
+          (begun .before .before .before .before .ones .ensures)
+          (room .some) (room .twice) (room .fits) _ _ _ _ i (omega (
+            arith,
+            room .all (begun .before .before .grouped .ensures .1
+                (omega (arith, c .before .before .before .before .loop-test .taken))),
+          ))
           (c .before .before .before .before .before .loop .inv .0) (search needs)
           (leader-at t i (search needs)) (leader-at t (i + 1) (search needs)) (leader-at t (i + 2) (search needs)) (leader-at t (i + 3) (search needs))
           refl (c .before .four .ensures) (c .doubled2 .ensures) (c .before .before .before .before .before .loop .inv .2),
@@ -191,7 +203,11 @@ doubled-requires-3 c κs = search needs
 
 -- src/drawn.rt:123:9
 add-i-2 : tie.Need-add-i-2 Inv-loop μ-loop Inv-loop2 μ-loop2
-add-i-2 c = omega (arith, c .before .before .before .before .loop2-test .taken, c .before .before .before .before .before .before .before .before .before .before .before .before .before .before .before .pre .3)
+add-i-2 c = omega (
+  arith,
+  c .before .before .before .before .loop2-test .taken,
+  c .before .before .before .before .before .before .before .before .before .before .before .before .before .before .before .pre .3,
+)
 
 -- src/drawn.rt:120:5
 loop2-less : tie.Need-loop2-less Inv-loop μ-loop Inv-loop2 μ-loop2
@@ -207,7 +223,8 @@ loop2-again c =
     let i = c .before .before .before .before .before .loop2 .i in (
       search needs,
       search needs,
-      onward-pair (at .args .n) _ _ _ (search needs) (begun .before .before .before .before .before .starts .ensures) (begun .before .before .before .before .ones .ensures)
+      onward-pair (at .args .n) _ _ _ (search needs) (begun .before .before .before .before .before .starts .ensures)
+          (begun .before .before .before .before .ones .ensures)
           (room .some) (room .twice) (room .fits) _ _ i (c .before .before .before .before .before .loop2 .inv .0) (search needs)
           (leader-at t i (search needs)) (leader-at t (i + 1) (search needs))
           (c .before .pair .ensures) (c .doubled3 .ensures) (c .before .before .before .before .before .loop2 .inv .2),
@@ -241,9 +258,14 @@ returns c =
     let room = begun .before .before .before .room .ensures in
     let starts = begun .before .before .before .before .before .starts .ensures in
     let i = c .before .before .before .before .before .loop2 .i in
-    let first = kept-first (at .args .n) _ (search needs) starts (7 * begun .before .before .before .room .result) _ _ (leader-at t 0 (omega arith) .0) (leader-at t 0 (omega arith) .1) (begun .before .before .before .before .ones .ensures) (room .twice) (room .fits) in
-    let held = c .before .before .before .before .before .loop2 .inv .2 .from (at .args .p) (c .before .before .before .before .before .before .before .loop .inv .2 .from (at .args .p) (rw (begun .substituted .ensures, begun .before .doubled .ensures) first)) in
-    let last = kept-turn (at .args .n) _ (search needs) starts (begun .before .before .before .room .result) _ i (omega (arith, room .some)) (room .twice) (room .fits) (c .before .before .before .before .before .loop2 .inv .0) (search needs) (leader-at t i (search needs) .0) (leader-at t i (search needs) .1) held in
+    let first = kept-first (at .args .n) _ (search needs) starts (7 * begun .before .before .before .room .result) _ _ (leader-at t 0 (omega arith) .0)
+    (leader-at t 0 (omega arith) .1) (begun .before .before .before .before .ones .ensures) (room .twice) (room .fits) in
+    let held = c .before .before .before .before .before .loop2 .inv .2 .from (at .args .p)
+    (c .before .before .before .before .before .before .before .loop .inv .2 .from (at .args .p)
+    (rw (begun .substituted .ensures, begun .before .doubled .ensures) first)) in
+    let last = kept-turn (at .args .n) _ (search needs) starts (begun .before .before .before .room .result) _ i (omega (arith, room .some)) (room .twice)
+    (room .fits) (c .before .before .before .before .before .loop2 .inv .0) (search needs) (leader-at t i (search needs) .0)
+    (leader-at t i (search needs) .1) held in
     kept-all (i + 1) (at .args .k) (rw (← (c .turn .ensures)) at last) (search needs) (search needs)
 
 -- src/drawn.rt:92:1
@@ -255,8 +277,10 @@ returns-2 c =
     let room = begun .before .before .before .room .ensures in
     let starts = begun .before .before .before .before .before .starts .ensures in
     let i = c .before .before .loop2 .i in
-    let first = kept-first (at .args .n) _ (search needs) starts (7 * begun .before .before .before .room .result) _ _ (leader-at t 0 (omega arith) .0) (leader-at t 0 (omega arith) .1) (begun .before .before .before .before .ones .ensures) (room .twice) (room .fits) in
-    let held = c .before .before .loop2 .inv .2 .from (at .args .p) (c .before .before .before .before .loop .inv .2 .from (at .args .p) (rw (begun .substituted .ensures, begun .before .doubled .ensures) first)) in
+    let first = kept-first (at .args .n) _ (search needs) starts (7 * begun .before .before .before .room .result) _ _ (leader-at t 0 (omega arith) .0)
+    (leader-at t 0 (omega arith) .1) (begun .before .before .before .before .ones .ensures) (room .twice) (room .fits) in
+    let held = c .before .before .loop2 .inv .2 .from (at .args .p) (c .before .before .before .before .loop .inv .2 .from (at .args .p)
+    (rw (begun .substituted .ensures, begun .before .doubled .ensures) first)) in
     kept-all i (at .args .k) held (search needs) (search needs)
 
 pub permuted-spec : {M : Type 1} → statement M
