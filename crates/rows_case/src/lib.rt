@@ -23,7 +23,7 @@ pub const LONGEST_FONT: usize = 33;
 const NUMBER: usize = 4;
 
 // The longest name that a row begins with, and the most bytes that a cell shows.
-const LONGEST_NAME: usize = 64;
+pub const LONGEST_NAME: usize = 64;
 
 const MOST_SHOWN: usize = 4096;
 

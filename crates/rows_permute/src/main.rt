@@ -1,6 +1,6 @@
 // Prints the rows that the second program makes of its own permutation (tests/second, src/rows/permute.rs): whether the formula gives the table's
-// products, every permitted size at a few counts of rounds over three states, forwards and backwards, the first round byte by byte beside it, and what is
-// refused.
+// products, every permitted size at a few counts of rounds over three states, forwards and backwards, the first round byte by byte beside it, and what
+// is refused.
 use gage_spec::LARGEST;
 use gage_spec::ROUNDS;
 use rows_case::cell;

@@ -8,16 +8,15 @@ use read_numbers::Report;
 use read_numbers::numbers;
 use read_walk::Step;
 use rows_case::LONGEST_CASE;
+use rows_case::LONGEST_NAME;
 use rows_case::MOST_CASES;
 use rows_case::cell;
 use rows_case::number_in;
 use rows_case::part;
 use rows_case::say;
 
-// The head of a case has so many bytes; and the longest name and line buffer that a case has.
+// The head of a case has so many bytes; and the longest line buffer that a case has.
 const HEAD: usize = 48;
-
-const LONGEST_NAME: usize = 64;
 
 const LONGEST_LINE: usize = 255;
 
