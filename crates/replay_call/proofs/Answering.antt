@@ -1,16 +1,19 @@
 -- What the two calls answer and leave: refused, or by the run of the events. Assumes nothing.
 use mathlib.Core.Path.{_≡_, refl, sym, ap, _∙_}
-use mathlib.Core.Bool.{Bool, true, false, cond}
+use mathlib.Core.Bool.{Bool, true, false, not, cond}
 use mathlib.Core.List.{List}
 use Prim.Native.Nat.{ℕ, zero, suc, _-_, _≤_, _<_}
 use native.Mathlib.Omega.{arith}
+use lib.Dec.{ltb}
 use lib.ListN.{length, take, drop}
 use lib.Seq.{take-all, length-take-le}
-use borrow.Author.Tests.{lt-ltb, le-ltb}
+use borrow.Author.Tests.{le-ltb, ltb-false}
+use Rattle.base_lists.specs.Never.{never}
 use Rattle.base_lists.specs.Buffers.{over}
 use Rattle.frame_spec.specs.Told.{Told}
 use Rattle.read_call.specs.Answers.{longestStream, sizedTold}
 use Rattle.replay_spec.specs.declared.Event.{Event}
+use Rattle.replay_spec.specs.declared.Answer.{Answer}
 use Rattle.replay_spec.specs.declared.Answer.the-variants.{Done, Sizes, NoRoom}
 use Rattle.replay_spec.specs.Events.{eventsIn, events}
 use Rattle.replay_spec.specs.Press.{Press, start, isDone, run}
@@ -18,17 +21,38 @@ use Rattle.replay_spec.specs.Runs.{events-few}
 use Rattle.replay_spec.specs.Answers.{judging, replayed, replayedTo, replayedAs, answerOf, replayAnswer}
 use Rattle.replay_spec.specs.Answers.{replayOut, noneStood, stoodOf, stoodAt, stoodAnswer, stoodOut}
 use Rattle.replay_call.specs.declared.State.{State}
-use Rattle.replay_call.specs.Holding.{held, Ran, stoodNext}
+use Rattle.replay_call.specs.Holding.{refusalOf, held, Ran, stoodNext}
 use Rattle.replay_call.proofs.Standing.{next-stood}
 
 module _ (t : Told) (ed : ℕ) (trace o : List ℕ) where
-  pub replay-unsized : sizedTold t ≡ false → (replayedAs Sizes 0 0 ≡ replayAnswer t ed trace o) × (o ≡ replayOut t ed trace o)
-  unfolding replayAnswer replayOut
-  replay-unsized z = (rw z, rw z)
+  -- what refuses the call before any event
+  abbrev first : Answer
+  first = refusalOf (length (t .key)) (length (t .font)) (length o)
 
-  pub replay-small : sizedTold t ≡ true → length o < longestStream → (replayedAs NoRoom 0 0 ≡ replayAnswer t ed trace o) × (o ≡ replayOut t ed trace o)
+  first-is : first ≡ cond (not (sizedTold t)) Sizes (cond (ltb (length o) longestStream) NoRoom Done)
+  unfolding refusalOf sizedTold
+  first-is = refl
+
+  -- nothing does: the sizes are right, and there is room
+  pub not-refused : isDone first ≡ true → (longestStream ≤ length o) × (sizedTold t ≡ true)
+  not-refused d = go (sizedTold t) refl (ltb (length o) longestStream) refl (ap isDone (sym first-is) ∙ d)
+    where
+      go : (x : Bool) → sizedTold t ≡ x → (y : Bool) → ltb (length o) longestStream ≡ y → isDone (cond (not x) Sizes (cond y NoRoom Done)) ≡ true
+          → (longestStream ≤ length o) × (sizedTold t ≡ true)
+      go false e y f n = never n
+      go true e true f n = never n
+      go true e false f n = (ltb-false (length o) longestStream f, e)
+
+  pub replay-refused : isDone first ≡ false → (replayedAs first 0 0 ≡ replayAnswer t ed trace o) × (o ≡ replayOut t ed trace o)
   unfolding replayAnswer replayOut
-  replay-small z h = (rw (z, lt-ltb (length o) longestStream h), rw (z, lt-ltb (length o) longestStream h))
+  replay-refused d = rw first-is (go (sizedTold t) (ltb (length o) longestStream) (ap isDone (sym first-is) ∙ d))
+    where
+      go : (x y : Bool) → isDone (cond (not x) Sizes (cond y NoRoom Done)) ≡ false
+          → (replayedAs (cond (not x) Sizes (cond y NoRoom Done)) 0 0 ≡ cond (not x) (replayedAs Sizes 0 0) (cond y (replayedAs NoRoom 0 0) (answerOf (replayed t ed trace))))
+          × (o ≡ cond (not x) o (cond y o (over (replayed t ed trace .stream) o)))
+      go false y n = (refl, refl)
+      go true true n = (refl, refl)
+      go true false n = never (sym n)
 
   all : take (length trace) (events trace) ≡ events trace
   unfolding events
@@ -68,13 +92,16 @@ module _ (t : Told) (ed : ℕ) (trace o : List ℕ) where
       )
 
   module _ (n : ℕ) where
-    pub stood-unsized : sizedTold t ≡ false → (noneStood Sizes 0 ≡ stoodAnswer t ed trace n o) × (o ≡ stoodOut t ed trace n o)
+    pub stood-refused : isDone first ≡ false → (noneStood first 0 ≡ stoodAnswer t ed trace n o) × (o ≡ stoodOut t ed trace n o)
     unfolding stoodAnswer stoodOut
-    stood-unsized z = (rw z, rw z)
-
-    pub stood-small : sizedTold t ≡ true → length o < longestStream → (noneStood NoRoom 0 ≡ stoodAnswer t ed trace n o) × (o ≡ stoodOut t ed trace n o)
-    unfolding stoodAnswer stoodOut
-    stood-small z h = (rw (z, lt-ltb (length o) longestStream h), rw (z, lt-ltb (length o) longestStream h))
+    stood-refused d = rw first-is (go (sizedTold t) (ltb (length o) longestStream) (ap isDone (sym first-is) ∙ d))
+      where
+        go : (x y : Bool) → isDone (cond (not x) Sizes (cond y NoRoom Done)) ≡ false
+            → (noneStood (cond (not x) Sizes (cond y NoRoom Done)) 0 ≡ cond (not x) (noneStood Sizes 0) (cond y (noneStood NoRoom 0) (stoodAt n t ed trace)))
+            × (o ≡ cond (not x) o (cond y o (over (replayedTo (n - 1) t ed trace .stream) o)))
+        go false y q = (refl, refl)
+        go true true q = (refl, refl)
+        go true false q = never (sym q)
 
     module _ (z : sizedTold t ≡ true) (h : longestStream ≤ length o) where
       pub stood-zero : n ≡ 0 → (noneStood Done 0 ≡ stoodAnswer t ed trace n o) × (o ≡ stoodOut t ed trace n o)

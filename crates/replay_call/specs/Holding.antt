@@ -8,17 +8,29 @@ use lib.Dec.{eqb, ltb}
 use lib.ListN.{length, take, drop}
 use Rattle.base_lists.specs.Buffers.{over, same}
 use Rattle.read_spec.specs.Judged.{Judged}
+use Rattle.frame_body.specs.Fields.{digestLength}
+use Rattle.frame_spec.specs.Told.{keyLength}
 use Rattle.read_call.specs.Answers.{longestStream}
 use Rattle.replay_spec.specs.declared.Kind.{Kind}
 use Rattle.replay_spec.specs.declared.Kind.the-variants.{Received, Asked, Printed, Bad}
 use Rattle.replay_spec.specs.declared.Event.{Event}
 use Rattle.replay_spec.specs.declared.Answer.{Answer}
-use Rattle.replay_spec.specs.declared.Answer.the-variants.{Done, NoLine}
+use Rattle.replay_spec.specs.declared.Answer.the-variants.{Done, Sizes, NoRoom, NoLine}
 use Rattle.replay_spec.specs.declared.Stood.{Stood}
 use Rattle.replay_spec.specs.Events.{eventAt, eventsIn, events}
 use Rattle.replay_spec.specs.Press.{Given, nothing, gives, Press, press, start, isDone, firstOf, run}
 use Rattle.replay_spec.specs.Answers.{zeros, noneStood}
 use Rattle.replay_call.specs.declared.State.{State}
+
+-- what refuses a call before any event, by the lengths of key, font digest and buffer: 2, then 4
+abbrev pub areSized : ℕ → ℕ → Bool
+areSized key font = cond (eqb key keyLength) (eqb font digestLength) false
+
+unfoldable pub refusalOf : ℕ → ℕ → ℕ → Answer
+refusalOf key font room =
+    cond (not (areSized key font)) Sizes
+    (cond (ltb room longestStream) NoRoom
+    Done)
 
 abbrev pub heldGiven : Bool → List ℕ → Given
 heldGiven true l = gives l

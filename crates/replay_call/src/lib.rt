@@ -10,7 +10,7 @@ ghost use Rattle.read_call.specs.Answers.{longestStream, sizedTold};
 ghost use Rattle.replay_spec.specs.Events.{eventAt};
 ghost use Rattle.replay_spec.specs.Press.{receive, ask, step, isDone};
 ghost use Rattle.replay_spec.specs.Answers.{judging, replayedAs, replayAnswer, replayOut, noneStood, stoodAnswer, stoodOut, replayNumber};
-ghost use Rattle.replay_call.specs.Holding.{held, begun, failed, printedBy, Sound, Kept, Ran, stoodNext};
+ghost use Rattle.replay_call.specs.Holding.{areSized, refusalOf, held, begun, failed, printedBy, Sound, Kept, Ran, stoodNext};
 use frame_body::DIGEST_LENGTH;
 use frame_body::LONGEST_LINE;
 use frame_spec::KEY_LENGTH;
@@ -203,6 +203,31 @@ fn run(
     s
 }
 
+// Whether key and font digest have their sizes.
+fn are_sized(key: usize, font: usize) -> bool
+    ensures { λ r. ⌜ r ≡ areSized key font ⌝ }
+{
+    if key != KEY_LENGTH {
+        return false;
+    }
+    font == DIGEST_LENGTH
+}
+
+// What refuses a call before any event: 2 for the sizes of key and font digest, then 4 for a buffer with too little room for a stream.
+fn refusal(key: usize, font: usize, room: usize) -> Answer
+    ensures { λ r. ⌜ r ≡ refusalOf key font room ⌝ }
+{
+    let sized = are_sized(key, font);
+    let small = room < LONGEST_STREAM;
+    if !sized {
+        return Answer::Sizes;
+    }
+    if small {
+        return Answer::NoRoom;
+    }
+    Answer::Done
+}
+
 // The call is refused.
 fn refused(answer: Answer) -> Replayed
     ensures { λ r. ⌜ r ≡ replayedAs answer 0 0 ⌝ }
@@ -227,14 +252,9 @@ pub fn replay(
     ensures { λ r. ⌜ r ≡ replayAnswer (told (now (key .entry)) (now (font .entry)) layout) editions (now (trace .entry)) (now (buf .entry)) ⌝ }
     ensures { λ _. ⌜ now (buf .exit) ≡ replayOut (told (now (key .entry)) (now (font .entry)) layout) editions (now (trace .entry)) (now (buf .entry)) ⌝ }
 {
-    if key.len() != KEY_LENGTH {
-        return refused(Answer::Sizes);
-    }
-    if font.len() != DIGEST_LENGTH {
-        return refused(Answer::Sizes);
-    }
-    if buf.len() < LONGEST_STREAM {
-        return refused(Answer::NoRoom);
+    let first = refusal(key.len(), font.len(), buf.len());
+    if !is_done(first) {
+        return refused(first);
     }
     let s = run(trace, trace.len(), key, font, editions, layout, buf);
     let answer = s.answer;
@@ -316,14 +336,9 @@ pub fn stood(
     ensures { λ r. ⌜ r ≡ stoodAnswer (told (now (key .entry)) (now (font .entry)) layout) editions (now (trace .entry)) event (now (buf .entry)) ⌝ }
     ensures { λ _. ⌜ now (buf .exit) ≡ stoodOut (told (now (key .entry)) (now (font .entry)) layout) editions (now (trace .entry)) event (now (buf .entry)) ⌝ }
 {
-    if key.len() != KEY_LENGTH {
-        return none_stood(Answer::Sizes, 0);
-    }
-    if font.len() != DIGEST_LENGTH {
-        return none_stood(Answer::Sizes, 0);
-    }
-    if buf.len() < LONGEST_STREAM {
-        return none_stood(Answer::NoRoom, 0);
+    let first = refusal(key.len(), font.len(), buf.len());
+    if !is_done(first) {
+        return none_stood(first, 0);
     }
     if event == 0 {
         return none_stood(Answer::Done, 0);
