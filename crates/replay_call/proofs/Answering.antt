@@ -2,24 +2,22 @@
 use mathlib.Core.Path.{_≡_, refl, sym, ap, _∙_}
 use mathlib.Core.Bool.{Bool, true, false, not, cond}
 use mathlib.Core.List.{List}
-use Prim.Native.Nat.{ℕ, zero, suc, _-_, _≤_, _<_}
+use Prim.Native.Nat.{ℕ, suc, _-_, _≤_}
 use native.Mathlib.Omega.{arith}
 use lib.Dec.{ltb}
-use lib.ListN.{length, take, drop}
+use lib.ListN.{length, take}
 use lib.Seq.{take-all, length-take-le}
 use borrow.Author.Tests.{le-ltb, ltb-false}
 use Rattle.base_lists.specs.Never.{never}
 use Rattle.base_lists.specs.Buffers.{over}
 use Rattle.frame_spec.specs.Told.{Told}
 use Rattle.read_call.specs.Answers.{longestStream, sizedTold}
-use Rattle.replay_spec.specs.declared.Event.{Event}
 use Rattle.replay_spec.specs.declared.Answer.{Answer}
 use Rattle.replay_spec.specs.declared.Answer.the-variants.{Done, Sizes, NoRoom}
-use Rattle.replay_spec.specs.Events.{eventsIn, events}
-use Rattle.replay_spec.specs.Press.{Press, start, isDone, run}
+use Rattle.replay_spec.specs.Events.{events}
+use Rattle.replay_spec.specs.Press.{start, isDone, run}
 use Rattle.replay_spec.specs.Runs.{events-few}
-use Rattle.replay_spec.specs.Answers.{judging, replayed, replayedTo, replayedAs, answerOf, replayAnswer}
-use Rattle.replay_spec.specs.Answers.{replayOut, noneStood, stoodOf, stoodAt, stoodAnswer, stoodOut}
+use Rattle.replay_spec.specs.Answers.{judging, replayed, replayedTo, replayedAs, answerOf, replayAnswer, replayOut, noneStood, stoodAt, stoodAnswer, stoodOut}
 use Rattle.replay_call.specs.declared.State.{State}
 use Rattle.replay_call.specs.Holding.{refusalOf, held, Ran, stoodNext}
 use Rattle.replay_call.proofs.Standing.{next-stood}
@@ -75,21 +73,11 @@ module _ (t : Told) (ed : ℕ) (trace o : List ℕ) where
       unfolding replayAnswer
       said = ap answerOf is ∙ rw (z, le-ltb (length o) longestStream h)
 
-      pub replay-done : isDone (c .answer) ≡ true → (replayedAs (c .answer) (c .differs) (c .received) ≡ replayAnswer t ed trace o)
-          × (b ≡ replayOut t ed trace o)
-      replay-done d = (
-        ap (replayedAs (c .answer) (c .differs)) streamed ∙ (let e : replayedAs (c .answer) (c .differs) (length (take (c .received) b))
-            ≡ answerOf (held c b) = rw d in e) ∙ said,
-        out,
-      )
+      pub replay-done : isDone (c .answer) ≡ true → (replayedAs (c .answer) (c .differs) (c .received) ≡ replayAnswer t ed trace o) × (b ≡ replayOut t ed trace o)
+      replay-done d = (ap (replayedAs (c .answer) (c .differs)) streamed ∙ (let e : replayedAs (c .answer) (c .differs) (length (take (c .received) b)) ≡ answerOf (held c b) = rw d in e) ∙ said, out)
 
-      pub replay-faulty : isDone (c .answer) ≡ false → (replayedAs (c .answer) (c .event) (c .received) ≡ replayAnswer t ed trace o)
-          × (b ≡ replayOut t ed trace o)
-      replay-faulty d = (
-        ap (replayedAs (c .answer) (c .event)) streamed ∙ (let e : replayedAs (c .answer) (c .event) (length (take (c .received) b))
-            ≡ answerOf (held c b) = rw d in e) ∙ said,
-        out,
-      )
+      pub replay-faulty : isDone (c .answer) ≡ false → (replayedAs (c .answer) (c .event) (c .received) ≡ replayAnswer t ed trace o) × (b ≡ replayOut t ed trace o)
+      replay-faulty d = (ap (replayedAs (c .answer) (c .event)) streamed ∙ (let e : replayedAs (c .answer) (c .event) (length (take (c .received) b)) ≡ answerOf (held c b) = rw d in e) ∙ said, out)
 
   module _ (n : ℕ) where
     pub stood-refused : isDone first ≡ false → (noneStood first 0 ≡ stoodAnswer t ed trace n o) × (o ≡ stoodOut t ed trace n o)

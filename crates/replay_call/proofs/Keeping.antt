@@ -1,16 +1,15 @@
 -- What each event does to a state, as the press's steps say: bytes taken in, a line given, a line printed. Assumes nothing.
-use mathlib.Core.Path.{_≡_, refl, sym, ap, ap₂, subst, _∙_}
+use mathlib.Core.Path.{_≡_, refl, sym, ap, _∙_}
 use mathlib.Core.Bool.{Bool, true, false, not, cond}
-use mathlib.Core.List.{List, [], _∷_, _++_}
+use mathlib.Core.List.{List, _++_}
 use Prim.Native.Nat.{ℕ, _+_, _-_, _≤_, _<_}
 use native.Mathlib.Omega.{arith}
-use lib.ListN.{length, take, drop, length-append, length-take, length-drop, length-replicate}
+use lib.ListN.{length, take, drop, length-append, length-take, length-drop}
 use lib.Seq.{sets, sets-eq, length-sets, take-at, drop-at, length-take-le}
 use lib.Dec.{eqb}
 use borrow.Author.Tests.{lt-ltb, le-ltb, eq-eqb, ne-eqb, eqb-true}
 use Rattle.base_lists.specs.Buffers.{over, copied, same}
 use Rattle.base_lists.specs.Over.{over-part, copied-all, take-over}
-use Rattle.line_spec.specs.Lines.{longest}
 use Rattle.frame_spec.specs.Told.{Told}
 use Rattle.read_spec.specs.Judged.{Judged}
 use Rattle.read_call.specs.Answers.{longestStream, sizedTold}
@@ -20,7 +19,7 @@ use Rattle.replay_spec.specs.declared.Kind.{Kind}
 use Rattle.replay_spec.specs.declared.Kind.the-variants.{Received, Printed, Bad}
 use Rattle.replay_spec.specs.declared.Event.{Event}
 use Rattle.replay_spec.specs.Events.{eventAt, bytesOf}
-use Rattle.replay_spec.specs.Press.{Given, nothing, gives, Met, met, counted, faulty, receive, after, ask, printOn, print, firstOf, request, does, step}
+use Rattle.replay_spec.specs.Press.{Given, nothing, gives, met, counted, faulty, receive, after, ask, printOn, print, firstOf, request, does, step}
 use Rattle.replay_spec.specs.Runs.{event-placed}
 use Rattle.replay_spec.specs.Answers.{judging, zeros}
 use Rattle.replay_request.specs.declared.Reached.{Reached}

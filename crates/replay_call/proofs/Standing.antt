@@ -2,27 +2,23 @@
 use mathlib.Core.Path.{_≡_, refl, sym, ap, ap₂, _∙_}
 use mathlib.Core.Bool.{Bool, true, false, not, cond}
 use mathlib.Core.List.{List, [], _∷_}
-use Prim.Native.Nat.{ℕ, zero, suc, _+_, _-_, _≤_, _<_}
+use Prim.Native.Nat.{ℕ, suc, _+_, _-_, _≤_, _<_}
 use native.Mathlib.Decide.{decLt}
 use native.Mathlib.Omega.{arith}
 use lib.ListN.{length, take, drop}
-use lib.Seq.{length-take-le, take-all}
+use lib.Seq.{length-take-le}
 use borrow.Author.Tests.{lt-ltb, le-ltb}
-use Rattle.base_lists.specs.Buffers.{over}
 use Rattle.read_spec.specs.Judged.{Judged}
-use Rattle.read_call.specs.Answers.{longestStream}
 use Rattle.replay_spec.specs.declared.Kind.{Kind}
 use Rattle.replay_spec.specs.declared.Kind.the-variants.{Received, Asked, Printed, Bad}
 use Rattle.replay_spec.specs.declared.Event.{Event}
-use Rattle.replay_spec.specs.declared.Answer.{Answer}
 use Rattle.replay_spec.specs.declared.Answer.the-variants.{Done}
-use Rattle.replay_spec.specs.declared.Stood.{Stood}
 use Rattle.replay_spec.specs.Events.{eventAt, eventsIn, events}
-use Rattle.replay_spec.specs.Press.{Given, nothing, gives, Press, start, isDone, run}
+use Rattle.replay_spec.specs.Press.{Press, start, isDone, run}
 use Rattle.replay_spec.specs.Runs.{events-none, events-one}
-use Rattle.replay_spec.specs.Answers.{zeros, noneStood, lineStood, stoodFor, stoodOf}
+use Rattle.replay_spec.specs.Answers.{noneStood, stoodFor, stoodOf}
 use Rattle.replay_call.specs.declared.State.{State}
-use Rattle.replay_call.specs.Holding.{heldGiven, held, Sound, Left, Ran, stoodBy, stoodNext}
+use Rattle.replay_call.specs.Holding.{heldGiven, held, Left, Ran, stoodBy, stoodNext}
 
 module _ (trace : List ℕ) (c : State) where
   pub next-fault : isDone (c .answer) ≡ false → noneStood Done (c .received) ≡ stoodNext trace c

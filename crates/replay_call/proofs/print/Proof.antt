@@ -1,7 +1,6 @@
 -- `print` meets its promise: each test is one of `printedBy`. Assumes nothing.
 use mathlib.Core.Path.{sym, _∙_}
 use Rattle.replay_call.proofs.Keeping.{print-none, print-same, print-first, print-later}
-use native.Mathlib.Omega.{arith}
 use borrow.Author.Needs.{needs}
 use Rattle.replay_call.proofs.print.Statement.{statement}
 use Rattle.replay_call.proofs.print.Tie as tie

@@ -1,5 +1,4 @@
 -- `refusal` meets its promise: 2, then 4, then nothing is refused. Assumes nothing.
-use borrow.Author.Tests.{not-true, not-false}
 use borrow.Author.Needs.{needs}
 use Rattle.replay_call.specs.Holding.{refusalOf}
 use Rattle.replay_call.proofs.refusal.Statement.{statement}

@@ -4,7 +4,6 @@ use borrow.Author.Tests.{not-true, not-false}
 use Rattle.replay_spec.specs.declared.Kind.the-variants.{Received, Asked, Printed, Bad}
 use Rattle.replay_call.proofs.Keeping.{printed-inside}
 use Rattle.replay_call.proofs.Standing.{next-fault, next-end, next-printed, next-kind}
-use native.Mathlib.Omega.{arith}
 use borrow.Author.Needs.{needs}
 use Rattle.replay_call.proofs.stood_next.Statement.{statement}
 use Rattle.replay_call.proofs.stood_next.Tie as tie
