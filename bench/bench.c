@@ -9,8 +9,8 @@
 #include <string.h>
 #include <time.h>
 
-enum { OURS, SSE2, BITS, WRAP, MOD, VERSIONS };
-static const char *const version_name[VERSIONS] = {"ours", "sse2", "bits", "wrap", "mod"};
+enum { OURS, SSE2, PLANES, BITS, WRAP, MOD, VERSIONS };
+static const char *const version_name[VERSIONS] = {"ours", "sse2", "planes", "bits", "wrap", "mod"};
 
 /* The smallest state is the cipher's and hash instance 1's. The associated data of a line is the font's field: tag, length, digest. */
 enum { LEAST = 2, REPEATS = 1000, MARK = 0x7E, SMALLEST_STATE = 29, FONT_FIELD = 3 + LUBDHVANI_DIGEST };
@@ -40,9 +40,11 @@ static void ours_seal(unsigned i, const uint8_t *k, const uint8_t *n, const uint
     lubdhvani_seal(i, k, key_of[i - 1], n, nonce_of[i - 1], a, alen, m, mlen, to, mlen, t, LUBDHVANI_SEAL);
 }
 
-static permutes *const permute_by[VERSIONS] = {ours_permute, plain_sse2_permute, plain_bits_permute, plain_wrap_permute, plain_mod_permute};
-static digests *const digest_by[VERSIONS] = {ours_digest, plain_sse2_digest, plain_bits_digest, plain_wrap_digest, plain_mod_digest};
-static seals *const seal_by[VERSIONS] = {ours_seal, plain_sse2_seal, plain_bits_seal, plain_wrap_seal, plain_mod_seal};
+static permutes *const permute_by[VERSIONS] = {ours_permute,       plain_sse2_permute, plain_planes_permute,
+                                               plain_bits_permute, plain_wrap_permute, plain_mod_permute};
+static digests *const digest_by[VERSIONS] = {ours_digest,       plain_sse2_digest, plain_planes_digest,
+                                             plain_bits_digest, plain_wrap_digest, plain_mod_digest};
+static seals *const seal_by[VERSIONS] = {ours_seal, plain_sse2_seal, plain_planes_seal, plain_bits_seal, plain_wrap_seal, plain_mod_seal};
 
 static void permute(int who, size_t size)
 {
@@ -56,6 +58,11 @@ static void seal_text(int who, unsigned instance, size_t length)
 }
 
 static void permute_smallest(int who) { permute(who, SMALLEST_STATE); }
+static void permute_36(int who) { permute(who, 36); }
+static void permute_40(int who) { permute(who, 40); }
+static void permute_48(int who) { permute(who, 48); }
+static void permute_64(int who) { permute(who, 64); }
+static void permute_68(int who) { permute(who, 68); }
 static void permute_largest(int who) { permute(who, LUBDHVANI_LARGEST_STATE); }
 static void digest_1(int who) { digest(who, 1); }
 static void digest_8(int who) { digest(who, 8); }
@@ -70,10 +77,12 @@ static void seal_longest_6(int who) { seal_text(who, 6, LUBDHVANI_LONGEST_TEXT);
 static const struct {
     const char *name;
     void (*run)(int who);
-} work[] = {{"permute-29", permute_smallest}, {"permute-72", permute_largest}, {"digest-1", digest_1},
-            {"digest-8", digest_8},           {"seal-65", seal_line},          {"seal-4096-1", seal_longest_1},
-            {"seal-4096-2", seal_longest_2},  {"seal-4096-3", seal_longest_3}, {"seal-4096-4", seal_longest_4},
-            {"seal-4096-5", seal_longest_5},  {"seal-4096-6", seal_longest_6}};
+} work[] = {{"permute-29", permute_smallest}, {"permute-36", permute_36},      {"permute-40", permute_40},
+            {"permute-48", permute_48},       {"permute-64", permute_64},      {"permute-68", permute_68},
+            {"permute-72", permute_largest},  {"digest-1", digest_1},          {"digest-8", digest_8},
+            {"seal-65", seal_line},           {"seal-4096-1", seal_longest_1}, {"seal-4096-2", seal_longest_2},
+            {"seal-4096-3", seal_longest_3},  {"seal-4096-4", seal_longest_4}, {"seal-4096-5", seal_longest_5},
+            {"seal-4096-6", seal_longest_6}};
 enum { WORKS = sizeof work / sizeof work[0] };
 
 static double now(void)
@@ -184,8 +193,8 @@ static void run_one(const char *name, const char *who, long times)
 
 static void print_works_timed(void)
 {
-    printf("| ns | ours | SSE2 by hand | bit formula | look-ups | look-ups, %% | ours / SSE2 | / formula | / look-ups | / %% |\n");
-    printf("|---|---|---|---|---|---|---|---|---|---|\n");
+    printf("| ns | ours | SSE2 by hand | C in planes | bit formula | look-ups | look-ups, %% | ours / SSE2 | / planes | / formula | / look-ups | / %% |\n");
+    printf("|---|---|---|---|---|---|---|---|---|---|---|---|\n");
     for (int w = 0; w < WORKS; w++) {
         double t[VERSIONS];
         timed_all(work[w].run, t);

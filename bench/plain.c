@@ -4,12 +4,6 @@
 #include "plain.h"
 #include <string.h>
 
-static const uint16_t instance[10][2] = {{232, 8},  {240, 16}, {256, 32},  {288, 64}, {272, 16},
-                                         {288, 32}, {320, 64}, {384, 128}, {544, 32}, {576, 64}};
-/* Key, nonce, state and rate of the cipher's instances, in bits. */
-static const uint16_t cipher[6][4] = {{128, 96, 232, 8},  {128, 96, 240, 16}, {128, 96, 256, 32},
-                                      {128, 128, 320, 64}, {256, 96, 512, 64}, {256, 128, 512, 64}};
-
 #ifdef PLAIN_SSE2
 #include "sse2.h"
 #else
