@@ -46,7 +46,8 @@ module _ (t : Told) (ed : ℕ) (trace o : List ℕ) where
   replay-refused d = rw first-is (go (sizedTold t) (ltb (length o) longestStream) (ap isDone (sym first-is) ∙ d))
     where
       go : (x y : Bool) → isDone (cond (not x) Sizes (cond y NoRoom Done)) ≡ false
-          → (replayedAs (cond (not x) Sizes (cond y NoRoom Done)) 0 0 ≡ cond (not x) (replayedAs Sizes 0 0) (cond y (replayedAs NoRoom 0 0) (answerOf (replayed t ed trace))))
+          → (replayedAs (cond (not x) Sizes (cond y NoRoom Done)) 0 0 ≡ cond (not x) (replayedAs Sizes 0 0)
+          (cond y (replayedAs NoRoom 0 0) (answerOf (replayed t ed trace))))
           × (o ≡ cond (not x) o (cond y o (over (replayed t ed trace .stream) o)))
       go false y n = (refl, refl)
       go true true n = (refl, refl)
@@ -73,11 +74,21 @@ module _ (t : Told) (ed : ℕ) (trace o : List ℕ) where
       unfolding replayAnswer
       said = ap answerOf is ∙ rw (z, le-ltb (length o) longestStream h)
 
-      pub replay-done : isDone (c .answer) ≡ true → (replayedAs (c .answer) (c .differs) (c .received) ≡ replayAnswer t ed trace o) × (b ≡ replayOut t ed trace o)
-      replay-done d = (ap (replayedAs (c .answer) (c .differs)) streamed ∙ (let e : replayedAs (c .answer) (c .differs) (length (take (c .received) b)) ≡ answerOf (held c b) = rw d in e) ∙ said, out)
+      pub replay-done : isDone (c .answer) ≡ true → (replayedAs (c .answer) (c .differs) (c .received) ≡ replayAnswer t ed trace o)
+          × (b ≡ replayOut t ed trace o)
+      replay-done d = (
+        ap (replayedAs (c .answer) (c .differs)) streamed ∙ (let e : replayedAs (c .answer) (c .differs) (length (take (c .received) b))
+            ≡ answerOf (held c b) = rw d in e) ∙ said,
+        out,
+      )
 
-      pub replay-faulty : isDone (c .answer) ≡ false → (replayedAs (c .answer) (c .event) (c .received) ≡ replayAnswer t ed trace o) × (b ≡ replayOut t ed trace o)
-      replay-faulty d = (ap (replayedAs (c .answer) (c .event)) streamed ∙ (let e : replayedAs (c .answer) (c .event) (length (take (c .received) b)) ≡ answerOf (held c b) = rw d in e) ∙ said, out)
+      pub replay-faulty : isDone (c .answer) ≡ false → (replayedAs (c .answer) (c .event) (c .received) ≡ replayAnswer t ed trace o)
+          × (b ≡ replayOut t ed trace o)
+      replay-faulty d = (
+        ap (replayedAs (c .answer) (c .event)) streamed ∙ (let e : replayedAs (c .answer) (c .event) (length (take (c .received) b))
+            ≡ answerOf (held c b) = rw d in e) ∙ said,
+        out,
+      )
 
   module _ (n : ℕ) where
     pub stood-refused : isDone first ≡ false → (noneStood first 0 ≡ stoodAnswer t ed trace n o) × (o ≡ stoodOut t ed trace n o)

@@ -16,7 +16,7 @@ use Rattle.read_spec.specs.Editions.{oneAlone}
 use Rattle.read_spec.specs.Judged.{Judged, shape, stuffing, font, work, seal, unlisted, trade, layout, line}
 use Rattle.read_call.specs.declared.Answer as read-answer
 use Rattle.read_call.specs.declared.Asked.{Asked}
-use Rattle.read_call.specs.Answers.{sizedTold, answerOf, lineOver, numberOf, lengthOf}
+use Rattle.read_call.specs.Answers.{sizedTold, answerOf, lineOver, answerNumber, lengthOf}
 use Rattle.frame_spec.specs.Told.{Told}
 use Rattle.tool_row.specs.Rows.{rowText, rowRoom}
 use Rattle.tool_row.specs.Answers.{rowAnswer, rowOut}
@@ -36,7 +36,8 @@ use Rattle.tool_press.specs.declared.Press.{Press}
 use Rattle.tool_press.specs.declared.Pressed.{Pressed}
 use Rattle.tool_press.specs.declared.Pressed.the-variants as pressed-is
 use Rattle.tool_press.specs.declared.Turn.{Turn}
-use Rattle.tool_press.specs.Pressing.{pressAt, counted, turn, pressedBy, lengthFor, rowFor, rowOf, rowedFor, rowed, own, stepWith, windowWith, lineWith, noRow, pressed, pressWindow, pressRow}
+use Rattle.tool_press.specs.Pressing.{pressAt, counted, turn, pressedBy, lengthFor, rowFor, rowOf, rowedFor, rowed}
+use Rattle.tool_press.specs.Pressing.{own, stepWith, windowWith, lineWith, noRow, pressed, pressWindow, pressRow}
 
 -- one row more, by its number
 module _ (c : Press) (n : Numbers) (number : ℕ) where
@@ -62,7 +63,7 @@ module _ (c : Press) (s : Step) (l o : List ℕ) where
 
   -- the row of a stretch
   pub one-row : (a : read-answer.Answer) → s .answer ≡ answer-is.Stretch a → lengthFor (s .answer) ≤ length l → length l ≤ longest → rowRoom ≤ length o
-      → (i : ℕ) → i ≡ numberOf a → (k : ℕ) → k ≡ lengthOf a
+      → (i : ℕ) → i ≡ answerNumber a → (k : ℕ) → k ≡ lengthOf a
       → (x : Put) → x ≡ rowAnswer (s .first) i (take (k - 0) (drop 0 l)) o → (o′ : List ℕ) → o′ ≡ rowOut (s .first) i (take (k - 0) (drop 0 l)) o
       → (d : Pressed) → d ≡ pressedBy x → (m : Press) → m ≡ counted c (s .numbers) i → Rowed (turn m (s .took) d) o′
   one-row a e fit few room i ie k ke x xe o′ oe d de m me =
@@ -70,18 +71,19 @@ module _ (c : Press) (s : Step) (l o : List ℕ) where
       let f : lengthOf a ≤ length l = subst (λ (y : Answer). lengthFor y ≤ length l) e fit in
       let w = take (lengthOf a) l in
       let short : length w ≤ longest = omega (arith, length-take-le (lengthOf a) l f, f, few) in
-      let done = row-done (s .first) (numberOf a) w o short room in
-      let row = rowText (s .first) (numberOf a) w in
+      let done = row-done (s .first) (answerNumber a) w o short room in
+      let row = rowText (s .first) (answerNumber a) w in
       let x-is : x ≡ put-is.Row (length row) = xe ∙ rw (z, ie) (done .0) in
       let o-is : o′ ≡ over row o = oe ∙ rw (z, ie) (done .1) in
       let d-is : d ≡ pressed-is.Row (length row) = de ∙ ap pressedBy x-is in
-      let m-is : m ≡ counted c (s .numbers) (numberOf a) = me ∙ ap (counted c (s .numbers)) ie in (
+      let m-is : m ≡ counted c (s .numbers) (answerNumber a) = me ∙ ap (counted c (s .numbers)) ie in (
         ap₂ (λ (y : Press) (v : Pressed). turn y (s .took) v) m-is d-is ∙ ap (λ (y : Answer). rowedFor y c s l) (sym e),
         o-is ∙ ap (λ (y : Answer). over (rowFor y s l) o) (sym e),
       )
 
 -- the part of the buffer that is the line
-pub its-part : (s : Step) (l : List ℕ) (a : read-answer.Answer) → s .answer ≡ answer-is.Stretch a → lengthFor (s .answer) ≤ length l → (k : ℕ) → k ≡ lengthOf a → k ≤ length l
+pub its-part : (s : Step) (l : List ℕ) (a : read-answer.Answer) → s .answer ≡ answer-is.Stretch a → lengthFor (s .answer) ≤ length l → (k : ℕ) → k ≡ lengthOf a
+    → k ≤ length l
 its-part s l a e fit k ke = omega (arith, ke, subst (λ (y : Answer). lengthFor y ≤ length l) e fit)
 
 -- the line that a step gives fits its buffer
@@ -120,7 +122,8 @@ module _ (n : Numbers) (l : List ℕ) where
     line-fits = fits-if (not (possible n)) (not (sizedTold t)) (ltb mostBytes (n .received + length p)) (ltb (length l) longest) (ends (takenIn n w p .place))
 
 -- so too of a step that was made
-pub fitting : (key digest : List ℕ) (c : Press) (w p : List ℕ) (s : Step) → s ≡ stepWith key digest c w p longest → (l : List ℕ) → l ≡ lineWith key digest c w p longest
+pub fitting : (key digest : List ℕ) (c : Press) (w p : List ℕ) (s : Step) → s ≡ stepWith key digest c w p longest → (l : List ℕ)
+    → l ≡ lineWith key digest c w p longest
     → lengthFor (s .answer) ≤ length l
 fitting key digest c w p s e l f = rw (e, f) (line-fits (c .numbers) (own longest) (told key digest Neither) (allAsked oneAlone Neither) w p)
 

@@ -9,7 +9,7 @@ use Rattle.line_spec.specs.Lines.{longest}
 use Rattle.line_layout.specs.declared.Layout.the-variants.{Neither}
 use Rattle.frame_spec.specs.Told.{told}
 use Rattle.read_spec.specs.Editions.{oneAlone}
-use Rattle.read_call.specs.Answers.{numberOf, lengthOf}
+use Rattle.read_call.specs.Answers.{answerNumber, lengthOf}
 use Rattle.tool_row.specs.Rows.{rowText, rowRoom}
 use Rattle.tool_row.specs.declared.Put as put
 use Rattle.tool_row.specs.declared.Put.the-variants as put-is
@@ -74,7 +74,7 @@ rowFor answer-is.Sizes s l = []
 rowFor answer-is.TooLong s l = []
 rowFor answer-is.NoRoom s l = []
 rowFor answer-is.Wait s l = []
-rowFor (answer-is.Stretch a) s l = rowText (s .first) (numberOf a) (take (lengthOf a) l)
+rowFor (answer-is.Stretch a) s l = rowText (s .first) (answerNumber a) (take (lengthOf a) l)
 
 abbrev pub rowOf : Step → List ℕ → List ℕ
 rowOf s l = rowFor (s .answer) s l
@@ -87,7 +87,7 @@ rowedFor answer-is.TooLong c s l = rowless c (s .numbers) (s .took) pressed-is.T
 rowedFor answer-is.NoRoom c s l = rowless c (s .numbers) (s .took) pressed-is.NoRoom
 rowedFor answer-is.Wait c s l = rowless c (s .numbers) (s .took) pressed-is.Wait
 rowedFor (answer-is.Stretch a) c s l =
-    turn (counted c (s .numbers) (numberOf a)) (s .took) (pressed-is.Row (length (rowFor (answer-is.Stretch a) s l)))
+    turn (counted c (s .numbers) (answerNumber a)) (s .took) (pressed-is.Row (length (rowFor (answer-is.Stretch a) s l)))
 
 abbrev pub rowed : Press → Step → List ℕ → Turn
 rowed c s l = rowedFor (s .answer) c s l

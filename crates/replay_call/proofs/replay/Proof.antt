@@ -47,7 +47,9 @@ returns-2 c =
     let s = c .before .before .before .before .before .before .before .before .before .before .before .before .before in
     let t = told (s .args .key .now) (s .args .font .now) (s .args .layout) in
     let n = not-refused t (s .args .editions) (s .args .trace .now) (s .args .buf .now)
-    (ap isDone (sym (c .before .before .before .before .before .before .before .before .refusal .ensures)) ∙ sym (c .before .before .before .before .before .before .before .is-done .ensures) ∙ not-false _ (c .before .before .before .before .before .before .if1 .left)) in
+    (ap isDone (sym (c .before .before .before .before .before .before .before .before .refusal .ensures)) ∙ sym
+    (c .before .before .before .before .before .before .before .is-done .ensures) ∙ not-false _
+    (c .before .before .before .before .before .before .if1 .left)) in
     replay-done t (s .args .editions) (s .args .trace .now) (s .args .buf .now) (n .1) (n .0) _ _ (c .before .before .before .before .run .ensures)
     (sym (c .before .is-done2 .ensures) ∙ c .if2 .taken)
 
@@ -59,7 +61,9 @@ returns-3 c =
     let s = c .before .before .before .before .before .before .before .before .before .before .before .before .before in
     let t = told (s .args .key .now) (s .args .font .now) (s .args .layout) in
     let n = not-refused t (s .args .editions) (s .args .trace .now) (s .args .buf .now)
-    (ap isDone (sym (c .before .before .before .before .before .before .before .before .refusal .ensures)) ∙ sym (c .before .before .before .before .before .before .before .is-done .ensures) ∙ not-false _ (c .before .before .before .before .before .before .if1 .left)) in
+    (ap isDone (sym (c .before .before .before .before .before .before .before .before .refusal .ensures)) ∙ sym
+    (c .before .before .before .before .before .before .before .is-done .ensures) ∙ not-false _
+    (c .before .before .before .before .before .before .if1 .left)) in
     replay-faulty t (s .args .editions) (s .args .trace .now) (s .args .buf .now) (n .1) (n .0) _ _ (c .before .before .before .before .run .ensures)
     (sym (c .before .is-done2 .ensures) ∙ c .if2 .left)
 

@@ -36,7 +36,8 @@ returns-2 c =
     let s = c .before .before .before .before .before .before .before .before .before in
     let t = told (s .args .key .now) (s .args .font .now) (s .args .layout) in
     let n = not-refused t (s .args .editions) (s .args .trace .now) (s .args .buf .now)
-    (ap isDone (sym (c .before .before .before .before .refusal .ensures)) ∙ sym (c .before .before .before .is-done .ensures) ∙ not-false _ (c .before .before .if1 .left)) in
+    (ap isDone (sym (c .before .before .before .before .refusal .ensures)) ∙ sym (c .before .before .before .is-done .ensures) ∙ not-false _
+    (c .before .before .if1 .left)) in
     let x = stood-zero t (s .args .editions) (s .args .trace .now) (s .args .buf .now) (s .args .event) (n .1) (n .0) (c .before .if2 .taken) in
     (c .none-stood2 .ensures ∙ x .0, x .1)
 
@@ -48,7 +49,8 @@ run-requires c κs =
     let s = c .before .before .before .before .before .before .before .before .before in
     let t = told (s .args .key .now) (s .args .font .now) (s .args .layout) in
     let n = not-refused t (s .args .editions) (s .args .trace .now) (s .args .buf .now)
-    (ap isDone (sym (c .before .before .before .before .refusal .ensures)) ∙ sym (c .before .before .before .is-done .ensures) ∙ not-false _ (c .before .before .if1 .left)) in
+    (ap isDone (sym (c .before .before .before .before .refusal .ensures)) ∙ sym (c .before .before .before .is-done .ensures) ∙ not-false _
+    (c .before .before .if1 .left)) in
     n
 
 stood-next-requires : tie.Need-stood-next-requires
@@ -62,8 +64,11 @@ returns-3 c =
     let s = c .before .before .before .before .before .before .before .before .before .before .before .before .before in
     let t = told (s .args .key .now) (s .args .font .now) (s .args .layout) in
     let n = not-refused t (s .args .editions) (s .args .trace .now) (s .args .buf .now)
-    (ap isDone (sym (c .before .before .before .before .before .before .before .before .refusal .ensures)) ∙ sym (c .before .before .before .before .before .before .before .is-done .ensures) ∙ not-false _ (c .before .before .before .before .before .before .if1 .left)) in
-    let x = stood-ran t (s .args .editions) (s .args .trace .now) (s .args .buf .now) (s .args .event) (n .1) (n .0) (c .before .before .before .before .before .if2 .left) _ _ (c .before .before .before .run .ensures) in
+    (ap isDone (sym (c .before .before .before .before .before .before .before .before .refusal .ensures)) ∙ sym
+    (c .before .before .before .before .before .before .before .is-done .ensures) ∙ not-false _
+    (c .before .before .before .before .before .before .if1 .left)) in
+    let x = stood-ran t (s .args .editions) (s .args .trace .now) (s .args .buf .now) (s .args .event) (n .1) (n .0)
+    (c .before .before .before .before .before .if2 .left) _ _ (c .before .before .before .run .ensures) in
     (c .stood-next .ensures ∙ x .0, x .1)
 
 pub stood-spec : {M : Type 1} → statement M
