@@ -6,6 +6,7 @@ mod beat;
 mod bundle;
 mod call;
 mod damage;
+mod desk;
 mod digest;
 mod edition;
 mod frame;
@@ -54,6 +55,7 @@ impl Rows {
 pub fn all() -> Vec<Rows> {
     let (acceptances, accept_rows) = accept::stdin_and_rows();
     let (bundles, bundle_rows) = bundle::stdin_and_rows();
+    let (reworks, desk_rows) = desk::stdin_and_rows();
     let (digests, digest_rows) = digest::stdin_and_rows();
     let (indexes, index_rows) = index::stdin_and_rows();
     let (replays, replay_rows) = replay::stdin_and_rows();
@@ -63,6 +65,7 @@ pub fn all() -> Vec<Rows> {
     vec![
         Rows::of_cases("rows_accept", acceptances, accept_rows),
         Rows::of_cases("rows_bundle", bundles, bundle_rows),
+        Rows::of_cases("rows_desk", reworks, desk_rows),
         Rows::of_cases("rows_digest", digests, digest_rows),
         Rows::of_cases("rows_index", indexes, index_rows),
         Rows::printed("rows_permute", permute::rows()),
