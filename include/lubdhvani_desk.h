@@ -5,6 +5,9 @@
  * numbers are document 01's and order W14's. A pointer is to as many bytes, or entries, as the length behind it says; with a length of 0 it may be
  * anything, NULL included. The output overlaps no other argument.
  *
+ * It has no state of its own, so that calls on different buffers may run at the same time, and runs in LUBDHVANI_DESK_STACK bytes of stack on x86-64, which
+ * is measured, not proved: tests/stack/run. The key and the states that it works with are not wiped from the stack.
+ *
  * Link with target/staticlib/liblubdhvani_desk.a, which `rt staticlib lubdhvani_desk` makes: alone, or beside liblubdhvani.a in either order. No symbol
  * stands in both.
  */
@@ -17,6 +20,8 @@
 #ifdef __cplusplus
 extern "C" {
 #endif
+
+enum { LUBDHVANI_DESK_STACK = 32768 };
 
 /* The numbers. */
 enum {

@@ -1,8 +1,9 @@
-/* How much stack each call of include/lubdhvani.h takes: it is run on a painted stack, and what is no longer paint was used. Each is run
+/* How much stack each call of include/lubdhvani.h and include/lubdhvani_desk.h takes: it is run on a painted stack, and what is no longer paint was used. Each is run
  * in a process of its own, whose first call of memcpy and memset it makes: where these are bound at their first call (lazy binding), the
  * binding takes stack too. The status is 1 if a call takes more than the header says. */
 #define _XOPEN_SOURCE 700
 #include "lubdhvani.h"
+#include "lubdhvani_desk.h"
 
 #include <stdio.h>
 #include <sys/wait.h>
@@ -133,6 +134,16 @@ static void index_stretch(void) { indexed(stretch, sizeof stretch); }
 static void index_entry(void) { lubdhvani_index_entry(table, LUBDHVANI_INDEX, LUBDHVANI_INDEX, LUBDHVANI_INDEX - 1); }
 static void index_line(void) { lubdhvani_index_line(table, LUBDHVANI_INDEX, LUBDHVANI_INDEX, LUBDHVANI_INDEX); }
 
+/* The desk, with an entry that names the first stretch. */
+static const uint32_t first_place[LUBDHVANI_INDEX] = {256}, first_entry[] = {0};
+static void reworked(const uint8_t *from, size_t n)
+{
+    lubdhvani_desk_copy(from, n, key, sizeof key, font, sizeof font, LUBDHVANI_BOTH_EDITIONS, layout, first_place, LUBDHVANI_INDEX, 1, first_entry, 1, out,
+                        sizeof out);
+}
+static void desk_frame(void) { reworked(frame, length); }
+static void desk_stretch(void) { reworked(stretch, sizeof stretch); }
+
 /* Stretches of the greatest length: two bytes again and again, and a last one of its own. */
 static void longest(uint8_t even, uint8_t odd, uint8_t last)
 {
@@ -248,6 +259,11 @@ static const struct {
     {"stood, a line of edition two", a_frame_two, stood_frame, LUBDHVANI_STACK},
     {"stood, longest stretch, plain", plain, stood_stretch, LUBDHVANI_STACK},
     {"stood, longest stretch, bad escape", bad_escape, stood_stretch, LUBDHVANI_STACK},
+    {"desk_copy, a line", a_frame, desk_frame, LUBDHVANI_DESK_STACK},
+    {"desk_copy, a line of edition two", a_frame_two, desk_frame, LUBDHVANI_DESK_STACK},
+    {"desk_copy, longest stretch, plain", plain, desk_stretch, LUBDHVANI_DESK_STACK},
+    {"desk_copy, longest stretch, escapes", escapes, desk_stretch, LUBDHVANI_DESK_STACK},
+    {"desk_copy, longest stretch, dangling escape", dangling, desk_stretch, LUBDHVANI_DESK_STACK},
     {"to_one, a line", a_frame_two, to_one_line, LUBDHVANI_STACK},
     {"to_two, a line", a_frame, to_two_line, LUBDHVANI_STACK},
     {"to_two, a line of layout B", a_frame_of_b, to_two_line, LUBDHVANI_STACK},
