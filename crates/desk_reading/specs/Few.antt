@@ -1,5 +1,5 @@
--- `desk-entry-twice` and `desk-empty` (order W14): an entry asked for twice is copied twice, and an empty list gives an empty stream. From the promises of
--- `desk` and `read` alone. Assumes nothing.
+-- `desk-entry-twice`, `desk-empty` and `desk-keeps` (order W14): an entry asked for twice is copied twice, an empty list gives an empty stream, and on a
+-- refusal the output stays as it was. From the promises of `desk` and `read` alone. Assumes nothing.
 use mathlib.Core.Path.{_≡_, refl, sym, ap, _∙_}
 use mathlib.Core.List.{List, [], _∷_}
 use Prim.Native.Nat.{ℕ, _≤_}
@@ -16,6 +16,7 @@ use Rattle.index_reading.specs.Promises.{asking}
 use Rattle.desk_spec.specs.declared.Answer.{Answer}
 use Rattle.desk_spec.specs.declared.Answer.the-variants as answer-is
 use Rattle.desk_spec.specs.Desk.{newStream, outOf, lengthOf}
+use Rattle.desk_spec.specs.Kept.{refusal-keeps}
 use Rattle.desk_reading.specs.Promises.{Desks, Done, written, givenSeen, movedTo, behind}
 use Rattle.desk_reading.specs.Done.{DoneWhen, desk-done}
 use Rattle.desk_reading.specs.Reads.{desk-reads}
@@ -40,3 +41,10 @@ module _ (key font : List ℕ) (editions a : ℕ) (lay : Layout) (s table : List
       let e : r ≡ answer-is.Done 0 =
       desk-done key font editions lay s table count [] o r out p .1 (record { takes = w; lines = tt; short = omega arith; fits = omega arith }) in
       (e, p .1 ∙ ap (λ (x : Answer). outOf x [] o) (sym (p .0) ∙ e))
+
+  -- whatever is refused, nothing is written, and no length is answered
+  pub desk-keeps : (list o : List ℕ) (r : Answer) (out : List ℕ) → Desks key font editions lay s table count list o r out → (Done r → ⊥)
+      → (out ≡ o) × (lengthOf r ≡ 0)
+  desk-keeps list o r out p n =
+      let k = refusal-keeps r (newStream t editions s table list) o n in
+      (p .1 ∙ ap (λ (x : Answer). outOf x (newStream t editions s table list) o) (sym (p .0)) ∙ k .0, k .1)
