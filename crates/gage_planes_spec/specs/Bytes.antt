@@ -13,8 +13,8 @@ use lib.Pow.{pow-mono, pow-add}
 use lib.Seq.{ext-getD, length-take-le, getD-take, getD-drop}
 use borrow.Author.Tests.{lt-ltb, le-ltb}
 use Rattle.base_lists.specs.Below.{Below, below-at}
-use Rattle.gage_shuffle.specs.Shuffling.{weighed, origins, tabled}
-use Rattle.gage_shuffle.specs.Bits.{eight, weighed-by, origin-back, origin-below, origin-whole}
+use Rattle.gage_shuffle.specs.Shuffling.{weighed, units, tabled}
+use Rattle.gage_shuffle.specs.Bits.{eight, weighed-by, unit-back, unit-below, unit-whole}
 use Rattle.gage_shuffle.specs.States.{length-tabled, tabled-at}
 use Rattle.base_digits.specs.Digits.{digit, digit-below, digit-xor, digit-shr, digit-high, digits-same}
 use Rattle.base_digits.specs.Joined.{joined, digit-joined}
@@ -42,16 +42,16 @@ digit-at-below t i j = elim (decLt i LOW) [
   | no p ↦ rw (le-ltb i LOW (omega (arith, p))) (digit-below (t .rest) (8 * j + (i - LOW)))
 ]
 
-weight-is : (j : ℕ) → j < 8 → 2 ^ j ≡ getD origins j 1
-weight-is = eight (λ j. 2 ^ j ≡ getD origins j 1) refl refl refl refl refl refl refl refl
+weight-is : (j : ℕ) → j < 8 → 2 ^ j ≡ getD units j 1
+weight-is = eight (λ j. 2 ^ j ≡ getD units j 1) refl refl refl refl refl refl refl refl
 
 pub byte-below : (t : State) (i : ℕ) → byteAt t i < 256
 unfolding byteAt
-byte-below t i = origin-below (digitAt t i) (digit-at-below t i)
+byte-below t i = unit-below (digitAt t i) (digit-at-below t i)
 
 pub byte-digit : (t : State) (i j : ℕ) → j < 8 → digit (byteAt t i) j ≡ digitAt t i j
 unfolding digit byteAt
-byte-digit t i j h = rw (weight-is j h) (origin-back (digitAt t i) (digit-at-below t i) j h)
+byte-digit t i j h = rw (weight-is j h) (unit-back (digitAt t i) (digit-at-below t i) j h)
 
 pub told-below : (n : ℕ) (t : State) (i : ℕ) → i < n → getD (told n t) i 0 < 256
 told-below n t i h = rw (told-at n t i h) (byte-below t i)
@@ -68,9 +68,9 @@ told-woven n t s long small a =
     let g : i < n = omega (arith, length-told n t) in
     let x = getD s i 0 in
     told-at n t i g
-    ∙ weighed-by (digitAt t i) (λ j. x / getD origins j 1 % 2) 0 origins
+    ∙ weighed-by (digitAt t i) (λ j. x / getD units j 1 % 2) 0 units
     (λ j l. let z : 0 + j ≡ j = omega arith in rw z (a .each i j g l ∙ ap (λ (w : ℕ). x / w % 2) (weight-is j l)))
-    ∙ origin-whole x (below-at 256 s i small (omega arith)))
+    ∙ unit-whole x (below-at 256 s i small (omega arith)))
 
 -- fewer of them
 pub take-told : (m n : ℕ) (t : State) → m ≤ n → take m (told n t) ≡ told m t

@@ -5,7 +5,7 @@ use Prim.Native.Nat.{ℕ, _+_, _-_, _*_}
 use lib.Bits.{bitXor}
 use lib.Dec.{ltb}
 use lib.ListN.{getD, take, drop}
-use Rattle.gage_shuffle.specs.Shuffling.{weighed, origins, tabled}
+use Rattle.gage_shuffle.specs.Shuffling.{weighed, units, tabled}
 use Rattle.base_digits.specs.Digits.{digit}
 use Rattle.base_digits.specs.Joined.{joined}
 use Rattle.gage_planes_spec.specs.declared.Planes.{Planes}
@@ -28,7 +28,7 @@ digitAt t i j = cond (ltb i LOW) (digit (getD (worth (t .low)) j 0) i) (digit (t
 
 -- byte i, and the first n bytes
 unfoldable pub byteAt : State → ℕ → ℕ
-byteAt t i = weighed (digitAt t i) 0 origins
+byteAt t i = weighed (digitAt t i) 0 units
 
 unfoldable pub told : ℕ → State → List ℕ
 told n t = tabled (byteAt t) 0 n

@@ -1,4 +1,4 @@
--- Eight bits put together with the weights of their places, or of where they come from, and read back. Assumes nothing.
+-- Eight bits put together with the weights of their places, of where they come from, or from the right, and read back. Assumes nothing.
 use mathlib.Core.Path.{_≡_, refl, ap₂}
 use mathlib.Core.Bool.{Bool}
 use mathlib.Core.List.{List, [], _∷_}
@@ -8,9 +8,9 @@ use native.Mathlib.Omega.{arith}
 use lib.Dec.{eqb, eqb→eq}
 use lib.ListN.{length, getD, replicate}
 use Rattle.base_lists.specs.Table.{at}
-use Rattle.gage_shuffle.specs.Shuffling.{BITS, places, comings, weights, origins, weighed}
+use Rattle.gage_shuffle.specs.Shuffling.{BITS, places, comings, rights, weights, origins, units, weighed}
 use Rattle.gage_shuffle.specs.Places.{read-back, number-below}
-use Rattle.gage_shuffle.specs.Tables.{place-once, coming-once}
+use Rattle.gage_shuffle.specs.Tables.{place-once, coming-once, right-once}
 
 -- the same bits make the same byte
 pub weighed-by : (f g : ℕ → ℕ) (i : ℕ) (ws : List ℕ) → ((j : ℕ) → j < length ws → f (i + j) ≡ g (i + j)) → weighed f i ws ≡ weighed g i ws
@@ -48,6 +48,9 @@ module _ (b : ℕ → ℕ) (bits : (j : ℕ) → b j < 2) where
   pub origin-back : (j : ℕ) → j < BITS → weighed b 0 origins / getD origins j 1 % 2 ≡ b j
   origin-back = read-back BITS comings coming-once b bits
 
+  pub unit-back : (j : ℕ) → j < BITS → weighed b 0 units / getD units j 1 % 2 ≡ b j
+  unit-back = read-back BITS rights right-once b bits
+
   -- eight bits make a byte
   pub placed-below : weighed b 0 weights < 256
   placed-below = number-below BITS places place-once b bits
@@ -55,7 +58,10 @@ module _ (b : ℕ → ℕ) (bits : (j : ℕ) → b j < 2) where
   pub origin-below : weighed b 0 origins < 256
   origin-below = number-below BITS comings coming-once b bits
 
--- a byte is the sum of its bits, whichever of the two weights they have: one test at each of 256
+  pub unit-below : weighed b 0 units < 256
+  unit-below = number-below BITS rights right-once b bits
+
+-- a byte is the sum of its bits, whichever of the weights they have: one test at each of 256
 split : List ℕ → ℕ → ℕ
 split ws x = weighed (λ j. x / getD ws j 1 % 2) 0 ws
 
@@ -69,3 +75,7 @@ placed-whole x h = eqb→eq (split weights x) x (at (whole weights) (replicate 2
 pub origin-whole : (x : ℕ) → x < 256 → weighed (λ j. x / getD origins j 1 % 2) 0 origins ≡ x
 unfolding split whole weighed
 origin-whole x h = eqb→eq (split origins x) x (at (whole origins) (replicate 256 0) tt x h)
+
+pub unit-whole : (x : ℕ) → x < 256 → weighed (λ j. x / getD units j 1 % 2) 0 units ≡ x
+unfolding split whole weighed
+unit-whole x h = eqb→eq (split units x) x (at (whole units) (replicate 256 0) tt x h)

@@ -36,6 +36,13 @@ weights = map weight places
 abbrev pub origins : List ℕ
 origins = map weight comings
 
+-- a byte's places from the right, and what they count: whatever the shuffle takes for its elements
+abbrev pub rights : List ℕ
+rights = 8 ∷ 7 ∷ 6 ∷ 5 ∷ 4 ∷ 3 ∷ 2 ∷ 1 ∷ []
+
+abbrev pub units : List ℕ
+units = map weight rights
+
 -- the byte whose bits are b j, b (j + 1), .. each with its weight
 unfoldable pub weighed : (ℕ → ℕ) → ℕ → List ℕ → ℕ
 weighed b j [] = 0

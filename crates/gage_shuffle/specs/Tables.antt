@@ -8,7 +8,7 @@ use native.Mathlib.Omega.{arith}
 use lib.Dec.{T, eqb, eqb→eq, leb, leb→le}
 use lib.ListN.{length, getD}
 use Rattle.base_lists.specs.Table.{at, both, both-left, both-right, every}
-use Rattle.gage_shuffle.specs.Shuffling.{BITS, places, comings}
+use Rattle.gage_shuffle.specs.Shuffling.{BITS, places, comings, rights}
 use Rattle.gage_shuffle.specs.Places.{times, Once}
 
 -- at entry k: place k + 1 is taken once, and the entry is a place
@@ -45,3 +45,8 @@ place-once = rule places refl tt
 pub coming-once : Once BITS comings
 unfolding once
 coming-once = rule comings refl tt
+
+-- and a byte has each once, from the right too
+pub right-once : Once BITS rights
+unfolding once
+right-once = rule rights refl tt
