@@ -5,8 +5,8 @@
 
 use std::fmt::Write;
 
-use super::stream::longest_run;
-use super::{by_rule, in_bytes, told};
+use super::stream::stored;
+use super::{by_rule, told};
 use crate::desk::copy;
 use crate::digest::digest;
 use crate::frame::{framed, Fields, Own};
@@ -72,16 +72,8 @@ impl Case {
     }
 
     fn stored(&self) -> Vec<u8> {
-        let run = longest_run(&self.stream);
-        let (first, last) = (&self.stream[..run.start], &self.stream[run.end..]);
-        let between = self.stream.get(run.start).copied().unwrap_or(0);
         let behind = |i: usize| self.behind.get(i).copied().unwrap_or(0);
-        let head = [
-            self.name.len(),
-            self.stream.len(),
-            first.len(),
-            last.len(),
-            usize::from(between),
+        let numbers = [
             self.key,
             self.digest,
             self.editions.0 as usize,
@@ -97,13 +89,7 @@ impl Case {
             behind(1),
             self.room,
         ];
-        [
-            head.map(in_bytes).concat(),
-            self.name.as_bytes().into(),
-            first.into(),
-            last.into(),
-        ]
-        .concat()
+        stored(&self.name, &self.stream, &numbers)
     }
 
     fn row(&self) -> String {
