@@ -1,5 +1,6 @@
 pub mod Promises
 pub mod Done
+pub mod Lines
 pub mod Pieces
 pub mod Reads
 pub mod FromStream

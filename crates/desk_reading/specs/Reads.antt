@@ -9,9 +9,8 @@ use Rattle.base_lists.specs.Buffers.{over}
 use Rattle.base_lists.specs.Over.{take-over}
 use Rattle.base_lists.specs.Below.{Below}
 use Rattle.line_layout.specs.declared.Layout.{Layout}
-use Rattle.read_stretch.specs.Stretches.{span, bytesAt, nextStretch}
+use Rattle.read_stretch.specs.Stretches.{span, bytesAt}
 use Rattle.read_stretch.specs.Meaning.{Stretch}
-use Rattle.read_stretch.specs.Places.{stretch-next}
 use Rattle.frame_spec.specs.Told.{Told, told}
 use Rattle.read_spec.specs.Judged.{Judged, line, numberIn}
 use Rattle.read_spec.specs.Ceiling.{allWork}
@@ -20,19 +19,18 @@ use Rattle.read_readings.specs.Joined.{Piece, Fit, Fits, joined, piecesRead}
 use Rattle.read_call.specs.Answers.{judgedWithin}
 use Rattle.demand_reading.specs.Promises.{Seen, Run}
 use Rattle.demand_reading.specs.Whole.{WholeRun}
-use Rattle.demand_joined.specs.Bytes.{next-bytes}
 use Rattle.demand_joined.specs.Seeing.{seenOf, theEnd, seenTo}
 use Rattle.demand_joined.specs.Stretches.{stretches-read}
 use Rattle.index_spec.specs.Updating.{judgedAll}
 use Rattle.index_spec.specs.Cases.{Takes}
 use Rattle.index_reading.specs.Promises.{asking}
-use Rattle.index_reading.specs.Runs.{all-judged}
 use Rattle.desk_spec.specs.declared.Answer.{Answer}
 use Rattle.desk_spec.specs.declared.Answer.the-variants as answer-is
 use Rattle.desk_spec.specs.Desk.{placeOf, closingOf, chosen, newStream, outOf, lengthOf}
 use Rattle.desk_spec.specs.Chosen.{LineAt, closing-line}
 use Rattle.desk_reading.specs.Promises.{Desks, Done, written, ItemLine, AllLines, givenSeen, movedTo, behind, movedAll}
 use Rattle.desk_reading.specs.Done.{DoneWhen, desk-done, line-closes}
+use Rattle.desk_reading.specs.Lines.{judged-same}
 use Rattle.desk_reading.specs.Pieces.{stretch-long, stretch-free, piece, joined-new, chosenRead, pieces-read}
 
 -- with so many calls of the permutation allowed that every stretch has all the work it takes
@@ -69,9 +67,7 @@ module _ (key font : List ℕ) (editions a : ℕ) (lay : Layout) (s table : List
 
     -- a run judges its bytes as with all the work allowed
     pub chosen-judged : judge (bytesAt s (span place closing)) ≡ judgedAll t editions (bytesAt s (span place closing))
-    chosen-judged =
-        let e = next-bytes s (place - 1) (span place closing) (stretch-next s place closing (item-line .stretch-is)) in
-        ap judge (sym e) ∙ all-judged key font editions a lay s (w .sizes) (w .short) bytes all (place - 1) ∙ ap (judgedAll t editions) e
+    chosen-judged = judged-same key font editions a lay s table count bytes all w place closing (item-line .stretch-is)
 
     -- it is a line
     pub chosen-line : givenSeen t editions s table i .number ≡ 0
