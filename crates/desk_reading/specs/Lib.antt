@@ -7,3 +7,4 @@ pub mod FromStream
 pub mod Few
 pub mod Built
 pub mod Contracts
+pub mod Instance

@@ -86,32 +86,39 @@ module _ (judge : List ℕ → Judged) (s : List ℕ) where
   seen-right n (r ∷ l) x [] after v e d = (r, x .0, sym (head-eq-of-cons-eq e))
   seen-right n (r ∷ l) x (b ∷ before) after v e d = seen-right n l (x .1) before after v (tail-eq-of-cons-eq e) d
 
-module _ (key digest : List ℕ) (editions a : ℕ) (lay : Layout) (s table : List ℕ) (count : ℕ) (bytes : Below 256 s) (all : allWork ≤ a)
-    (w : Takes (told key digest lay) s table count) where
+module _ (key digest : List ℕ) (editions a : ℕ) (lay : Layout) (s table : List ℕ) (count : ℕ) (w : Takes (told key digest lay) s table count) where
   abbrev t : Told
   t = told key digest lay
 
-  -- a run judges a stretch as with all the work allowed
-  pub judged-same : (p c : ℕ) → Stretch s p c
-      → judgedWithin t (asking editions a lay) (bytesAt s (span p c)) ≡ judgedAll t editions (bytesAt s (span p c))
-  judged-same p c x =
-      let e = next-bytes s (p - 1) (span p c) (stretch-next s p c x) in
-      ap (judgedWithin t (asking editions a lay)) (sym e) ∙ all-judged key digest editions a lay s (w .sizes) (w .short) bytes all (p - 1)
-      ∙ ap (judgedAll t editions) e
+  -- how a run judges
+  abbrev judge : List ℕ → Judged
+  judge = judgedWithin t (asking editions a lay)
 
-  pub line-chosen : (u : WholeRun key digest (asking editions a lay) s) (before after : List Seen) (v : Seen) → u .seen ≡ before ++ (v ∷ after)
+  -- the same as with all the work allowed
+  pub judged-same : Below 256 s → allWork ≤ a → (p c : ℕ) → Stretch s p c → judge (bytesAt s (span p c)) ≡ judgedAll t editions (bytesAt s (span p c))
+  judged-same bytes all p c x =
+      let e = next-bytes s (p - 1) (span p c) (stretch-next s p c x) in
+      ap judge (sym e) ∙ all-judged key digest editions a lay s (w .sizes) (w .short) bytes all (p - 1) ∙ ap (judgedAll t editions) e
+
+  -- where a run judges so
+  pub line-chosen-so : ((p c : ℕ) → Stretch s p c → judge (bytesAt s (span p c)) ≡ judgedAll t editions (bytesAt s (span p c)))
+      → (u : WholeRun key digest (asking editions a lay) s) (before after : List Seen) (v : Seen) → u .seen ≡ before ++ (v ∷ after)
       → v .ended ≡ false → v .number ≡ 0 → (i : ℕ) → i < count → placeOf table i ≡ v .first → ItemLine t editions s table count i
-  line-chosen u before after v e d z i b at =
-      let judge = judgedWithin t (asking editions a lay) in
+  line-chosen-so same u before after v e d z i b at =
       let (r, x, is) = seen-right judge s (length s) (readings judge s 0) (all-right judge s) before after v
       (sym (run-readings key digest (asking editions a lay) s (w .sizes) (w .short) 0 (omega arith) (u .run) (u .ended)) ∙ e) d in
       let p = r .place .first in
       let c = r .place .closing in
       let number : numberIn (judgedAll t editions (bytesAt s (span p c))) ≡ 0 =
-      ap numberIn (sym (judged-same p c (x .stretch)) ∙ sym (x .judged-is)) ∙ sym (ap (λ (y : Seen). y .number) is) ∙ z in
+      ap numberIn (sym (same p c (x .stretch)) ∙ sym (x .judged-is)) ∙ sym (ap (λ (y : Seen). y .number) is) ∙ z in
       let place : p ≡ placeOf table i = sym (at ∙ ap (λ (y : Seen). y .first) is) in
       record {
         below = b;
         closing = c;
         there = subst (λ (k : ℕ). LineAt t editions s k c) place (line-at t editions s p c (x .stretch) number);
       }
+
+  pub line-chosen : Below 256 s → allWork ≤ a → (u : WholeRun key digest (asking editions a lay) s) (before after : List Seen) (v : Seen)
+      → u .seen ≡ before ++ (v ∷ after) → v .ended ≡ false → v .number ≡ 0 → (i : ℕ) → i < count → placeOf table i ≡ v .first
+      → ItemLine t editions s table count i
+  line-chosen bytes all = line-chosen-so (judged-same bytes all)

@@ -67,7 +67,7 @@ module _ (key font : List ℕ) (editions a : ℕ) (lay : Layout) (s table : List
 
     -- a run judges its bytes as with all the work allowed
     pub chosen-judged : judge (bytesAt s (span place closing)) ≡ judgedAll t editions (bytesAt s (span place closing))
-    chosen-judged = judged-same key font editions a lay s table count bytes all w place closing (item-line .stretch-is)
+    chosen-judged = judged-same key font editions a lay s table count w bytes all place closing (item-line .stretch-is)
 
     -- it is a line
     pub chosen-line : givenSeen t editions s table i .number ≡ 0
