@@ -67,7 +67,12 @@ module _ (key digest : List ℕ) (editions : ℕ) (lay : Layout) (s table : List
       let p = placeOf table i in (
         λ y.
             let same : x .closing ≡ y .closing =
-            omega (arith, stretch-closing s p (x .closing) (y .closing) (x .stretch) (y .there .stretch-is), stretch-closing s p (y .closing) (x .closing) (y .there .stretch-is) (x .stretch)) in
+            omega (
+              arith,
+              stretch-closing s p (x .closing) (y .closing) (x .stretch) (y .there .stretch-is),
+              stretch-closing s p (y .closing) (x .closing)
+                  (y .there .stretch-is) (x .stretch),
+            ) in
             x .number-is ∙ ap (λ (c : ℕ). numberIn (judgedAll t editions (bytesAt s (span p c)))) same ∙ ap numberIn (y .there .judged),
         λ z. record { below = h; closing = x .closing; there = line-at t editions s p (x .closing) (x .stretch) (sym (x .number-is) ∙ z) },
       )

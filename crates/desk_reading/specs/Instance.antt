@@ -43,7 +43,8 @@ takes = record {
 first-line : ItemLine t editions s table 1 0
 first-line =
     let u = whole-run key font asked s sizes pairs-within in
-    line-chosen-so key font editions allWork Neither s table 1 takes (λ p c x. refl) u [] _ (lineAt 0 frameOne) (instance-read .is) refl refl 0 (omega arith) refl
+    line-chosen-so key font editions allWork Neither s table 1 takes (λ p c x. refl) u [] _ (lineAt 0 frameOne) (instance-read .is) refl refl 0 (omega arith)
+    refl
 
 there : LineAt t editions s (placeOf table 0) (closingOf t editions s (placeOf table 0))
 there = closing-line t editions sizes s pairs-within (placeOf table 0) (line-closes t editions s table 1 takes 0 first-line)
