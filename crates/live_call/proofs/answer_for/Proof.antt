@@ -10,8 +10,10 @@ no-reading-requires : tie.Need-no-reading-requires
 no-reading-requires c κs = search needs
 
 returns : tie.Need-returns
-returns c = let a = c .before .before .before .before .before .before .before .args in waiting (told (a .key .now) (a .font .now) (a .asked .layout))
-    (a .asked) (a .taking) (a .window .now) (a .line .now) (c .before .if1 .taken) _ (c .no-reading .ensures)
+returns c =
+    let a = c .before .before .before .before .before .before .before .args in
+    waiting (told (a .key .now) (a .font .now) (a .asked .layout)) (a .asked) (a .taking) (a .window .now) (a .line .now) (c .before .if1 .taken) _
+    (c .no-reading .ensures)
 
 read-closed-requires : tie.Need-read-closed-requires
 read-closed-requires c κs = search needs
@@ -20,8 +22,9 @@ same-length : tie.Need-same-length
 same-length c = search needs
 
 returns-2 : tie.Need-returns-2
-returns-2 c = let a = c .before .before .before .before .before .before .before .before .before .before .before .args in reading
-    (told (a .key .now) (a .font .now) (a .asked .layout)) (a .asked) (a .taking) (a .window .now) (a .line .now)
+returns-2 c =
+    let a = c .before .before .before .before .before .before .before .before .before .before .before .args in
+    reading (told (a .key .now) (a .font .now) (a .asked .layout)) (a .asked) (a .taking) (a .window .now) (a .line .now)
     (c .before .before .before .before .before .if1 .left) _ (c .before .before .before .read-closed .ensures .0) _
     (c .before .before .before .read-closed .ensures .1)
 

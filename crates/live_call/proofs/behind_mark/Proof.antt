@@ -15,7 +15,9 @@ first-mark-requires c κs = search needs
 
 returns : tie.Need-returns
 unfolding behindMark
-returns c = let n = c .before .before .args .n in ap (λ (m : ℕ). numbers (n .received + 1) 1 m (n .received + 1)) (c .first-mark .ensures)
+returns c =
+    let n = c .before .before .args .n in
+    ap (λ (m : ℕ). numbers (n .received + 1) 1 m (n .received + 1)) (c .first-mark .ensures)
 
 pub behind-mark-spec : {M : Type 1} → statement M
 behind-mark-spec = tie.close (tie.spec add-next first-mark-requires returns)

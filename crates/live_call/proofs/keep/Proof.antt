@@ -6,7 +6,9 @@ use Rattle.live_call.proofs.keep.Statement.{statement}
 use Rattle.live_call.proofs.keep.Tie as tie
 
 returns : tie.Need-returns
-returns c = let a = c .before .before .args in kept-none (a .n) (a .window .now) (a .byte) (c .if1 .taken)
+returns c =
+    let a = c .before .before .args in
+    kept-none (a .n) (a .window .now) (a .byte) (c .if1 .taken)
 
 sub-held : tie.Need-sub-held
 sub-held c = search needs
@@ -18,10 +20,14 @@ same-length : tie.Need-same-length
 same-length c = search needs
 
 returns-2 : tie.Need-returns-2
-returns-2 c = let a = c .before .before .before .before .args in kept-room (a .n) (a .window .now) (a .byte) (c .before .before .if1 .left) (c .if2 .taken)
+returns-2 c =
+    let a = c .before .before .before .before .args in
+    kept-room (a .n) (a .window .now) (a .byte) (c .before .before .if1 .left) (c .if2 .taken)
 
 returns-3 : tie.Need-returns-3
-returns-3 c = let a = c .before .before .before .before .args in kept-full (a .n) (a .window .now) (a .byte) (c .before .before .if1 .left) (c .if2 .left)
+returns-3 c =
+    let a = c .before .before .before .before .args in
+    kept-full (a .n) (a .window .now) (a .byte) (c .before .before .if1 .left) (c .if2 .left)
 
 pub keep-spec : {M : Type 1} → statement M
 keep-spec =

@@ -17,12 +17,10 @@ over-long-requires : tie.Need-over-long-requires
 over-long-requires c κs = search needs
 
 returns : tie.Need-returns
-returns c = let a = c .before .before .before .before .before .before .args in let e = over-long-is (told (a .key .now) (a .font .now) (a .asked .layout))
-    (a .asked) (a .window .now) (a .first) (a .closing) (c .before .if1 .taken) in (
-      c .over-long .ensures ∙ ap readOf (sym e),
-      ap
-          (λ (j : Judged). lineOver j (a .line .now)) (sym e),
-    )
+returns c =
+    let a = c .before .before .before .before .before .before .args in
+    let e = over-long-is (told (a .key .now) (a .font .now) (a .asked .layout)) (a .asked) (a .window .now) (a .first) (a .closing) (c .before .if1 .taken) in
+    (c .over-long .ensures ∙ ap readOf (sym e), ap (λ (j : Judged). lineOver j (a .line .now)) (sym e))
 
 sub-read-kept : tie.Need-sub-read-kept
 sub-read-kept c = search needs
@@ -40,12 +38,10 @@ same-length : tie.Need-same-length
 same-length c = search needs
 
 returns-2 : tie.Need-returns-2
-returns-2 c = let a = c .before .before .before .before .before .before .before .before .before .before .args in let e = kept-is
-    (told (a .key .now) (a .font .now) (a .asked .layout)) (a .asked) (a .window .now) (a .first) (a .closing)
-    (c .before .before .before .before .before .if1 .left) in (
-      c .before .before .read-kept .ensures .0 ∙ ap readOf (sym e),
-      c .before .before .read-kept .ensures .1 ∙ ap (λ (j : Judged). lineOver j (a .line .now)) (sym e),
-    )
+returns-2 c =
+    let a = c .before .before .before .before .before .before .before .before .before .before .args in
+    let e = kept-is (told (a .key .now) (a .font .now) (a .asked .layout)) (a .asked) (a .window .now) (a .first) (a .closing) (c .before .before .before .before .before .if1 .left) in
+    (c .before .before .read-kept .ensures .0 ∙ ap readOf (sym e), c .before .before .read-kept .ensures .1 ∙ ap (λ (j : Judged). lineOver j (a .line .now)) (sym e))
 
 pub read-closed-spec : {M : Type 1} → statement M
 read-closed-spec =

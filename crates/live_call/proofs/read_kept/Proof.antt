@@ -16,8 +16,10 @@ same-length : tie.Need-same-length
 same-length c = search needs
 
 returns : tie.Need-returns
-returns c = let s = c .before .before .before .before .before .before .before .before .before in let a = s .args in read-is
-    (told (a .key .now) (a .font .now) (a .asked .layout)) (a .asked) (a .stretch .now) (a .line .now) (s .pre .0) (s .pre .1) _
+returns c =
+    let s = c .before .before .before .before .before .before .before .before .before in
+    let a = s .args in
+    read-is (told (a .key .now) (a .font .now) (a .asked .layout)) (a .asked) (a .stretch .now) (a .line .now) (s .pre .0) (s .pre .1) _
     (c .before .before .before .judge .ensures .0) _ (c .nonce-given .ensures) _ (c .before .before .before .judge .ensures .1)
 
 pub read-kept-spec : {M : Type 1} → statement M

@@ -16,7 +16,9 @@ abbrev μ-loop : tie.MeasureT-loop
 μ-loop window₀ piece seen₀ i₀ window seen i = length piece - i
 
 loop-holds : tie.Need-loop-holds Inv-loop μ-loop
-loop-holds c = let s = c .before .before in going-none (s .args .n) (s .args .window .now) (s .args .piece .now) (s .pre .0) (s .pre .1 .0) (s .pre .1 .1)
+loop-holds c =
+    let s = c .before .before in
+    going-none (s .args .n) (s .args .window .now) (s .args .piece .now) (s .pre .0) (s .pre .1 .0) (s .pre .1 .1)
 
 shared-slice-read-byte : tie.Need-shared-slice-read-byte Inv-loop μ-loop
 shared-slice-read-byte c = search needs

@@ -12,10 +12,14 @@ wrapping-add-u64-requires-2 : tie.Need-wrapping-add-u64-requires-2
 wrapping-add-u64-requires-2 c κs = search needs
 
 returns : tie.Need-returns
-returns c = let a = c .before .before .args in line-counted (a .press) (a .numbers) (a .number) (c .before .if1 .taken) (c .wrapping-add-u64 .ensures)
+returns c =
+    let a = c .before .before .args in
+    line-counted (a .press) (a .numbers) (a .number) (c .before .if1 .taken) (c .wrapping-add-u64 .ensures)
 
 returns-2 : tie.Need-returns-2
-returns-2 c = let a = c .before .before .args in refusal-counted (a .press) (a .numbers) (a .number) (c .before .if1 .left) (c .wrapping-add-u642 .ensures)
+returns-2 c =
+    let a = c .before .before .args in
+    refusal-counted (a .press) (a .numbers) (a .number) (c .before .if1 .left) (c .wrapping-add-u642 .ensures)
 
 pub count-spec : {M : Type 1} → statement M
 count-spec =

@@ -13,8 +13,9 @@ without-row-requires : tie.Need-without-row-requires
 without-row-requires c κs = search needs
 
 returns : tie.Need-returns
-returns c = let a = c .before .before .before .before .before .before .args in no-row (a .press) (a .step) (a .line .now) (a .out .now) _
-    (c .before .enum-told .given .1) refl _ (c .without-row .ensures)
+returns c =
+    let a = c .before .before .before .before .before .before .args in
+    no-row (a .press) (a .step) (a .line .now) (a .out .now) _ (c .before .enum-told .given .1) refl _ (c .without-row .ensures)
 
 enum-told-2 : tie.Need-enum-told-2
 enum-told-2 c = search needs
@@ -23,8 +24,9 @@ without-row-requires-2 : tie.Need-without-row-requires-2
 without-row-requires-2 c κs = search needs
 
 returns-2 : tie.Need-returns-2
-returns-2 c = let a = c .before .before .before .before .before .before .args in no-row (a .press) (a .step) (a .line .now) (a .out .now) _
-    (c .before .enum-told2 .given .1) refl _ (c .without-row2 .ensures)
+returns-2 c =
+    let a = c .before .before .before .before .before .before .args in
+    no-row (a .press) (a .step) (a .line .now) (a .out .now) _ (c .before .enum-told2 .given .1) refl _ (c .without-row2 .ensures)
 
 enum-told-3 : tie.Need-enum-told-3
 enum-told-3 c = search needs
@@ -33,8 +35,9 @@ without-row-requires-3 : tie.Need-without-row-requires-3
 without-row-requires-3 c κs = search needs
 
 returns-3 : tie.Need-returns-3
-returns-3 c = let a = c .before .before .before .before .before .before .args in no-row (a .press) (a .step) (a .line .now) (a .out .now) _
-    (c .before .enum-told3 .given .1) refl _ (c .without-row3 .ensures)
+returns-3 c =
+    let a = c .before .before .before .before .before .before .args in
+    no-row (a .press) (a .step) (a .line .now) (a .out .now) _ (c .before .enum-told3 .given .1) refl _ (c .without-row3 .ensures)
 
 enum-told-4 : tie.Need-enum-told-4
 enum-told-4 c = search needs
@@ -43,8 +46,9 @@ without-row-requires-4 : tie.Need-without-row-requires-4
 without-row-requires-4 c κs = search needs
 
 returns-4 : tie.Need-returns-4
-returns-4 c = let a = c .before .before .before .before .before .before .args in no-row (a .press) (a .step) (a .line .now) (a .out .now) _
-    (c .before .enum-told4 .given .1) refl _ (c .without-row4 .ensures)
+returns-4 c =
+    let a = c .before .before .before .before .before .before .args in
+    no-row (a .press) (a .step) (a .line .now) (a .out .now) _ (c .before .enum-told4 .given .1) refl _ (c .without-row4 .ensures)
 
 enum-told-5 : tie.Need-enum-told-5
 enum-told-5 c = search needs
@@ -53,8 +57,9 @@ without-row-requires-5 : tie.Need-without-row-requires-5
 without-row-requires-5 c κs = search needs
 
 returns-5 : tie.Need-returns-5
-returns-5 c = let a = c .before .before .before .before .before .before .args in no-row (a .press) (a .step) (a .line .now) (a .out .now) _
-    (c .before .enum-told5 .given .1) refl _ (c .without-row5 .ensures)
+returns-5 c =
+    let a = c .before .before .before .before .before .before .args in
+    no-row (a .press) (a .step) (a .line .now) (a .out .now) _ (c .before .enum-told5 .given .1) refl _ (c .without-row5 .ensures)
 
 enum-known-answer : tie.Need-enum-known-answer
 enum-known-answer c = search needs
@@ -72,8 +77,9 @@ part-put-row-start : tie.Need-part-put-row-start
 part-put-row-start c = search needs
 
 part-put-row-end : tie.Need-part-put-row-end
-part-put-row-end c = let s = c .before .before .before .before .before .before .before .before in its-part (s .args .step) (s .args .line .now) _
-    (c .before .before .before .answer .given .1) (s .pre .0 .0) _ (c .read-length .ensures)
+part-put-row-end c =
+    let s = c .before .before .before .before .before .before .before .before in
+    its-part (s .args .step) (s .args .line .now) _ (c .before .before .before .answer .given .1) (s .pre .0 .0) _ (c .read-length .ensures)
 
 put-row-requires : tie.Need-put-row-requires
 put-row-requires c κs = search needs
@@ -88,8 +94,10 @@ same-length : tie.Need-same-length
 same-length c = search needs
 
 returns-6 : tie.Need-returns-6
-returns-6 c = let s = c .before .before .before .before .before .before .before .before .before .before .before .before .before .before .before in let a =
-    s .args in one-row (a .press) (a .step) (a .line .now) (a .out .now) _
+returns-6 c =
+    let s = c .before .before .before .before .before .before .before .before .before .before .before .before .before .before .before in
+    let a = s .args in
+    one-row (a .press) (a .step) (a .line .now) (a .out .now) _
     (c .before .before .before .before .before .before .before .before .before .before .answer .given .1) (s .pre .0 .0) (s .pre .0 .1) (s .pre .1) _
     (c .before .before .before .before .before .before .before .before .read-number .ensures) _
     (c .before .before .before .before .before .before .before .read-length .ensures) _ (c .before .before .before .before .put-row .ensures .0) _
