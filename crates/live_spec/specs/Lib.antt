@@ -4,3 +4,4 @@ pub mod Ends
 pub mod Marks
 pub mod After
 pub mod Pieces
+pub mod Sample
