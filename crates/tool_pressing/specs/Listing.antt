@@ -16,7 +16,7 @@ use Rattle.read_spec.specs.Editions.{oneAlone}
 use Rattle.read_spec.specs.Sizes.{Sizes}
 use Rattle.read_readings.specs.Readings.{Reading, reading, ends, readings}
 use Rattle.tool_row.specs.Rows.{rowRoom, lastRowText}
-use Rattle.tool_listing.specs.Listing.{readingRow, numberOf, zerosIn, othersIn, joined, listingOf, allAsked, listing}
+use Rattle.tool_listing.specs.Listing.{readingRow, rowNumber, zerosIn, othersIn, joined, listingOf, allAsked, listing}
 use Rattle.live_spec.specs.Taking.{Taken, takenIn}
 use Rattle.live_spec.specs.Steps.{mostBytes, judgedIn}
 use Rattle.live_spec.specs.After.{After, after-none, read-all}
@@ -73,8 +73,8 @@ joined-both (r ∷ x) y = ap (λ (l : List ℕ). r ++ l) (joined-both x y) ∙ s
 -- after the bytes s this is how far the listing is, and g was read of them: at most one reading for a byte
 record Sofar (key digest : List ℕ) (s : List ℕ) (c : Press) (w : List ℕ) (g : List Reading) : Type 0 where
   after : After (its (told key digest Neither) (allAsked oneAlone Neither)) s (c .numbers) w g
-  lines-are : c .lines ≡ zerosIn (map numberOf g)
-  refused-are : c .refused ≡ othersIn (map numberOf g)
+  lines-are : c .lines ≡ zerosIn (map rowNumber g)
+  refused-are : c .refused ≡ othersIn (map rowNumber g)
   few : length g ≤ length s
 
 module _ (key digest : List ℕ) (z : Sizes (told key digest Neither)) where
@@ -91,9 +91,10 @@ module _ (key digest : List ℕ) (z : Sizes (told key digest Neither)) where
 
   module _ {s : List ℕ} {c : Press} {w : List ℕ} {g : List Reading} (f : Sofar key digest s c w g) where
     counts : c .lines + c .refused ≤ length s
-    counts = omega (arith, f .lines-are, f .refused-are, f .few, all-counted (map numberOf g), length-map g numberOf)
+    counts = omega (arith, f .lines-are, f .refused-are, f .few, all-counted (map rowNumber g), length-map g rowNumber)
 
-    module _ (p o : List ℕ) (r : Turn) (w′ o′ : List ℕ) (some : 0 < length p) (h : length s + length p ≤ mostBytes) (room : rowRoom ≤ length o) (x : Presses key digest c w p o r w′ o′) where
+    module _ (p o : List ℕ) (r : Turn) (w′ o′ : List ℕ) (some : 0 < length p) (h : length s + length p ≤ mostBytes) (room : rowRoom ≤ length o)
+        (x : Presses key digest c w p o r w′ o′) where
       done : Turned c (takenIn (c .numbers) w p) (new c w p) r w′ o′
       done = turned key digest z (f .after) (omega (arith, counts, some, h)) (omega (arith, counts, some, h)) p o r w′ o′ h room x
 
@@ -108,10 +109,10 @@ module _ (key digest : List ℕ) (z : Sizes (told key digest Neither)) where
         after = rw (numbers-are, done .took-is, done .window-is) (taken .after);
         lines-are =
             ap (λ (y : Press). y .lines) (done .press-is)
-            ∙ rw (f .lines-are, map-append numberOf g (new c w p)) (sym (zeros-both (map numberOf g) (map numberOf (new c w p))));
+            ∙ rw (f .lines-are, map-append rowNumber g (new c w p)) (sym (zeros-both (map rowNumber g) (map rowNumber (new c w p))));
         refused-are =
             ap (λ (y : Press). y .refused) (done .press-is)
-            ∙ rw (f .refused-are, map-append numberOf g (new c w p)) (sym (others-both (map numberOf g) (map numberOf (new c w p))));
+            ∙ rw (f .refused-are, map-append rowNumber g (new c w p)) (sym (others-both (map rowNumber g) (map rowNumber (new c w p))));
         few = rw (done .took-is)
             (omega (
               arith,
@@ -130,7 +131,8 @@ module _ (key digest : List ℕ) (z : Sizes (told key digest Neither)) where
           ∙ joined-both (map readingRow g) (map readingRow (new c w p))
           ∙ ap (λ (y : List ℕ). joined (map readingRow g) ++ y) (sym (done .rows-are))
 
-  listed : {ps : List (List ℕ)} {s : List ℕ} {c d : Press} {w : List ℕ} {g : List Reading} {out : List ℕ} → Sofar key digest s c w g → Run key digest c w ps out d
+  listed : {ps : List (List ℕ)} {s : List ℕ} {c d : Press} {w : List ℕ} {g : List Reading} {out : List ℕ} → Sofar key digest s c w g
+      → Run key digest c w ps out d
       → length s + length (whole ps) ≤ mostBytes
       → joined (map readingRow g) ++ out ++ lastRowText (d .lines) (d .refused) ≡ listing (told key digest Neither) oneAlone (s ++ whole ps)
   unfolding listingOf

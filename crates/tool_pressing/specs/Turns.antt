@@ -23,7 +23,7 @@ use Rattle.read_call.specs.Answers as read-answers
 use Rattle.read_call.specs.Answers.{answerOf, lineOver, lengthOf}
 use Rattle.demand_reading.specs.GivenWritten.{told-sized}
 use Rattle.tool_row.specs.Rows.{rowText, rowRoom}
-use Rattle.tool_listing.specs.Listing.{readingRow, numberOf, zerosIn, othersIn, joined, allAsked}
+use Rattle.tool_listing.specs.Listing.{readingRow, rowNumber, zerosIn, othersIn, joined, allAsked}
 use Rattle.tool_listing.specs.Steps.{oneMore}
 use Rattle.live_spec.specs.declared.Numbers.{Numbers}
 use Rattle.live_spec.specs.Taking.{Taken, takenIn}
@@ -48,7 +48,7 @@ written r o′ = take (pressedLength (r .answer)) o′
 small : (n : ℕ) → n < mostBytes → oneMore n ≡ n + 1
 small n h = mod-eq-of-lt (omega arith)
 
-number-is : (j : Judged) → read-answers.numberOf (answerOf j) ≡ numberIn j
+number-is : (j : Judged) → read-answers.answerNumber (answerOf j) ≡ numberIn j
 number-is shape = refl
 number-is stuffing = refl
 number-is font = refl
@@ -72,9 +72,9 @@ line-is (line frame x n) l = take-over x l (length x) refl
 
 -- the counts of one row more
 one-counted : (c : Press) (n : Numbers) (r : Reading) → c .lines < mostBytes → c .refused < mostBytes
-    → counted c n (numberOf r) ≡ pressAt n (c .lines + zerosIn (numberOf r ∷ [])) (c .refused + othersIn (numberOf r ∷ []))
+    → counted c n (rowNumber r) ≡ pressAt n (c .lines + zerosIn (rowNumber r ∷ [])) (c .refused + othersIn (rowNumber r ∷ []))
 unfolding counted zerosIn othersIn
-one-counted c n r a b = go (eqb (numberOf r) 0)
+one-counted c n r a b = go (eqb (rowNumber r) 0)
   where
     go : (x : Bool) → cond x (pressAt n (oneMore (c .lines)) (c .refused)) (pressAt n (c .lines) (oneMore (c .refused)))
         ≡ pressAt n (c .lines + cond x 1 0) (c .refused + cond x 0 1)
@@ -83,7 +83,7 @@ one-counted c n r a b = go (eqb (numberOf r) 0)
 
 -- what a call comes to, with these readings new
 pub record Turned (c : Press) (k : Taken) (new : List Reading) (r : Turn) (w′ o′ : List ℕ) : Type 0 where
-  pub press-is : r .press ≡ pressAt (k .behind) (c .lines + zerosIn (map numberOf new)) (c .refused + othersIn (map numberOf new))
+  pub press-is : r .press ≡ pressAt (k .behind) (c .lines + zerosIn (map rowNumber new)) (c .refused + othersIn (map rowNumber new))
   pub took-is : r .took ≡ k .took
   pub window-is : w′ ≡ k .window
   pub rows-are : written r o′ ≡ joined (map readingRow new)
@@ -96,7 +96,7 @@ module _ (c : Press) (w o l : List ℕ) (k : Taken) (j : Judged) (a : c .lines <
   new x = cond x [] (reading (k .place) j ∷ [])
 
   abbrev row : List ℕ
-  row = rowText (k .place .first) (read-answers.numberOf (answerOf j)) (take (lengthOf (answerOf j)) (lineOver j l))
+  row = rowText (k .place .first) (read-answers.answerNumber (answerOf j)) (take (lengthOf (answerOf j)) (lineOver j l))
 
   row-is : row ≡ readingRow (reading (k .place) j)
   row-is = ap₂ (rowText (k .place .first)) (number-is j) (line-is j l)
@@ -122,7 +122,8 @@ module _ (key digest : List ℕ) (z : Sizes (told key digest Neither)) where
   abbrev pub asked : Asked
   asked = allAsked oneAlone Neither
 
-  module _ {s : List ℕ} {c : Press} {w : List ℕ} {g : List Reading} (x : After (its t asked) s (c .numbers) w g) (a : c .lines < mostBytes) (b : c .refused < mostBytes) where
+  module _ {s : List ℕ} {c : Press} {w : List ℕ} {g : List Reading} (x : After (its t asked) s (c .numbers) w g) (a : c .lines < mostBytes)
+      (b : c .refused < mostBytes) where
     pub turned : (p o : List ℕ) (r : Turn) (w′ o′ : List ℕ) → length s + length p ≤ mostBytes → rowRoom ≤ length o
         → Presses key digest c w p o r w′ o′ → Turned c (takenIn (c .numbers) w p) (newOf t asked (takenIn (c .numbers) w p)) r w′ o′
     unfolding found pressed pressWindow pressRow

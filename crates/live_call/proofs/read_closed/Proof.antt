@@ -40,8 +40,12 @@ same-length c = search needs
 returns-2 : tie.Need-returns-2
 returns-2 c =
     let a = c .before .before .before .before .before .before .before .before .before .before .args in
-    let e = kept-is (told (a .key .now) (a .font .now) (a .asked .layout)) (a .asked) (a .window .now) (a .first) (a .closing) (c .before .before .before .before .before .if1 .left) in
-    (c .before .before .read-kept .ensures .0 ∙ ap readOf (sym e), c .before .before .read-kept .ensures .1 ∙ ap (λ (j : Judged). lineOver j (a .line .now)) (sym e))
+    let e = kept-is (told (a .key .now) (a .font .now) (a .asked .layout)) (a .asked) (a .window .now) (a .first) (a .closing)
+    (c .before .before .before .before .before .if1 .left) in (
+      c .before .before .read-kept .ensures .0 ∙ ap readOf (sym e),
+      c .before .before .read-kept .ensures .1 ∙ ap (λ (j : Judged). lineOver j (a .line .now))
+          (sym e),
+    )
 
 pub read-closed-spec : {M : Type 1} → statement M
 read-closed-spec =

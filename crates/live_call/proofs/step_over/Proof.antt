@@ -58,14 +58,21 @@ returns-5 : tie.Need-returns-5
 returns-5 c =
     let a = c .before .before .before .before .before .before .before .before .before .before .before .before .before .args in
     no-room (a .key .now) (a .font .now) (a .asked) (a .numbers) (a .window .now) (a .piece .now) (a .line .now)
-    (said-yes (a .numbers) (c .before .before .before .before .before .before .before .is-possible .ensures) (c .before .before .before .before .before .before .if1 .left))
+    (said-yes (a .numbers) (c .before .before .before .before .before .before .before .is-possible .ensures)
+    (c .before .before .before .before .before .before .if1 .left))
     (c .before .before .before .before .before .if2 .left) (c .before .before .before .before .if3 .left) (omega (arith, c .before .before .if4 .left))
     (c .before .if5 .taken) _ (c .no-reading5 .ensures)
 
 take-in-requires : tie.Need-take-in-requires
 take-in-requires c κs =
-    let a = c .before .before .before .before .before .before .before .before .before .before .before .before .before .args in
-    (c .before .before .before .before .before .before .before .before .before .before .before .before .before .pre, ((said-yes (a .numbers) (c .before .before .before .before .before .before .before .is-possible .ensures) (c .before .before .before .before .before .before .if1 .left)), omega (arith, c .before .before .if4 .left)))
+    let a = c .before .before .before .before .before .before .before .before .before .before .before .before .before .args in (
+      c .before .before .before .before .before .before .before .before .before .before .before .before .before .pre,
+      (
+        (said-yes (a .numbers) (c .before .before .before .before .before .before .before .is-possible .ensures)
+            (c .before .before .before .before .before .before .if1 .left)),
+        omega (arith, c .before .before .if4 .left),
+      ),
+    )
 
 answer-for-requires : tie.Need-answer-for-requires
 answer-for-requires c κs =
@@ -80,9 +87,11 @@ same-length-2 c = search needs
 
 returns-6 : tie.Need-returns-6
 returns-6 c =
-    let a = c .before .before .before .before .before .before .before .before .before .before .before .before .before .before .before .before .before .before .before .before .before .args in
+    let a = c .before .before .before .before .before .before .before .before .before .before .before .before .before .before .before .before .before .before
+    .before .before .before .args in
     done (a .key .now) (a .font .now) (a .asked) (a .numbers) (a .window .now) (a .piece .now) (a .line .now)
-    (said-yes (a .numbers) (c .before .before .before .before .before .before .before .before .before .before .before .before .before .before .before .is-possible .ensures) (c .before .before .before .before .before .before .before .before .before .before .before .before .before .before .if1 .left))
+    (said-yes (a .numbers) (c .before .before .before .before .before .before .before .before .before .before .before .before .before .before .before
+    .is-possible .ensures) (c .before .before .before .before .before .before .before .before .before .before .before .before .before .before .if1 .left))
     (c .before .before .before .before .before .before .before .before .before .before .before .before .before .if2 .left)
     (c .before .before .before .before .before .before .before .before .before .before .before .before .if3 .left)
     (omega (arith, c .before .before .before .before .before .before .before .before .before .before .if4 .left))

@@ -31,8 +31,14 @@ slice-aggregate-row-for c = search needs
 
 row-for-requires : tie.Need-row-for-requires
 row-for-requires c κs =
-    let a = c .before .before .before .before .before .before .before .before .before .before .before .before .args in
-    ((fitting (a .key .now) (a .font .now) (a .press) (a .window .now) (a .piece .now) _ (c .before .before .before .step2 .ensures .0) _ (c .before .before .before .step2 .ensures .1 .1), search needs), search needs)
+    let a = c .before .before .before .before .before .before .before .before .before .before .before .before .args in (
+      (
+        fitting (a .key .now) (a .font .now) (a .press) (a .window .now) (a .piece .now) _ (c .before .before .before .step2 .ensures .0) _
+            (c .before .before .before .step2 .ensures .1 .1),
+        search needs,
+      ),
+      search needs,
+    )
 
 same-length : tie.Need-same-length
 same-length c = search needs
