@@ -5,4 +5,8 @@ pub mod YesExactly
 pub mod FirstFault
 pub mod FramesAccepted
 pub mod NonceOfLine
+pub mod Fresh
+pub mod Growing
+pub mod Added
+pub mod Lines
 pub mod Bytes

@@ -1,6 +1,6 @@
 -- `c-nonce-of-line` (over the exported calls): where `lubdhvani_read` gives a line, `lubdhvani_nonce` finds a nonce in the bytes between its places, and it is
--- the nonce of every frame that a C write call left, answering 0, with those bytes between its marks, whatever it was written under; and a write call makes such
--- a frame. That the stream is bytes is a premise; what the call is passed meets it by its type (`c-read-bytes`). Assumes nothing.
+-- the nonce of every frame that a C write call left, answering 0, with those bytes between its marks, whatever it was written under; and a write call makes
+-- such a frame. That the stream is bytes is a premise; what the call is passed meets it by its type (`c-read-bytes`). Assumes nothing.
 use mathlib.Core.Path.{_≡_, ap, subst, _∙_}
 use mathlib.Core.List.{List}
 use Prim.Native.Nat.{ℕ}
