@@ -3,17 +3,15 @@
 //! at every distance, across editions and under every refusal, and each pair of
 //! refusals that can hold at once; then nonces of stretches.
 
-use std::fmt::Write;
-
 use super::stream::stored;
-use super::{by_rule, told};
+use super::told::{Telling, RIGHT};
+use super::{by_rule, gathered, told};
 use crate::accept::{accept, nonce};
 use crate::frame::{framed, framed_escaping, Fields, Own};
-use crate::line::{Layout, LAYOUT_A, LAYOUT_B, NEITHER};
+use crate::line::{Layout, LAYOUT_A, LAYOUT_B};
 use crate::numbers::{DIGEST, KEY, NONCE, STREAM_LIMIT, STRETCHES_MOST, STRETCH_MOST};
-use crate::reader::{Editions, BOTH, ONE, TWO};
+use crate::reader::{Editions, ONE, TWO};
 use crate::text::value;
-use crate::told::Told;
 
 pub const JOB: [u8; 4] = [0x00, 0x7e, 0x7d, 0x05];
 
@@ -29,16 +27,12 @@ enum Call {
     Nonce,
 }
 
-/// The row's name, the call, its bytes, the lengths of key and font digest, the
-/// editions and the layout.
+/// The row's name, the call, its bytes, and what it is told.
 struct Case {
     name: String,
     call: Call,
     bytes: Vec<u8>,
-    key: usize,
-    digest: usize,
-    editions: Editions,
-    layout: Layout,
+    told: Telling,
 }
 
 impl Case {
@@ -47,10 +41,7 @@ impl Case {
             name: name.to_string(),
             call: Call::Accept,
             bytes: bytes.to_vec(),
-            key: KEY,
-            digest: DIGEST,
-            editions: BOTH,
-            layout: NEITHER,
+            told: RIGHT,
         }
     }
 
@@ -61,41 +52,22 @@ impl Case {
         }
     }
 
-    fn key(self, key: usize) -> Case {
-        Case { key, ..self }
+    fn told(self, told: Telling) -> Case {
+        Case { told, ..self }
     }
 
-    fn digest(self, digest: usize) -> Case {
-        Case { digest, ..self }
-    }
-
-    fn editions(self, editions: Editions) -> Case {
-        Case { editions, ..self }
-    }
-
-    fn layout(self, layout: Layout) -> Case {
-        Case { layout, ..self }
-    }
-
-    /// The numbers are the lengths of key and font digest, the editions, the
-    /// layout and the call.
+    /// The numbers are what it is told, and the call.
     fn stored(&self) -> Vec<u8> {
-        let numbers = [
-            self.key,
-            self.digest,
-            self.editions.0 as usize,
-            self.layout.0,
-            usize::from(self.call == Call::Nonce),
-        ];
-        stored(&self.name, &self.bytes, &numbers)
+        let call = usize::from(self.call == Call::Nonce);
+        stored(&self.name, &self.bytes, &self.told.numbers(&[call]))
     }
 
     fn row(&self) -> String {
-        let (key, digest) = (told::key_of(self.key), told::digest_of(self.digest));
-        let told = Told::of(&key, &digest).under(self.layout);
         match self.call {
             Call::Accept => {
-                let answer = accept(told, self.editions, &self.bytes);
+                let answer = self
+                    .told
+                    .with(|told, editions| accept(told, editions, &self.bytes));
                 let (first, closing) = (answer.first, answer.closing);
                 format!("{} {} {} {}", self.name, answer.number, first, closing)
             }
@@ -191,9 +163,9 @@ fn good_streams() -> Vec<Case> {
         Case::accept("few", &few),
         Case::accept("few-loose", &[&b"}A"[..], &few, b"A}"].concat()),
         Case::accept("shared-marks", &shared),
-        Case::accept("one-alone", &[one(0), one(1)].concat()).editions(ONE),
-        Case::accept("two-alone", &[two(0), two(1)].concat()).editions(TWO),
-        Case::accept("other-bits", &few).editions(Editions(0xffff_fffb)),
+        Case::accept("one-alone", &[one(0), one(1)].concat()).told(RIGHT.editions(ONE)),
+        Case::accept("two-alone", &[two(0), two(1)].concat()).told(RIGHT.editions(TWO)),
+        Case::accept("other-bits", &few).told(RIGHT.editions(Editions(0xffff_fffb))),
     ]);
     // Nonces that differ in one byte only, each in its turn.
     let mut stream = one(0);
@@ -256,14 +228,14 @@ fn faults() -> Vec<Case> {
     let again = [of_a(0), of_a(0), one(0)].concat();
     for (name, layout) in [("A", LAYOUT_A), ("B", LAYOUT_B), ("3", Layout(3))] {
         let named = |what: &str| format!("layout {} {}", name, what);
-        cases.push(Case::accept(&named("last"), &stream).layout(layout));
-        cases.push(Case::accept(&named("22"), &again).layout(layout));
+        cases.push(Case::accept(&named("last"), &stream).told(RIGHT.layout(layout)));
+        cases.push(Case::accept(&named("22"), &again).told(RIGHT.layout(layout)));
     }
     // The second of a pair is of an edition that is not allowed: 7.
     let crossed = [one(0), two(0), one(0)].concat();
     for (name, editions) in [("one", ONE), ("two", TWO), ("none", Editions(4))] {
         let name = format!("editions {}", name);
-        cases.push(Case::accept(&name, &crossed).editions(editions));
+        cases.push(Case::accept(&name, &crossed).told(RIGHT.editions(editions)));
     }
     cases
 }
@@ -293,15 +265,15 @@ fn limits() -> Vec<Case> {
         Case::accept("limit 3", &long),
         Case::accept("limit 3-and-19", &long_over),
         Case::accept("limit 3-and-22", &[one(0), one(0), long.clone()].concat()),
-        Case::accept("limit 2-key", b"").key(KEY - 1),
-        Case::accept("limit 2-key-more", b"").key(KEY + 1),
-        Case::accept("limit 2-font", b"").digest(DIGEST - 1),
-        Case::accept("limit 2-font-more", b"").digest(DIGEST + 1),
-        Case::accept("limit 2-and-3", &long).key(0),
-        Case::accept("limit 2-and-19", &over).digest(0),
-        Case::accept("limit 2-and-7", b"~A~").key(KEY - 1),
-        Case::accept("limit 2-and-22", &[one(0), one(0)].concat()).key(KEY - 1),
-        Case::accept("limit 2-3-and-19", &long_over).digest(DIGEST + 1),
+        Case::accept("limit 2-key", b"").told(RIGHT.key(KEY - 1)),
+        Case::accept("limit 2-key-more", b"").told(RIGHT.key(KEY + 1)),
+        Case::accept("limit 2-font", b"").told(RIGHT.digest(DIGEST - 1)),
+        Case::accept("limit 2-font-more", b"").told(RIGHT.digest(DIGEST + 1)),
+        Case::accept("limit 2-and-3", &long).told(RIGHT.key(0)),
+        Case::accept("limit 2-and-19", &over).told(RIGHT.digest(0)),
+        Case::accept("limit 2-and-7", b"~A~").told(RIGHT.key(KEY - 1)),
+        Case::accept("limit 2-and-22", &[one(0), one(0)].concat()).told(RIGHT.key(KEY - 1)),
+        Case::accept("limit 2-3-and-19", &long_over).told(RIGHT.digest(DIGEST + 1)),
     ]
 }
 
@@ -340,14 +312,10 @@ fn nonces() -> Vec<Case> {
 
 /// The case file, and what must be printed for it.
 pub fn stdin_and_rows() -> (Vec<u8>, String) {
-    let mut stdin = Vec::new();
-    let mut rows = String::new();
     let cases = good_streams().into_iter().chain(pairs()).chain(faults());
-    for case in cases.chain(limits()).chain(nonces()) {
-        stdin.extend(case.stored());
-        writeln!(rows, "{}", case.row()).unwrap();
-    }
-    (stdin, rows)
+    gathered(cases.chain(limits()).chain(nonces()), |case| {
+        (case.stored(), case.row())
+    })
 }
 
 #[cfg(test)]

@@ -2,9 +2,7 @@
 //! written, read, digested and taken in parts, each refusal alone and in pairs,
 //! and a bundle cut, lengthened and damaged.
 
-use std::fmt::Write;
-
-use super::in_bytes;
+use super::{gathered, in_bytes};
 use crate::bundle::{self, made, plain_rows, CHARACTERS, GLYPH_ROWS, NAME_MOST, ROWS};
 use crate::numbers::{BUNDLE_ROOM, DIGEST, MESSAGE_LIMIT};
 use crate::text::value;
@@ -231,13 +229,10 @@ fn parted() -> Vec<Case> {
 
 /// The case file, and what must be printed for it.
 pub fn stdin_and_rows() -> (Vec<u8>, String) {
-    let mut stdin = Vec::new();
-    let mut rows = String::new();
     let cases = written().into_iter().chain(judged()).chain(digested());
-    for case in cases.chain(parted()) {
-        stdin.extend(case.stored());
+    gathered(cases.chain(parted()), |case| {
         let (first, second, bytes) = case.given();
-        writeln!(rows, "{} {} {} {}", case.name, first, second, value(&bytes)).unwrap();
-    }
-    (stdin, rows)
+        let row = format!("{} {} {} {}", case.name, first, second, value(&bytes));
+        (case.stored(), row)
+    })
 }

@@ -1,9 +1,7 @@
 //! `rows_seal`: one call and one row for each case of the case file, which seals,
 //! opens, writes a frame or converts a stretch.
 
-use std::fmt::Write;
-
-use super::{edition, frame, in_bytes, layout, seal};
+use super::{edition, frame, gathered, in_bytes, layout, seal};
 use crate::cipher;
 use crate::convert::convert;
 use crate::digest::digest;
@@ -133,10 +131,9 @@ impl Case {
         [head.concat(), parts.concat()].concat()
     }
 
-    fn row(&self, rows: &mut String, name: &str) {
+    fn row(&self, name: &str) -> String {
         let given = self.given();
-        writeln!(
-            rows,
+        format!(
             "{} {} {} {} {} {}",
             name,
             given.number,
@@ -145,7 +142,6 @@ impl Case {
             shown(&given.out),
             value(&given.seal)
         )
-        .unwrap();
     }
 }
 
@@ -160,8 +156,6 @@ fn shown(buffer: &[u8]) -> String {
 
 /// The case file, and what must be printed for it.
 pub fn stdin_and_rows() -> (Vec<u8>, String) {
-    let mut stdin = Vec::new();
-    let mut rows = String::new();
     let cases = [
         seal::cases(),
         frame::cases(),
@@ -169,9 +163,5 @@ pub fn stdin_and_rows() -> (Vec<u8>, String) {
         layout::calls(),
     ]
     .concat();
-    for (name, case) in cases {
-        stdin.extend(case.stored(&name));
-        case.row(&mut rows, &name);
-    }
-    (stdin, rows)
+    gathered(cases, |(name, case)| (case.stored(&name), case.row(&name)))
 }

@@ -3,19 +3,17 @@
 //! entry that says otherwise, places where no line starts, the limits, and every
 //! set of refusals that can hold at once.
 
-use std::fmt::Write;
-
 use super::stream::stored;
-use super::{by_rule, told};
+use super::told::{Telling, RIGHT};
+use super::{by_rule, gathered, told};
 use crate::desk::copy;
 use crate::digest::digest;
 use crate::frame::{framed, Fields, Own};
 use crate::index::update;
-use crate::line::{Layout, LAYOUT_A, NEITHER};
+use crate::line::LAYOUT_A;
 use crate::numbers::{DIGEST, KEY, NONCE, STREAM_LIMIT, STRETCHES_MOST};
-use crate::reader::{Editions, BOTH, ONE, TWO};
+use crate::reader::{Editions, ONE, TWO};
 use crate::text::value;
-use crate::told::Told;
 
 /// The table that a case may have, the room of most cases, and how many frames of
 /// the first item are too many for a stream.
@@ -27,17 +25,14 @@ const NONE: usize = 9999;
 
 const JOB: [u8; 4] = [0x00, 0x7e, 0x7d, 0x05];
 
-/// The row's name, the stream, the lengths of key and font digest, the editions and
-/// the layout; the table's length and count, the entry changed and what it is
-/// then; how many items come first and which, and those behind them; the room.
+/// The row's name, the stream, and what the call is told; the table's length and
+/// count, the entry changed and what it is then; how many items come first and
+/// which, and those behind them; the room.
 #[derive(Clone)]
 struct Case {
     name: String,
     stream: Vec<u8>,
-    key: usize,
-    digest: usize,
-    editions: Editions,
-    layout: Layout,
+    told: Telling,
     entries: usize,
     count: usize,
     changed: (usize, usize),
@@ -52,10 +47,7 @@ impl Case {
         Case {
             name: name.to_string(),
             stream: stream.to_vec(),
-            key: KEY,
-            digest: DIGEST,
-            editions: BOTH,
-            layout: NEITHER,
+            told: RIGHT,
             entries: STRETCHES_MOST,
             count,
             changed: (NONE, 0),
@@ -74,10 +66,6 @@ impl Case {
     fn stored(&self) -> Vec<u8> {
         let behind = |i: usize| self.behind.get(i).copied().unwrap_or(0);
         let numbers = [
-            self.key,
-            self.digest,
-            self.editions.0 as usize,
-            self.layout.0,
             self.entries,
             self.count,
             self.changed.0,
@@ -89,28 +77,21 @@ impl Case {
             behind(1),
             self.room,
         ];
-        stored(&self.name, &self.stream, &numbers)
+        stored(&self.name, &self.stream, &self.told.numbers(&numbers))
     }
 
     fn row(&self) -> String {
-        let (key, font) = (told::key_of(self.key), told::digest_of(self.digest));
         let mut table = vec![0; ENTRIES];
-        let (whole, whole_font) = (told::key(), told::digest());
-        let own = Told::of(&whole, &whole_font);
-        update(own, BOTH, &self.stream, &mut table, 0);
+        RIGHT.with(|told, editions| update(told, editions, &self.stream, &mut table, 0));
         if let Some(entry) = table.get_mut(self.changed.0) {
             *entry = self.changed.1 as u32;
         }
         let mut out = vec![0xa5; self.room];
-        let copied = copy(
-            Told::of(&key, &font).under(self.layout),
-            self.editions,
-            &self.stream,
-            &table[..self.entries],
-            self.count,
-            &self.list(),
-            &mut out,
-        );
+        let (table, list) = (&table[..self.entries], self.list());
+        let copied = self.told.with(|told, editions| {
+            let stream = &self.stream;
+            copy(told, editions, stream, table, self.count, &list, &mut out)
+        });
         let mut of_out = [0; DIGEST];
         digest(1, &out, &mut of_out);
         let (length, item) = (copied.length, copied.item);
@@ -183,12 +164,15 @@ fn lists() -> Vec<Case> {
     }
     for (name, editions) in [("one", ONE), ("two", TWO), ("none", Editions(4))] {
         let case = Case::of(&format!("editions {}", name), &stream, COUNT, &[0, 1]);
-        cases.push(Case { editions, ..case });
+        cases.push(Case {
+            told: RIGHT.editions(editions),
+            ..case
+        });
     }
     for item in [3, 4] {
         let case = Case::of(&format!("layout A {}", item), &stream, COUNT, &[item]);
         cases.push(Case {
-            layout: LAYOUT_A,
+            told: RIGHT.layout(LAYOUT_A),
             ..case
         });
     }
@@ -243,8 +227,7 @@ fn limits() -> Vec<Case> {
         let name = format!("sizes {} {}", key, digest);
         let case = Case::of(&name, &stream, COUNT, &[0]);
         cases.push(Case {
-            key,
-            digest,
+            told: RIGHT.key(key).digest(digest),
             ..case
         });
     }
@@ -264,7 +247,7 @@ fn sets() -> Vec<Case> {
             behind.extend(if is(5) { Some(2) } else { None });
             Case {
                 stream: if is(1) { long.clone() } else { good.clone() },
-                key: if is(0) { KEY - 1 } else { KEY },
+                told: RIGHT.key(KEY - usize::from(is(0))),
                 entries: STRETCHES_MOST - usize::from(is(2)),
                 count: if is(3) { STRETCHES_MOST + 1 } else { COUNT },
                 many: (if is(6) { MANY } else { 2 }, 0),
@@ -278,14 +261,8 @@ fn sets() -> Vec<Case> {
 
 /// The case file, and what must be printed for it.
 pub fn stdin_and_rows() -> (Vec<u8>, String) {
-    let mut stdin = Vec::new();
-    let mut rows = String::new();
     let cases = lists().into_iter().chain(places()).chain(limits());
-    for case in cases.chain(sets()) {
-        stdin.extend(case.stored());
-        writeln!(rows, "{}", case.row()).unwrap();
-    }
-    (stdin, rows)
+    gathered(cases.chain(sets()), |case| (case.stored(), case.row()))
 }
 
 #[cfg(test)]

@@ -3,9 +3,8 @@
 //! one row for each case of the case file.
 
 use std::collections::BTreeSet;
-use std::fmt::Write;
 
-use super::{by_rule, in_bytes};
+use super::{by_rule, gathered, in_bytes};
 use crate::digest::{digest, instances, sizes};
 use crate::numbers::DIGEST;
 use crate::text::value;
@@ -54,11 +53,10 @@ fn cases() -> Vec<Case> {
     cases
 }
 
-fn row(rows: &mut String, [instance, length, room]: Case) {
+fn row([instance, length, room]: Case) -> String {
     let mut out = vec![BEFORE; room];
     let answer = digest(instance, &message(length), &mut out);
-    writeln!(
-        rows,
+    format!(
         "{} {} {} {} {} {}",
         instance,
         length,
@@ -67,16 +65,9 @@ fn row(rows: &mut String, [instance, length, room]: Case) {
         answer.count,
         value(&out)
     )
-    .unwrap();
 }
 
 /// The case file, and what must be printed for it.
 pub fn stdin_and_rows() -> (Vec<u8>, String) {
-    let mut stdin = Vec::new();
-    let mut rows = String::new();
-    for case in cases() {
-        stdin.extend(case.map(in_bytes).concat());
-        row(&mut rows, case);
-    }
-    (stdin, rows)
+    gathered(cases(), |case| (case.map(in_bytes).concat(), row(case)))
 }

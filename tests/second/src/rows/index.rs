@@ -6,14 +6,14 @@
 use std::fmt::Write;
 
 use super::accept::{fields, frames, numbered, one, refused, two, OF_A};
+use super::gathered;
 use super::stream::stored;
-use super::told;
+use super::told::{Telling, RIGHT};
 use crate::frame::framed;
 use crate::index::{at, entry, line, number_of, place_of, update};
-use crate::line::{Layout, LAYOUT_A, LAYOUT_B, NEITHER};
+use crate::line::{Layout, LAYOUT_A, LAYOUT_B};
 use crate::numbers::{DIGEST, KEY, STREAM_LIMIT, STRETCHES_MOST};
-use crate::reader::{Editions, BOTH, ONE, TWO};
-use crate::told::Told;
+use crate::reader::{Editions, ONE, TWO};
 
 /// What a table that is set holds: any number is an entry.
 const BEFORE: u32 = 0xeeee_eeee;
@@ -33,16 +33,13 @@ enum Call {
 }
 
 /// The row's name, the call and its numbers, 0 where it has fewer; of an update
-/// the stream, the lengths of key and font digest, the editions and the layout.
+/// the stream, and what it is told.
 struct Case {
     name: String,
     call: Call,
     numbers: [usize; 4],
     stream: Vec<u8>,
-    key: usize,
-    digest: usize,
-    editions: Editions,
-    layout: Layout,
+    told: Telling,
 }
 
 impl Case {
@@ -52,23 +49,13 @@ impl Case {
             call,
             numbers,
             stream: Vec::new(),
-            key: KEY,
-            digest: DIGEST,
-            editions: BOTH,
-            layout: NEITHER,
+            told: RIGHT,
         }
     }
 
-    /// The numbers are the lengths of key and font digest, the editions, the
-    /// layout, the call and its numbers.
+    /// The numbers are what it is told, the call and its numbers.
     fn stored(&self) -> Vec<u8> {
-        let mut numbers = vec![
-            self.key,
-            self.digest,
-            self.editions.0 as usize,
-            self.layout.0,
-            self.call as usize,
-        ];
+        let mut numbers = self.told.numbers(&[self.call as usize]);
         numbers.extend(self.numbers);
         stored(&self.name, &self.stream, &numbers)
     }
@@ -111,16 +98,11 @@ impl Index {
     /// Number and count, then index, place and number of each entry that is
     /// another now.
     fn update(&mut self, case: &Case) -> String {
-        let (key, digest) = (told::key_of(case.key), told::digest_of(case.digest));
-        let told = Told::of(&key, &digest).under(case.layout);
         let before = self.table.clone();
-        let updated = update(
-            told,
-            case.editions,
-            &case.stream,
-            &mut self.table,
-            self.count,
-        );
+        let updated = case.told.with(|told, editions| {
+            let table = &mut self.table;
+            update(told, editions, &case.stream, table, self.count)
+        });
         self.count = updated.count;
         let mut row = format!("{} {}", updated.number, updated.count);
         for (i, (&entry, _)) in self
@@ -168,15 +150,14 @@ impl Run {
     }
 
     fn update(self, what: &str, stream: &[u8]) -> Run {
-        self.asking(what, stream, BOTH, NEITHER)
+        self.asking(what, stream, RIGHT)
     }
 
-    fn asking(self, what: &str, stream: &[u8], editions: Editions, layout: Layout) -> Run {
+    fn asking(self, what: &str, stream: &[u8], told: Telling) -> Run {
         let mut run = self.call(what, Call::Update, [0; 4]);
         let case = run.cases.last_mut().expect("the case just made");
         case.stream = stream.to_vec();
-        case.editions = editions;
-        case.layout = layout;
+        case.told = told;
         run
     }
 
@@ -230,21 +211,21 @@ fn grown() -> Vec<Run> {
     let all: Vec<usize> = (0..32).collect();
     let by_marks = by_marks.update("again", &stream).looks(&all);
     let mut runs = vec![by_marks];
-    for (name, editions, layout) in [
-        ("both", BOTH, NEITHER),
-        ("one", ONE, NEITHER),
-        ("two", TWO, NEITHER),
-        ("none", Editions(4), NEITHER),
-        ("other-bits", Editions(0xffff_fffb), NEITHER),
-        ("A", BOTH, LAYOUT_A),
-        ("B", BOTH, LAYOUT_B),
-        ("3", BOTH, Layout(3)),
+    for (name, told) in [
+        ("both", RIGHT),
+        ("one", RIGHT.editions(ONE)),
+        ("two", RIGHT.editions(TWO)),
+        ("none", RIGHT.editions(Editions(4))),
+        ("other-bits", RIGHT.editions(Editions(0xffff_fffb))),
+        ("A", RIGHT.layout(LAYOUT_A)),
+        ("B", RIGHT.layout(LAYOUT_B)),
+        ("3", RIGHT.layout(Layout(3))),
     ] {
         let half = stream.len() / 2;
         let run = Run::fresh(&format!("asking {}", name), STRETCHES_MOST)
-            .asking("half", &stream[..half], editions, layout)
-            .asking("whole", &stream, editions, layout)
-            .asking("again", &stream, editions, layout)
+            .asking("half", &stream[..half], told)
+            .asking("whole", &stream, told)
+            .asking("again", &stream, told)
             .looks(&[0, 1, 2, 3, 20, 30]);
         runs.push(run);
     }
@@ -270,8 +251,7 @@ fn grown() -> Vec<Run> {
 
 /// What a call asks, and the refusals that hold of it.
 struct Asking {
-    key: usize,
-    digest: usize,
+    told: Telling,
     stream: Vec<u8>,
     entries: usize,
     count: usize,
@@ -299,8 +279,9 @@ fn asking(refusals: &[&str]) -> Asking {
         1
     };
     Asking {
-        key: if holds("2-key") { KEY - 1 } else { KEY },
-        digest: if holds("2-font") { DIGEST + 1 } else { DIGEST },
+        told: RIGHT
+            .key(KEY - usize::from(holds("2-key")))
+            .digest(DIGEST + usize::from(holds("2-font"))),
         stream,
         // Where it has room, the table has a last place for the count.
         entries: if holds("4") { small } else { count.max(small) },
@@ -318,11 +299,7 @@ fn refusing(name: &str, refusals: &[&str]) -> Run {
     };
     let name = format!("refused {}", name);
     let set = Run::set(&name, asked.entries, asked.count, entry(place, 0));
-    let mut run = set.update("update", &asked.stream);
-    let case = run.cases.last_mut().expect("the case just made");
-    case.key = asked.key;
-    case.digest = asked.digest;
-    run
+    set.asking("update", &asked.stream, asked.told)
 }
 
 /// None, each, all, and each two that can hold at once: beyond the end of the
@@ -422,17 +399,13 @@ fn looked_up() -> Vec<Run> {
 
 /// The case file, and what must be printed for it.
 pub fn stdin_and_rows() -> (Vec<u8>, String) {
-    let mut stdin = Vec::new();
-    let mut rows = String::new();
     let mut index = Index::set(0, 0, 0, 0);
     let runs = grown().into_iter().chain(refusals());
-    for run in runs.chain(limits()).chain(looked_up()) {
-        for case in run.cases {
-            stdin.extend(case.stored());
-            writeln!(rows, "{} {}", case.name, case.row(&mut index)).unwrap();
-        }
-    }
-    (stdin, rows)
+    let runs = runs.chain(limits()).chain(looked_up());
+    gathered(runs.flat_map(|run| run.cases), |case| {
+        let row = format!("{} {}", case.name, case.row(&mut index));
+        (case.stored(), row)
+    })
 }
 
 #[cfg(test)]

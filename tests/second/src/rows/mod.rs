@@ -89,6 +89,22 @@ pub fn write_all(directory: &Path) -> io::Result<()> {
     Ok(())
 }
 
+/// The bytes of the cases, one behind the other, and their rows.
+fn gathered<C>(
+    cases: impl IntoIterator<Item = C>,
+    mut each: impl FnMut(C) -> (Vec<u8>, String),
+) -> (Vec<u8>, String) {
+    let mut stdin = Vec::new();
+    let mut rows = String::new();
+    for case in cases {
+        let (bytes, row) = each(case);
+        stdin.extend(bytes);
+        rows.push_str(&row);
+        rows.push('\n');
+    }
+    (stdin, rows)
+}
+
 /// Byte i of the result is what the rule gives for i, mod 256.
 pub(crate) fn by_rule<F: Fn(usize) -> usize>(length: usize, rule: F) -> Vec<u8> {
     (0..length).map(|i| (rule(i) % 256) as u8).collect()

@@ -5,19 +5,17 @@
 //! behind each other, and within one event; the limit of the stream; the
 //! refusals of the call with all of these; a trace damaged at each byte.
 
-use std::fmt::Write;
-
 use super::accept::{fields, numbered, refused, JOB, OF_A};
+use super::gathered;
 use super::stream::stored;
-use super::told;
+use super::told::{Telling, RIGHT};
 use crate::digest::digest;
 use crate::frame::{field, framed};
-use crate::line::{Layout, LAYOUT_A, LAYOUT_B, NEITHER};
+use crate::line::{Layout, LAYOUT_A, LAYOUT_B};
 use crate::numbers::{DIGEST, KEY, STREAM_LIMIT};
-use crate::reader::{Editions, BOTH, ONE, TWO};
+use crate::reader::{Editions, ONE, TWO};
 use crate::replay::{replay, stood, TAG_ASKED, TAG_PRINTED, TAG_RECEIVED};
 use crate::text::value;
-use crate::told::Told;
 
 /// What stands in the buffer before a call, and what it has beyond its least
 /// room where a case asks for more.
@@ -27,17 +25,14 @@ const MORE: usize = 8;
 /// The hash instance that tells what was received.
 const INSTANCE: usize = 10;
 
-/// The row's name, the trace, the event where it is asked what stood there, the
-/// lengths of key and font digest, the editions, the layout and the room.
+/// The row's name, the trace, the event where it is asked what stood there, what
+/// the call is told, and the room.
 #[derive(Clone)]
 struct Case {
     name: String,
     trace: Vec<u8>,
     event: Option<usize>,
-    key: usize,
-    digest: usize,
-    editions: Editions,
-    layout: Layout,
+    told: Telling,
     room: usize,
 }
 
@@ -47,28 +42,13 @@ impl Case {
             name: name.to_string(),
             trace: events.concat(),
             event: None,
-            key: KEY,
-            digest: DIGEST,
-            editions: BOTH,
-            layout: NEITHER,
+            told: RIGHT,
             room: STREAM_LIMIT,
         }
     }
 
-    fn key(self, key: usize) -> Case {
-        Case { key, ..self }
-    }
-
-    fn digest(self, digest: usize) -> Case {
-        Case { digest, ..self }
-    }
-
-    fn editions(self, editions: Editions) -> Case {
-        Case { editions, ..self }
-    }
-
-    fn layout(self, layout: Layout) -> Case {
-        Case { layout, ..self }
+    fn told(self, told: Telling) -> Case {
+        Case { told, ..self }
     }
 
     fn room(self, room: usize) -> Case {
@@ -84,34 +64,28 @@ impl Case {
         }
     }
 
-    /// The numbers are the lengths of key and font digest, the editions, the
-    /// layout, the room, the call and the event.
+    /// The numbers are what it is told, the room, the call and the event.
     fn stored(&self) -> Vec<u8> {
-        let numbers = [
-            self.key,
-            self.digest,
-            self.editions.0 as usize,
-            self.layout.0,
-            self.room,
-            usize::from(self.event.is_some()),
-            self.event.unwrap_or(0),
-        ];
-        stored(&self.name, &self.trace, &numbers)
+        let call = usize::from(self.event.is_some());
+        let numbers = [self.room, call, self.event.unwrap_or(0)];
+        stored(&self.name, &self.trace, &self.told.numbers(&numbers))
     }
 
     fn row(&self) -> String {
-        let (key, font) = (told::key_of(self.key), told::digest_of(self.digest));
-        let told = Told::of(&key, &font).under(self.layout);
         let mut buffer = vec![PAINT; self.room];
         match self.event {
             None => {
-                let is = replay(told, self.editions, &self.trace, &mut buffer);
+                let is = self
+                    .told
+                    .with(|told, editions| replay(told, editions, &self.trace, &mut buffer));
                 let left = left(&buffer, is.received);
                 let (number, event, received) = (is.number, is.event, is.received);
                 format!("{} {} {} {} {}", self.name, number, event, received, left)
             }
             Some(event) => {
-                let is = stood(told, self.editions, &self.trace, event, &mut buffer);
+                let is = self
+                    .told
+                    .with(|told, editions| stood(told, editions, &self.trace, event, &mut buffer));
                 let left = left(&buffer, is.received);
                 let places = format!("{} {} {}", is.length, is.place, is.printed);
                 let line = value(&is.line);
@@ -220,7 +194,7 @@ fn good_traces() -> Vec<Case> {
         ("none", Editions(4)),
         ("bits", Editions(0xffff_fffb)),
     ] {
-        cases.push(plain(&format!("editions {}", name), &editions).editions(allowed));
+        cases.push(plain(&format!("editions {}", name), &editions).told(RIGHT.editions(allowed)));
     }
     let layouts = [
         received(&seven),
@@ -229,7 +203,7 @@ fn good_traces() -> Vec<Case> {
         printed(OF_A),
     ];
     for (name, layout) in [("A", LAYOUT_A), ("B", LAYOUT_B), ("3", Layout(3))] {
-        cases.push(plain(&format!("layout {}", name), &layouts).layout(layout));
+        cases.push(plain(&format!("layout {}", name), &layouts).told(RIGHT.layout(layout)));
     }
     // What is refused is passed over, alone and before a line, in one request.
     for (what, bad) in refused(2) {
@@ -422,10 +396,12 @@ fn refusals() -> Vec<Case> {
     for (what, events) in traces {
         let named = |number: &str| Case::replay(&format!("call {} {}", number, what), &events);
         let calls = [
-            named("2-key").key(KEY - 1),
-            named("2-font").digest(DIGEST + 1),
-            named("2-and-4").key(KEY + 1).room(STREAM_LIMIT - 1),
-            named("2-font-and-4").digest(DIGEST - 1).room(0),
+            named("2-key").told(RIGHT.key(KEY - 1)),
+            named("2-font").told(RIGHT.digest(DIGEST + 1)),
+            named("2-and-4")
+                .told(RIGHT.key(KEY + 1))
+                .room(STREAM_LIMIT - 1),
+            named("2-font-and-4").told(RIGHT.digest(DIGEST - 1)).room(0),
             named("4").room(STREAM_LIMIT - 1),
             named("4-none").room(0),
         ];
@@ -466,18 +442,14 @@ fn damaged() -> Vec<Case> {
 
 /// The case file, and what must be printed for it.
 pub fn stdin_and_rows() -> (Vec<u8>, String) {
-    let mut stdin = Vec::new();
-    let mut rows = String::new();
     let cases = good_traces()
         .into_iter()
         .chain(cuttings())
         .chain(differences());
     let cases = cases.chain(pairs()).chain(within_one()).chain(limits());
-    for case in cases.chain(refusals()).chain(damaged()) {
-        stdin.extend(case.stored());
-        writeln!(rows, "{}", case.row()).unwrap();
-    }
-    (stdin, rows)
+    gathered(cases.chain(refusals()).chain(damaged()), |case| {
+        (case.stored(), case.row())
+    })
 }
 
 #[cfg(test)]

@@ -4,9 +4,8 @@
 //! once, and records as no feeding leaves them.
 
 use std::collections::BTreeSet;
-use std::fmt::Write;
 
-use super::{by_rule, in_bytes};
+use super::{by_rule, gathered, in_bytes};
 use crate::digest::{instances, sizes};
 use crate::numbers::{Counted, DIGEST, MESSAGE_LIMIT};
 use crate::running::{feed, finish, start, Record, BLOCK, STATE};
@@ -300,10 +299,9 @@ fn runs() -> Vec<Run> {
     runs
 }
 
-fn row(rows: &mut String, case: &Case, record: &mut Record) {
+fn row(case: &Case, record: &mut Record) -> String {
     let answer = case.answered(record);
-    writeln!(
-        rows,
+    format!(
         "{} {} {} {} {} {} {}",
         case.name,
         answer,
@@ -313,17 +311,11 @@ fn row(rows: &mut String, case: &Case, record: &mut Record) {
         value(&record.state),
         value(&record.block)
     )
-    .unwrap();
 }
 
 /// The case file, and what must be printed for it.
 pub fn stdin_and_rows() -> (Vec<u8>, String) {
-    let mut stdin = Vec::new();
-    let mut rows = String::new();
     let mut record = set(0, 0, 0);
-    for case in runs().iter().flat_map(|run| &run.cases) {
-        stdin.extend(case.stored());
-        row(&mut rows, case, &mut record);
-    }
-    (stdin, rows)
+    let cases = runs().into_iter().flat_map(|run| run.cases);
+    gathered(cases, |case| (case.stored(), row(&case, &mut record)))
 }

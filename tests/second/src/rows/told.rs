@@ -1,11 +1,12 @@
 //! What every reader of the rows is told: key byte i is 0x10 + i, font digest
-//! byte i is 3*i + 1 mod 256. And how a reading is printed.
+//! byte i is 3*i + 1 mod 256; of which lengths, with which editions and layout.
+//! And how a reading is printed.
 
 use super::by_rule;
 use crate::frame::write;
-use crate::line::Layout;
+use crate::line::{Layout, NEITHER};
 use crate::numbers::{DIGEST, DONE, FRAME_ROOM, KEY, LINE_MOST};
-use crate::reader::{read, Asked, Reading};
+use crate::reader::{read, Asked, Editions, Reading, BOTH};
 use crate::told::Told;
 
 pub fn key() -> Vec<u8> {
@@ -22,6 +23,60 @@ pub fn key_of(length: usize) -> Vec<u8> {
 
 pub fn digest_of(length: usize) -> Vec<u8> {
     by_rule(length, |i| 3 * i + 1)
+}
+
+/// What the calls over a whole stream or trace are told in a case: the lengths of
+/// key and font digest, the editions and the layout.
+#[derive(Clone, Copy)]
+pub struct Telling {
+    key: usize,
+    digest: usize,
+    editions: Editions,
+    layout: Layout,
+}
+
+/// The lengths as they should be, both editions and neither layout.
+pub const RIGHT: Telling = Telling {
+    key: KEY,
+    digest: DIGEST,
+    editions: BOTH,
+    layout: NEITHER,
+};
+
+impl Telling {
+    pub fn key(self, key: usize) -> Telling {
+        Telling { key, ..self }
+    }
+
+    pub fn digest(self, digest: usize) -> Telling {
+        Telling { digest, ..self }
+    }
+
+    pub fn editions(self, editions: Editions) -> Telling {
+        Telling { editions, ..self }
+    }
+
+    pub fn layout(self, layout: Layout) -> Telling {
+        Telling { layout, ..self }
+    }
+
+    /// The numbers of a case, with further ones behind these.
+    pub fn numbers(self, further: &[usize]) -> Vec<usize> {
+        let mut numbers = vec![
+            self.key,
+            self.digest,
+            self.editions.0 as usize,
+            self.layout.0,
+        ];
+        numbers.extend(further);
+        numbers
+    }
+
+    /// What a call gives that is told this.
+    pub fn with<R>(self, call: impl FnOnce(Told, Editions) -> R) -> R {
+        let (key, digest) = (key_of(self.key), digest_of(self.digest));
+        call(Told::of(&key, &digest).under(self.layout), self.editions)
+    }
 }
 
 /// The writer's frame of a line under that key and digest.
