@@ -1,31 +1,14 @@
 /* A fuzzer for the rework desk, over include/lubdhvani_desk.h and include/lubdhvani.h (libFuzzer). An input is a recipe for a stream, what is changed in
  * its index, and a list, which repeats. Every answer is held to the rules of the header: by the library's reader, item by item. */
+#include "given.h"
 #include "lubdhvani.h"
 #include "lubdhvani_desk.h"
 
-#include <stdio.h>
-#include <stdlib.h>
 #include <string.h>
 
 enum { MARK = 0x7E, UNTOUCHED = 0xA5, MOST_ITEMS = 600 };
 
 __attribute__((section("__libfuzzer_extra_counters"))) static uint8_t met[256];
-
-static void must(int holds, const char *what)
-{
-    if (!holds) {
-        fprintf(stderr, "fuzz: this does not hold: %s\n", what);
-        abort();
-    }
-}
-
-static const uint8_t *input;
-static size_t input_left;
-
-static uint8_t take(void)
-{
-    return input_left == 0 ? 0 : (input_left--, *input++);
-}
 
 static uint8_t key[LUBDHVANI_KEY], font[LUBDHVANI_DIGEST];
 static uint8_t stream[LUBDHVANI_LONGEST_INPUT], out[LUBDHVANI_LONGEST_INPUT + 1];
@@ -98,8 +81,7 @@ static void judge(const struct lubdhvani_desk_reworked *done)
 
 int LLVMFuzzerTestOneInput(const uint8_t *data, size_t size)
 {
-    input = data;
-    input_left = size;
+    give(data, size);
     stream_length = 0;
     for (size_t pieces = take() % 24; pieces > 0; pieces--)
         piece(take());

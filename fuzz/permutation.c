@@ -2,10 +2,9 @@
  * count of rounds and a state. Every answer is held to the header, and a state to the permutation worked out here cell by cell and bit by bit
  * from the papers: the leaders by their register, not from their table. */
 #define _DEFAULT_SOURCE
+#include "given.h"
 #include "lubdhvani.h"
 
-#include <stdio.h>
-#include <stdlib.h>
 #include <string.h>
 #include <sys/mman.h>
 
@@ -17,14 +16,6 @@ static const size_t sizes[SIZES] = {29, 30, 32, 34, 36, 40, 48, 64, 68, LUBDHVAN
 /* Document 01: the table x * y, and where elements 1 to 8 go, place 1 being the leftmost bit. */
 static const uint8_t product[CELLS][CELLS] = {{1, 0, 3, 2}, {0, 2, 1, 3}, {2, 3, 0, 1}, {3, 1, 2, 0}};
 static const unsigned places[8] = {1, 3, 5, 8, 7, 6, 2, 4};
-
-static void must(int holds, const char *what)
-{
-    if (!holds) {
-        fprintf(stderr, "fuzz: this does not hold: %s\n", what);
-        abort();
-    }
-}
 
 /* The leader of round i, from 0, by order W9's rule. */
 static uint8_t leader(size_t i)

@@ -2,6 +2,7 @@
  * a stream or a recipe for one: frames written, frames with something wrong, raw bytes, damage; or frames joined with fillers. The stream is
  * read to its end, and every answer is held to the rules of the header. fuzz/README.md says what this can and can't see. */
 #define _DEFAULT_SOURCE
+#include "given.h"
 #include "lubdhvani.h"
 
 #include <stdio.h>
@@ -78,32 +79,8 @@ static void print_met(void)
     puts("");
 }
 
-static void must(int holds, const char *what)
-{
-    if (!holds) {
-        fprintf(stderr, "fuzz: this does not hold: %s\n", what);
-        abort();
-    }
-}
-
 static uint8_t key[LUBDHVANI_KEY], other_key[LUBDHVANI_KEY], font[LUBDHVANI_DIGEST], other_font[LUBDHVANI_DIGEST];
 static const struct lubdhvani_asked everything = {.editions = LUBDHVANI_BOTH_EDITIONS, .allowed = LUBDHVANI_ALL_WORK};
-
-/* The input, byte by byte; zeros where it has run out. */
-
-static const uint8_t *input;
-static size_t input_left;
-
-static uint8_t take(void)
-{
-    return input_left == 0 ? 0 : (input_left--, *input++);
-}
-
-static size_t take_two(void)
-{
-    size_t high = take();
-    return high << 8 | take();
-}
 
 /* The stream under way. What does not fit is left out. */
 
@@ -917,8 +894,7 @@ int LLVMFuzzerInitialize(int *argc, char ***argv)
 
 int LLVMFuzzerTestOneInput(const uint8_t *data, size_t size)
 {
-    input = data;
-    input_left = size;
+    give(data, size);
     built = 0;
 
     const uint8_t how = take();

@@ -2,6 +2,7 @@
  * frames written and received in pieces, requests, prints of lines that were written, raw events, long runs, damage. The trace is run again here, event by
  * event over lubdhvani_read, and every answer is held to that. fuzz/README.md says what this can and can't see. */
 #define _DEFAULT_SOURCE
+#include "given.h"
 #include "lubdhvani.h"
 
 #include <stdio.h>
@@ -33,30 +34,6 @@ static void print_met(void)
         if (numbers_met[i] > 0)
             printf(", %zu: %lu times", i, numbers_met[i]);
     puts("");
-}
-
-static void must(int holds, const char *what)
-{
-    if (!holds) {
-        fprintf(stderr, "fuzz: this does not hold: %s\n", what);
-        abort();
-    }
-}
-
-/* The input, byte by byte; zeros where it has run out. */
-
-static const uint8_t *input;
-static size_t input_left;
-
-static uint8_t take(void)
-{
-    return input_left == 0 ? 0 : (input_left--, *input++);
-}
-
-static size_t take_two(void)
-{
-    size_t high = take();
-    return high << 8 | take();
 }
 
 /* What both calls are told. */
@@ -368,8 +345,7 @@ int LLVMFuzzerInitialize(int *argc, char ***argv)
 
 int LLVMFuzzerTestOneInput(const uint8_t *data, size_t size)
 {
-    input = data;
-    input_left = size;
+    give(data, size);
     built = come = written = printed = 0;
 
     const uint8_t how = take(), event = take(), sizes = take();
