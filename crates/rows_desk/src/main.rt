@@ -1,29 +1,17 @@
 // Prints the rows that the second program makes of its own streams (tests/second, src/rows/desk.rs): for each case on standard input what the desk answers,
 // and the digest of its output. A case is its head, its name, and the first and the last of its stream's bytes, with one byte again and again between
-// them. The head is numbers of four bytes each, the high byte first. The table is the stream's own index, with one entry changed where the case says so.
-use libc::STDIN_FILENO;
-use libc::STDOUT_FILENO;
+// them. The table is the stream's own index, with one entry changed where the case says so.
 use line_layout::layout_of;
 use read_call::LONGEST_STREAM;
-ghost use mathlib.Core.Path.{_≡_};
-ghost use Prim.Native.Nat.{_<_};
-ghost use lib.ListN.{length};
+use rows_case::MOST_CASES;
+use rows_case::cell;
+use rows_case::hex_cell;
+use rows_case::number_in;
+use rows_case::part;
+use rows_case::say;
 
-// More cases than standard input has: where it ends, so do the rows.
-const MOST_CASES: usize = 10000;
-
-// The head of a case has so many numbers and bytes; and the longest name, stream, key, font digest, table, list and output that a case has.
-const NUMBERS: usize = 19;
-
-const HEAD: usize = 4 * NUMBERS;
-
-const LONGEST_NAME: usize = 64;
-
-const LONGEST_CASE: usize = 2 * LONGEST_STREAM;
-
-const LONGEST_KEY: usize = 17;
-
-const LONGEST_FONT: usize = 33;
+// The head of a case has so many bytes; and the longest table and list that a case has.
+const HEAD: usize = 76;
 
 const LONGEST_TABLE: usize = 520;
 
@@ -36,270 +24,157 @@ const FONT: usize = 32;
 
 const BOTH: usize = 3;
 
-// Numbers of 32 bits.
-const WORDS: usize = 4294967296;
+// An entry or an item is less.
+const ENTRIES: usize = 0x1_0000_0000;
 
-// The lengths of name, stream, the first and the last of its bytes, the byte between those, the lengths of key and font digest, the editions, the
-// layout, the table's length and count, the entry changed and what it is then, how many items come first and which, how many behind them and which
-// two, and the output's room.
-struct Case {
-    name: usize,
-    length: usize,
-    first: usize,
-    last: usize,
-    between: usize,
+// What stands in the output before a call, and the hash instance that tells what stands there behind it.
+const PAINT: u8 = 0xA5;
+
+const INSTANCE: usize = 1;
+
+const DIGEST_LENGTH: usize = 32;
+
+// The lengths of key and font digest, the editions, the layout and the table's count.
+struct Told {
     key: usize,
     font: usize,
     editions: usize,
     layout: usize,
-    entries: usize,
     count: usize,
-    changed: usize,
-    entry: usize,
-    many: usize,
-    item: usize,
-    behind: usize,
-    next: usize,
-    after: usize,
-    room: usize,
 }
 
-fn say(text: &[u8]) {
-    io::write_all(STDOUT_FILENO, text);
-}
-
-fn number(n: usize) {
-    io::print_decimal(STDOUT_FILENO, n as u64);
-}
-
-// A blank, and a number behind it.
-fn cell(n: usize) {
-    say(b" ");
-    number(n);
-}
-
-// Every item of a list.
-fn spread(list: &mut [u32], item: u32) {
-    let mut i = 0;
-    while i < list.len() {
-        list[i] = item;
-        i += 1;
-    }
-}
-
-fn word(n: usize) -> u32 {
-    (n % WORDS) as u32
-}
-
-// An entry or an item put where there is one.
-fn put(table: &mut [u32], at: usize, n: usize) {
-    if at < table.len() {
-        table[at] = word(n);
+fn told_in(head: &[u8]) -> Told {
+    Told {
+        key: number_in(head, 5),
+        font: number_in(head, 6),
+        editions: number_in(head, 7),
+        layout: number_in(head, 8),
+        count: number_in(head, 10),
     }
 }
 
 // What the desk answers, and the digest of its output.
-fn desk_row(
-    c: Case,
-    stream: &[u8],
-    key: &[u8],
-    font: &[u8],
-    table: &[u32],
-    list: &[u32],
-    out: &mut [u8],
-) {
+fn desk_row(told: Told, stream: &[u8], table: &[u32], list: &[u32], out: &mut [u8]) {
+    let key = rows_case::key();
+    let font = rows_case::font();
+    let mut digest = [0u8; DIGEST_LENGTH];
     let answer = desk_call::desk(
         stream,
-        key,
-        font,
-        c.editions,
-        layout_of(c.layout),
+        part(&key, 0, told.key),
+        part(&font, 0, told.font),
+        told.editions,
+        layout_of(told.layout),
         table,
-        c.count,
+        told.count,
         list,
         out,
     );
     let report = desk_call::desk_report(answer);
-    let mut digest = [0u8; 32];
-    let mut digits = [0u8; 64];
-    digest_call::digest(1, out, &mut digest);
-    base_hex::put_hex(&digest, &mut digits);
+    digest_call::digest(INSTANCE, out, &mut digest);
     cell(report.number as usize);
     cell(report.length);
     cell(report.item);
-    say(b" ");
-    say(&digits);
+    hex_cell(&digest);
 }
 
-// The row with an output of its room.
-fn room_row(c: Case, stream: &[u8], key: &[u8], font: &[u8], table: &[u32], list: &[u32]) {
-    let mut out = [0u8; LONGEST_STREAM];
-    let n = c.room;
-    if n > LONGEST_STREAM {
+// The same with an output of the room that number 18 says.
+fn room_row(head: &[u8], stream: &[u8], table: &[u32], list: &[u32]) {
+    let mut out = [PAINT; LONGEST_STREAM];
+    let room = number_in(head, 18);
+    if room > LONGEST_STREAM {
         return;
     }
-    base_ramp::fill(&mut out, 0xA5, 0);
-    desk_row(c, stream, key, font, table, list, &mut out[0..n]);
+    desk_row(told_in(head), stream, table, list, &mut out[0..room]);
 }
 
-// The row with its list.
-fn list_row(c: Case, stream: &[u8], key: &[u8], font: &[u8], table: &[u32]) {
-    let mut list = [0u32; LONGEST_LIST];
-    let n = c.many;
-    let m = c.behind;
-    if n > LONGEST_LIST {
+fn entry_in(head: &[u8], i: usize) -> u32 {
+    (number_in(head, i) % ENTRIES) as u32
+}
+
+// An entry or an item put where there is one.
+fn put(table: &mut [u32], at: usize, entry: u32) {
+    if at < table.len() {
+        table[at] = entry;
+    }
+}
+
+// The same with its list: numbers 13 to 17 say how many items come first and which, how many behind them and which two.
+fn list_row(head: &[u8], stream: &[u8], table: &[u32]) {
+    let mut list = [entry_in(head, 14); LONGEST_LIST];
+    let many = number_in(head, 13);
+    let items = std::num::wrapping_add_usize(many, number_in(head, 15));
+    if items > LONGEST_LIST {
         return;
     }
-    if m > LONGEST_LIST - n {
-        return;
-    }
-    let long = n + m;
-    spread(&mut list, word(c.item));
-    put(&mut list, n, c.next);
-    put(&mut list, std::num::wrapping_add_usize(n, 1), c.after);
-    room_row(c, stream, key, font, table, &list[0..long]);
+    put(&mut list, many, entry_in(head, 16));
+    put(
+        &mut list,
+        std::num::wrapping_add_usize(many, 1),
+        entry_in(head, 17),
+    );
+    room_row(head, stream, table, &list[0..items]);
 }
 
 // The stream's own index, under the rules' key and font digest.
 fn indexed(stream: &[u8], table: &mut [u32]) {
-    let mut key = [0u8; KEY];
-    let mut font = [0u8; FONT];
-    base_ramp::fill(&mut key, 0x10, 1);
-    base_ramp::fill(&mut font, 1, 3);
-    index_call::update(stream, &key, &font, BOTH, layout_of(0), table, 0);
+    let key = rows_case::key();
+    let font = rows_case::font();
+    index_call::update(
+        stream,
+        part(&key, 0, KEY),
+        part(&font, 0, FONT),
+        BOTH,
+        layout_of(0),
+        table,
+        0,
+    );
 }
 
-// The row with that index, one entry of which may be another.
-fn table_row(c: Case, stream: &[u8], key: &[u8], font: &[u8]) {
+// The same with that index: number 9 says its length, 11 and 12 which entry is another and what it is then.
+fn table_row(head: &[u8], stream: &[u8]) {
     let mut table = [0u32; LONGEST_TABLE];
-    let n = c.entries;
-    if n > LONGEST_TABLE {
+    let entries = number_in(head, 9);
+    if entries > LONGEST_TABLE {
         return;
     }
     indexed(stream, &mut table);
-    put(&mut table, c.changed, c.entry);
-    list_row(c, stream, key, font, &table[0..n]);
+    put(&mut table, number_in(head, 11), entry_in(head, 12));
+    list_row(head, stream, &table[0..entries]);
 }
 
-// The row with the rules' key and font digest, of the lengths that the case asks for.
-fn row(c: Case, name: &[u8], stream: &[u8]) {
-    let mut key = [0u8; LONGEST_KEY];
-    let mut font = [0u8; LONGEST_FONT];
-    let k = c.key;
-    let f = c.font;
-    if k > LONGEST_KEY {
-        return;
+// The row of a case behind its name, with a buffer of its stream's length; false where it can't be read. Numbers 2 to 4 of a head say which bytes.
+fn row(head: &[u8], stream: &mut [u8]) -> bool {
+    if !rows_case::around_taken(
+        stream,
+        number_in(head, 2),
+        number_in(head, 3),
+        number_in(head, 4),
+    ) {
+        return false;
     }
-    if f > LONGEST_FONT {
-        return;
-    }
-    base_ramp::fill(&mut key, 0x10, 1);
-    base_ramp::fill(&mut font, 1, 3);
-    say(name);
-    table_row(c, stream, &key[0..k], &font[0..f]);
+    table_row(head, stream);
     say(b"\n");
-}
-
-// Reads standard input over a part of a buffer; false where there are not that many bytes.
-fn taken(buffer: &mut [u8], from: usize, length: usize) -> bool {
-    if from > buffer.len() {
-        return false;
-    }
-    if length > buffer.len() - from {
-        return false;
-    }
-    let to = from + length;
-    io::read_full(STDIN_FILENO, &mut buffer[from..to]) == length
-}
-
-// The bytes of a case over the whole of a buffer.
-fn streamed(c: Case, stream: &mut [u8]) -> bool {
-    let last = std::num::wrapping_sub_usize(stream.len(), c.last);
-    base_ramp::fill(stream, (c.between % 256) as u8, 0);
-    if !taken(stream, 0, c.first) {
-        return false;
-    }
-    taken(stream, last, c.last)
-}
-
-// Number i of a head.
-fn number_in(h: [u8; HEAD], i: usize) -> usize {
-    if i >= NUMBERS {
-        return 0;
-    }
-    let at = 4 * i;
-    two(h[at], h[at + 1]) * 65536 + two(h[at + 2], h[at + 3])
-}
-
-fn two(high: u8, low: u8) -> usize
-    ensures { λ r. ⌜ r < 65536 ⌝ }
-{
-    (high as usize) * 256 + low as usize
-}
-
-fn case_of(h: [u8; HEAD]) -> Case {
-    Case {
-        name: number_in(h, 0),
-        length: number_in(h, 1),
-        first: number_in(h, 2),
-        last: number_in(h, 3),
-        between: number_in(h, 4),
-        key: number_in(h, 5),
-        font: number_in(h, 6),
-        editions: number_in(h, 7),
-        layout: number_in(h, 8),
-        entries: number_in(h, 9),
-        count: number_in(h, 10),
-        changed: number_in(h, 11),
-        entry: number_in(h, 12),
-        many: number_in(h, 13),
-        item: number_in(h, 14),
-        behind: number_in(h, 15),
-        next: number_in(h, 16),
-        after: number_in(h, 17),
-        room: number_in(h, 18),
-    }
-}
-
-// The case with its name and a buffer of its stream's length; false where either cannot be read.
-fn named(c: Case, stream: &mut [u8]) -> bool {
-    let mut name = [0u8; LONGEST_NAME];
-    let n = c.name;
-    if n > LONGEST_NAME {
-        return false;
-    }
-    if !taken(&mut name, 0, n) {
-        return false;
-    }
-    if !streamed(c, stream) {
-        return false;
-    }
-    row(c, &name[0..n], stream);
     true
 }
 
-// One case from standard input; false where there is none left.
+// One case from standard input; false where there is none left. Its head begins with the lengths of its name and of its stream.
 fn one(buffer: &mut [u8]) -> bool {
     let mut head = [0u8; HEAD];
-    if io::read_full(STDIN_FILENO, &mut head) != HEAD {
+    if !rows_case::taken(&mut head) {
         return false;
     }
-    let c = case_of(head);
-    let n = c.length;
+    let n = number_in(&head, 1);
     if n > buffer.len() {
         return false;
     }
-    named(c, &mut buffer[0..n])
-}
-
-fn empty() -> [u8; LONGEST_CASE]
-    ensures { λ r. ⌜ 131072 ≡ length r ⌝ }
-{
-    [0; LONGEST_CASE]
+    if !rows_case::name_passed(number_in(&head, 0)) {
+        return false;
+    }
+    row(&head, &mut buffer[0..n])
 }
 
 fn main() {
-    let mut buffer = empty();
+    let mut buffer = rows_case::buffer();
     let mut left: usize = MOST_CASES;
     while left > 0 {
         if one(&mut buffer) {

@@ -11,8 +11,8 @@ Inv-loop buffer₀ left₀ buffer left = length buffer ≡ length buffer₀
 abbrev μ-loop : tie.MeasureT-loop
 μ-loop buffer₀ left₀ buffer left = left
 
-empty-requires : tie.Need-empty-requires Inv-loop μ-loop
-empty-requires c κs = search needs
+buffer-requires : tie.Need-buffer-requires Inv-loop μ-loop
+buffer-requires c κs = search needs
 
 loop-holds : tie.Need-loop-holds Inv-loop μ-loop
 loop-holds c = search needs
@@ -47,7 +47,7 @@ main-spec =
     (tie.spec
     Inv-loop
     μ-loop
-    empty-requires
+    buffer-requires
     loop-holds
     slice-aggregate-one
     one-requires
