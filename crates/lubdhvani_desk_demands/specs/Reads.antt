@@ -1,7 +1,7 @@
--- `c-desk-reads` and `c-desk-from-stream` (order W14): `desk-reads` and `desk-from-stream` over the exported calls. Where `lubdhvani_desk_copy` is done, a whole
--- run of `lubdhvani_read` over the new stream sees exactly the chosen lines in the asked order, and nothing else; and whatever the table is, each of these is
--- seen by the run over the stream given, at the place that the entry names, with the same bytes between its marks. That the stream is bytes is a premise,
--- which what the call is passed meets by its type (Bytes.antt). Assumes nothing.
+-- `c-desk-reads` and `c-desk-from-stream` (order W14): `desk-reads` and `desk-from-stream` over the exported calls. Where `lubdhvani_desk_copy` is done, a
+-- whole run of `lubdhvani_read` over the new stream sees exactly the chosen lines in the asked order, and nothing else; and whatever the table is, each of
+-- these is seen by the run over the stream given, at the place that the entry names, with the same bytes between its marks. That the stream is bytes is a
+-- premise, which what the call is passed meets by its type (Bytes.antt). Assumes nothing.
 use mathlib.Core.Path.{_≡_, refl, sym, ap, subst, _∙_}
 use mathlib.Core.List.{List, [], _∷_, _++_, map}
 use Prim.Native.Nat.{ℕ, _≤_}

@@ -24,7 +24,8 @@ lineShown q = take (q .length) (q .line)
 abbrev pub Alike : List ℕ → Stood → Type 0
 Alike trace q = take (q .printed) (drop (q .place) trace) ≡ lineShown q
 
-module _ (key font : List ℕ) (ed lay : ℕ) (trace o : List ℕ) (r : Replayed) (o′ : List ℕ) (p : Replays key font ed lay trace o r o′) (zero-number : r .number ≡ 0)
+module _ (key font : List ℕ) (ed lay : ℕ) (trace o : List ℕ) (r : Replayed) (o′ : List ℕ) (p : Replays key font ed lay trace o r o′)
+    (zero-number : r .number ≡ 0)
     (n : ℕ) (b : List ℕ) (q : Stood) (b′ : List ℕ) (c : Shows key font ed lay trace n b q b′) where
   abbrev t : Told
   t = told key font (layoutOf lay)
