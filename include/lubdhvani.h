@@ -29,8 +29,9 @@
  *  - The library has no state of its own: calls on different buffers may run at the same time. Keys and states that a call works with are
  *    not wiped from the stack.
  *  - lubdhvani_read, lubdhvani_next, lubdhvani_to_one, lubdhvani_to_two, lubdhvani_index_update, lubdhvani_accept, lubdhvani_nonce, lubdhvani_replay
- *    and lubdhvani_stood, which read stretches, run in LUBDHVANI_STACK bytes of stack, every other call in LUBDHVANI_STACK_BUT_READ. This is measured, not proved: tests/stack/run runs each call on a painted stack, with memcpy and memset bound
- *    at their first call (the binding takes stack as well) and when the program starts, prints what was used and fails over these figures.
+ *    and lubdhvani_stood, which read stretches, run in LUBDHVANI_STACK bytes of stack, every other call in LUBDHVANI_STACK_BUT_READ. This is measured,
+ *    not proved: tests/stack/run runs each call on a painted stack, with memcpy and memset bound at their first call (the binding takes stack as well)
+ *    and when the program starts, prints what was used and fails over these figures.
  *    Reading takes the most for a damaged stretch of the greatest length, which is measured byte by byte in calls of its own.
  *
  * Link with target/staticlib/liblubdhvani.a, which `rt staticlib lubdhvani` makes.
@@ -398,7 +399,7 @@ struct lubdhvani_measured lubdhvani_bundle_write(const uint8_t *name, size_t nam
  * 0: length is that of the name. 11, 12: length is 0. Bytes of any other length than a bundle's are 11, never 3. */
 struct lubdhvani_measured lubdhvani_bundle_read(const uint8_t *bundle, size_t bundle_length);
 
-/* The font digest of a bundle, to be told to every call that takes one: write, write_two, read, next, to_one and to_two.
+/* The font digest of a bundle, to be told to every call that takes one: write, write_two, read, next, to_one, to_two, index_update, accept, replay, stood.
  * 0: out[0..32] is the digest. 3 (over 65,536 bytes), 11, 12, 4 (room under 32): out is untouched. */
 uint32_t lubdhvani_bundle_digest(const uint8_t *bundle, size_t bundle_length, uint8_t *out, size_t room);
 
