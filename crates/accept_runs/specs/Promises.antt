@@ -1,4 +1,4 @@
--- What `accept` and `nonce_of` promise of one call, on plain lists (Contracts.antt beside this has that it is their contracts), and what is asked of the
+-- What `accept` and `nonce_of` promise of one call, on plain lists (FromContracts.antt beside this has that it is their contracts), and what is asked of the
 -- stretches that a whole run of `read` sees. Assumes nothing: these are definitions.
 use Rattle.std.specs.Prelude.{◌≡◌, cond, List, [], ◌∷◌, map, ℕ, ◌≤◌, length}
 use Rattle.line_layout.specs.declared.Layout.{Layout}

@@ -1,4 +1,4 @@
--- What `read` and `write` promise of one call, on plain lists (Contracts.antt beside this has that it is their contracts), and what a caller
+-- What `read` and `write` promise of one call, on plain lists (FromContracts.antt beside this has that it is their contracts), and what a caller
 -- sees of a reading. Assumes nothing: these are definitions.
 use Rattle.std.specs.Prelude.{◌≡◌, Bool, true, false, List, [], ◌∷◌, ℕ, ◌-◌, ◌≤◌, length, take}
 use Rattle.line_spec.specs.Lines.{longest}

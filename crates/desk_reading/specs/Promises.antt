@@ -1,4 +1,4 @@
--- What `desk` promises of one call, on plain lists (Contracts.antt beside this has that it is its contract), and what the theorems speak of: an item
+-- What `desk` promises of one call, on plain lists (FromContracts.antt beside this has that it is its contract), and what the theorems speak of: an item
 -- that chooses a line, and what is seen of it. Assumes nothing: these are definitions.
 use Rattle.std.specs.Prelude.{◌≡◌, List, [], ◌∷◌, ℕ, ◌+◌, ◌-◌, ◌<◌, take}
 use Rattle.line_layout.specs.declared.Layout.{Layout}

@@ -1,4 +1,4 @@
--- What `update`, `entry_at` and `line_at` promise of one call, on plain lists (Contracts.antt beside this has that it is their contracts), and what
+-- What `update`, `entry_at` and `line_at` promise of one call, on plain lists (FromContracts.antt beside this has that it is their contracts), and what
 -- the theorems speak of: a whole run of `read` without its end, and tables that were built. Assumes nothing: these are definitions.
 use Rattle.std.specs.Prelude.{◌≡◌, cond, List, [], ◌∷◌, ◌++◌, ℕ}
 use Rattle.line_layout.specs.declared.Layout.{Layout}

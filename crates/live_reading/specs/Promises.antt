@@ -1,4 +1,4 @@
--- What a step promises, on plain lists (Contracts.antt beside this has that it is its contract), what a caller sees of it, and runs of steps over a
+-- What a step promises, on plain lists (FromContracts.antt beside this has that it is its contract), what a caller sees of it, and runs of steps over a
 -- link. Assumes nothing: these are definitions.
 use Rattle.std.specs.Prelude.{◌≡◌, List, [], ◌∷◌, ◌++◌, ℕ, ◌+◌, ◌<◌, ◌≤◌, length, take, drop}
 use Rattle.line_spec.specs.Lines.{longest}

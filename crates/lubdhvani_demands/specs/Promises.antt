@@ -1,4 +1,4 @@
--- What the exported calls promise of one call, on plain lists (Contracts.antt beside this has that it is their contracts), and what a C caller sees of a
+-- What the exported calls promise of one call, on plain lists (FromContracts.antt beside this has that it is their contracts), and what a C caller sees of a
 -- reading. Assumes nothing: these are definitions.
 use Rattle.std.specs.Prelude.{◌≡◌, List, [], ◌∷◌, ℕ, ◌-◌, ◌≤◌, eqb, length, take}
 use Rattle.gage_spec.specs.Permutation.{permute, unpermute}

@@ -1,4 +1,4 @@
--- What `lubdhvani_desk_copy` promises of one call, on plain lists (Contracts.antt beside this has that it is its contract). Assumes nothing: these are
+-- What `lubdhvani_desk_copy` promises of one call, on plain lists (FromContracts.antt beside this has that it is its contract). Assumes nothing: these are
 -- definitions.
 use Rattle.std.specs.Prelude.{◌≡◌, List, ℕ}
 use Rattle.line_layout.specs.Layouts.{layout_of}

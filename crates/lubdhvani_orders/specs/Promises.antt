@@ -1,4 +1,4 @@
--- What the exported calls of orders W12 and W10 promise of one call, on plain lists (Contracts.antt beside this has that it is their contracts), and what the
+-- What the exported calls of orders W12 and W10 promise of one call, on plain lists (FromContracts.antt beside this has that it is their contracts), and what the
 -- theorems speak of: a whole run of `lubdhvani_read`, and tables that were built. Assumes nothing: these are definitions.
 use Rattle.std.specs.Prelude.{◌≡◌, List, ◌++◌, ℕ}
 use Rattle.line_layout.specs.Layouts.{layout_of}

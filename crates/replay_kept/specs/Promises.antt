@@ -1,4 +1,4 @@
--- What `request`, `replay` and `stood` promise of one call, on plain lists (Contracts.antt beside this has that it is their contracts). Assumes nothing:
+-- What `request`, `replay` and `stood` promise of one call, on plain lists (FromContracts.antt beside this has that it is their contracts). Assumes nothing:
 -- these are definitions.
 use Rattle.std.specs.Prelude.{◌≡◌, List, ℕ}
 use Rattle.line_layout.specs.declared.Layout.{Layout}
