@@ -1,5 +1,7 @@
 // A field written into a lent buffer (document 01, 'A frame and a stream'): a tag, a length of two bytes, the high one first, and the value.
 // Frames and glyph bundles are made of fields. The promises cite specs/Fields.antt.
+#![tactic(auto)]
+
 ghost use Rattle.std.specs.Prelude.{◌≡◌, ◌+◌, ◌*◌, ◌≤◌, ◌<◌, length};
 ghost use Rattle.std.proofs.lemmas.List.Edits.{sets};
 ghost use Rattle.base_fields.specs.Fields.{high_byte, field, field_end, field_out};

@@ -1,10 +1,12 @@
 // Hexadecimal text in lent buffers, for the programs: bytes to upper-case digits, and digits of either case to bytes.
 // The promises cite specs/Hex.antt.
+#![tactic(auto)]
+
 ghost use Rattle.std.specs.Prelude.{◌≡◌, ◌%◌, ◌<◌};
 ghost use Rattle.base_hex.specs.Hex.{digit, hex_length, hex_out, value_of, all_digits, digit_at};
 
 // What a character is as a hexadecimal digit.
-#[derive(Drop)]
+#[derive(Clone, Copy)]
 pub enum Digit {
     Value(u8),
     Not,

@@ -1,5 +1,7 @@
 // Small helpers on byte slices: copy, compare, clear. Each takes every input.
 // Their promises cite specs/Buffers.antt; laws that other crates cite stand beside it.
+#![tactic(auto)]
+
 ghost use Rattle.std.specs.Prelude.{◌≡◌, length};
 ghost use Rattle.base_lists.specs.Buffers.{copied, cleared, same};
 

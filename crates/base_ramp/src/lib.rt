@@ -1,4 +1,6 @@
 // Bytes by a rule, for known answers and rows: a start, and one step from byte to byte. The promise cites specs/Rule.antt.
+#![tactic(auto)]
+
 ghost use Rattle.std.specs.Prelude.{◌≡◌, length};
 ghost use Rattle.base_ramp.specs.Rule.{ramp};
 

@@ -1,2 +1,3 @@
 pub mod Formula
 pub mod Single
+pub mod Inverse

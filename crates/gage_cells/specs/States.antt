@@ -13,7 +13,7 @@ length-substitute t l (b ∷ r) = ap suc (length-substitute t (b % 4) r)
 pub length-restore : (t : List (List ℕ)) (l : ℕ) (s : List ℕ) → length (restore t l s) ≡ length s
 unfolding restore cells bytes recover
 length-restore t l [] = refl
-length-restore t l (b ∷ r) = ap suc (length-restore t _ r)
+length-restore t l (b ∷ r) = ap suc (length-restore t (star t (star t (star t (star t l (b / 64)) (b / 16 % 4)) (b / 4 % 4)) (b % 4)) r)
 
 module _ (t : List (List ℕ)) (closed : Closed t) where
   -- four products make a byte
@@ -29,4 +29,4 @@ module _ (t : List (List ℕ)) (closed : Closed t) where
   pub restore-below : (l : ℕ) (s : List ℕ) → Below 256 (restore t l s)
   unfolding restore cells bytes recover
   restore-below l [] = tt
-  restore-below l (x ∷ r) = (four l _ _ _ (x / 64) (x / 16 % 4) (x / 4 % 4) (x % 4), restore-below _ r)
+  restore-below l (x ∷ r) = (four l _ _ _ (x / 64) (x / 16 % 4) (x / 4 % 4) (x % 4), restore-below (star t (star t (star t (star t l (x / 64)) (x / 16 % 4)) (x / 4 % 4)) (x % 4)) r)

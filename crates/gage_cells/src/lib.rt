@@ -1,6 +1,8 @@
 // GAGE's substitution over two-bit cells by definition (document 000, section 1.1.1; specs/Cells.antt), that its inverse undoes it, and its products
 // by shifts, XOR and AND (document 003, Algorithm 2), of one pair of cells and of a byte's four: nothing is looked up. The table of products
 // stands beside the formula, which is held to it. The substitution of a whole state is in the crate gage_substitute.
+#![tactic(auto)]
+
 ghost use Rattle.std.specs.Prelude.{◌≡◌, true, ◌%◌};
 ghost use Rattle.gage_cells.specs.Cells.{table, substituted_byte};
 ghost use Rattle.gage_cells.specs.Pair.{product};

@@ -1,5 +1,7 @@
 // The leaders of the rounds: document 000's Table 1.11, 255 numbers, as printed, and which counts of rounds they are enough for. The promises
 // cite specs/Leaders.antt, and specs/Rule.antt holds the table to order W9's rule.
+#![tactic(auto)]
+
 ghost use Rattle.std.specs.Prelude.{◌≡◌};
 ghost use Rattle.gage_leaders.specs.Leaders.{leaders, counted};
 

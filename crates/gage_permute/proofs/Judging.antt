@@ -1,32 +1,23 @@
 -- What `permute` and `unpermute` make of the answer of `judge`. Assumes nothing.
-use mathlib.Core.Path.{◌≡◌, refl, sym, ap, ◌∙◌}
-use mathlib.Core.Bool.{Bool, true, false, cond, ◌&&◌}
-use mathlib.Core.List.{List, [], ◌∷◌, ◌++◌}
-use mathlib.Core.Logic.{⊎_elim}
-use Prim.Native.Nat.{ℕ, ◌≤◌}
-use native.Mathlib.Omega.{arith}
-use types.Run.{OneOf}
-use denote.Enum.Declared.{tag_of}
-use lib.Dec.{leb}
+use mathlib.Core.Path.{◌≡◌, refl, sym, ◌∙◌}
+use mathlib.Core.List.{List, ◌++◌}
+use Prim.Native.Nat.{ℕ}
 use lib.ListN.{take, drop}
-use borrow.Author.Tests.{leb-true}
-use Rattle.gage_spec.specs.Permutation.{LARGEST, MOST-ROUNDS, permitted, judged_number, judged, answered}
-use Rattle.gage_spec.specs.Tables.{permitted-size}
+use Rattle.gage_spec.specs.Permutation.{judged, answered}
 use Rattle.gage_spec.specs.Answers.{answered-done}
 use Rattle.gage_spec.specs.declared.Answer.{Answer}
 use Rattle.gage_spec.specs.declared.Answer.TheVariants.{Done, Size, Rounds}
 use Rattle.gage_spec.specs.declared.Permuted.{Permuted}
-use Rattle.gage_spec.specs.contracts.Answer as answer-type
 
 module _ (f : ℕ → List ℕ → List ℕ) (s : List ℕ) (n k : ℕ) (r : Answer) (e : r ≡ judged n k) where
   -- a refusal gives the state back
-  pub refused : OneOf (1 ∷ 2 ∷ []) (tag_of answer-type.the_type r) → ◌≡◌ {A = Permuted} (record { answer = r; state = s }) (answered f s n k)
+  pub refused : (r ≡ Done → ⊥) → ◌≡◌ {A = Permuted} (record { answer = r; state = s }) (answered f s n k)
   unfolding answered
   refused t = go r e t
     where
-      go : (a : Answer) → a ≡ judged n k → OneOf (1 ∷ 2 ∷ []) (tag_of answer-type.the_type a)
+      go : (a : Answer) → a ≡ judged n k → (a ≡ Done → ⊥)
           → ◌≡◌ {A = Permuted} (record { answer = a; state = s }) (answered f s n k)
-      go Done g t = absurd (⊎_elim (λ h. omega (arith, h)) (λ h. omega (arith, h)) t)
+      go Done g t = absurd (t refl)
       go Size g t = rw (sym g)
       go Rounds g t = rw (sym g)
 

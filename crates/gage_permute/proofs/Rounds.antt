@@ -9,14 +9,14 @@ use borrow.Rule.Slice.PartMut.{put_mid}
 use Rattle.base_lists.specs.Below.{Below, below-take}
 use Rattle.base_lists.specs.Buffers.{over}
 use Rattle.base_lists.specs.Over.{over-whole}
-use Rattle.gage_leaders.specs.Rule.{length-leaders, leader-below}
+use Rattle.gage_leaders.proofs.Rule.{leader-below}
 use Rattle.gage_spec.specs.Permutation.{MOST-ROUNDS, leaders, permute, judged}
 use Rattle.gage_spec.specs.declared.Answer.TheVariants.{Done}
 use Rattle.gage_planes_spec.specs.declared.State.{State}
 use Rattle.gage_planes_spec.specs.Told.{ROOM, told, state_of}
 use Rattle.gage_planes_spec.specs.Rounds.{permuted}
 use Rattle.gage_planes_spec.specs.Bytes.{length-told, told-state}
-use Rattle.gage_planes_spec.specs.Permuting.{told-permuted}
+use Rattle.gage_planes_spec.proofs.Permuting.{told-permuted}
 
 -- an entry of a table that is the definition's
 module _ {t : List ℕ} (e : t ≡ leaders) where

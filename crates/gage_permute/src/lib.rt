@@ -1,5 +1,7 @@
 // GAGE's round permutation and its inverse, on a state by value with its size in bytes and a count of rounds (document 000, section 1.1;
 // document 01, 'The permutation'; order W9): the permutation in planes, its inverse byte by byte. The promises cite gage_spec/specs/Permutation.antt.
+#![tactic(auto)]
+
 ghost use Rattle.std.specs.Prelude.{◌≡◌, ◌++◌, ◌≤◌, take, drop};
 ghost use Rattle.gage_cells.specs.Sizes.{LARGEST};
 ghost use Rattle.gage_shuffle.specs.Sizes.{SMALLEST};

@@ -1,6 +1,8 @@
 // The rounds of GAGE's permutation on a state in planes (document 000, Algorithm 2), at each of the ten sizes and for every count of rounds. How a state's
 // planes are turned goes by its size: drawn out around their end (drawn.rt), turned as wide as a number (around.rt), or as two windows (windows.rt).
 // The promise cites gage_planes_spec/specs/Rounds.antt.
+#![tactic(auto)]
+
 use gage_planes_spec::{State, Windows};
 use gage_spec::Answer;
 

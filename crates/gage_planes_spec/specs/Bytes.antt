@@ -1,16 +1,14 @@
 -- A state told is the state that the planes were made of: laws of `told`, `state_of` and `mixed`, which callers of the calls over planes cite. Assumes nothing.
-use Rattle.std.specs.Prelude.{◌≡◌, refl, cond, List, [], ◌∷◌, ℕ, zero, suc, ◌+◌, ◌-◌, ◌*◌, ◌/◌, ◌%◌, ◌^◌, ◌≤◌, ◌<◌, ltb, length, get_or, take, drop}
-use Rattle.std.proofs.Common.{sym, ap, ap₂, ◌∙◌, zero-add, arith, length-take, pow_mono, pow-add, ext_get_or, length-take-le, get_or-take, get_or-drop, lt-ltb, le-ltb}
+use Rattle.std.specs.Prelude.{◌≡◌, refl, List, [], ◌∷◌, ℕ, zero, suc, ◌+◌, ◌-◌, ◌*◌, ◌/◌, ◌%◌, ◌^◌, ◌≤◌, ◌<◌, length, get_or, take, drop}
+use Rattle.std.proofs.Common.{sym, ap, ◌∙◌, zero-add, arith, pow-add, ext_get_or, length-take-le, get_or-take, get_or-drop, lt-ltb, le-ltb}
 use Rattle.std.proofs.Math.Decide.{dec_lt}
 use Rattle.std.specs.Int.Bits.{bit_xor, differ}
-use Rattle.std.proofs.lemmas.Nat.{xor_lt}
-use Rattle.std.proofs.Math.ListN.{get_or-eq_default}
 use Rattle.base_lists.specs.Below.{Below, below_at}
-use Rattle.gage_shuffle.specs.Shuffling.{weighed, units, tabled}
+use Rattle.gage_shuffle.specs.Shuffling.{units}
 use Rattle.gage_shuffle.specs.Bits.{eight, weighed-by, unit-back, unit-below, unit-whole}
 use Rattle.gage_shuffle.specs.States.{length-tabled, tabled-at}
-use Rattle.base_digits.specs.Digits.{digit, digit-below, digit-xor, digit-shr, digit-high, digits_same}
-use Rattle.base_digits.specs.Joined.{joined, digit-joined}
+use Rattle.base_digits.specs.Digits.{digit, digit-below, digit-xor, digit-shr, digit-high}
+use Rattle.base_digits.proofs.Joined.{digit-joined}
 use Rattle.gage_planes_spec.specs.declared.Planes.{Planes}
 use Rattle.gage_planes_spec.specs.declared.State.{State}
 use Rattle.gage_planes_spec.specs.Told.{LOW, ROOM, worth, digit_at, byte_at, told, plane, planes_of, rest_of, state_of, xor_planes, mixed}

@@ -1,11 +1,11 @@
 -- Planes that hold a state: digit i of plane b is bit b of byte o + i, around, o being the byte at which the planes begin. Drawing planes out anew.
 -- Assumes nothing.
-use Rattle.std.specs.Prelude.{◌≡◌, refl, List, ℕ, zero, suc, ◌+◌, ◌-◌, ◌*◌, ◌/◌, ◌%◌, ◌^◌, ◌≤◌, ◌<◌, length, get_or}
+use Rattle.std.specs.Prelude.{◌≡◌, List, ℕ, ◌+◌, ◌-◌, ◌*◌, ◌%◌, ◌^◌, ◌≤◌, ◌<◌, length, get_or}
 use Rattle.std.proofs.Math.Path.{sym, ap, ap₂}
 use Rattle.std.proofs.Common.{◌∙◌, mod-lt, arith, pow_pos}
 use Rattle.std.proofs.Math.Nat.{add-mod_left}
 use Rattle.std.proofs.Math.Decide.{dec_lt}
-use Rattle.std.specs.Int.Bits.{bit_and, bit_xor, differ}
+use Rattle.std.specs.Int.Bits.{bit_and, differ}
 use Rattle.std.proofs.lemmas.Nat.{and_mask}
 use Rattle.gage_shuffle.specs.Shuffling.{bit}
 use Rattle.base_digits.specs.Digits.{digit, differ-none, digit-xor, digit-mod, digit-high, digit-shl-low, digit-shl-high}

@@ -1,12 +1,12 @@
 -- Planes cut to the digits of the state that they hold are the planes of that state, and of no other. Assumes nothing.
-use Rattle.std.specs.Prelude.{◌≡◌, refl, ℕ, zero, suc, ◌+◌, ◌-◌, ◌*◌, ◌/◌, ◌%◌, ◌^◌, ◌≤◌, ◌<◌, length, get_or}
-use Rattle.std.proofs.Common.{sym, ap₂, ◌∙◌, mod-eq_of_lt, arith, lt-ltb}
+use Rattle.std.specs.Prelude.{◌≡◌, refl, ℕ, ◌+◌, ◌-◌, ◌^◌, ◌≤◌, ◌<◌, length, get_or}
+use Rattle.std.proofs.Common.{sym, ◌∙◌, mod-eq_of_lt, arith, lt-ltb}
 use Rattle.std.proofs.Math.Path.{ap}
 use mathlib.Core.List.{List, []}
 use Rattle.std.specs.Int.Bits.{bit_and, mask_lt}
 use Rattle.std.proofs.lemmas.Nat.{and_mask}
 use Rattle.std.proofs.Math.ListN.{take, drop, drop_of_length-le}
-use Rattle.std.proofs.Math.Seq.{take_all, take-nil}
+use Rattle.std.proofs.Math.Seq.{take_all}
 use Rattle.base_digits.specs.Digits.{digit, digit-mod, digits_same}
 use Rattle.base_digits.specs.Held.{Held}
 use Rattle.base_digits.specs.Joined.{grown}

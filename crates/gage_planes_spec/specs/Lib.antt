@@ -1,6 +1,5 @@
 pub mod Planes
 pub mod Columns
-pub mod Moving
 pub mod Products
 pub mod Leading
 pub mod Turning
@@ -11,5 +10,4 @@ pub mod Windows
 pub mod Rounds
 pub mod Rounding
 pub mod Both
-pub mod Permuting
 pub mod Sizes

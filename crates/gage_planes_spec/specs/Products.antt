@@ -1,7 +1,7 @@
 -- The product of a pair of cells by their bits, one digit of a plane each: a test at each of the sixteen pairs; and a byte of four products.
 -- Assumes nothing.
-use Rattle.std.specs.Prelude.{◌≡◌, refl, Bool, List, ℕ, ◌+◌, ◌*◌, ◌/◌, ◌%◌, ◌^◌, ◌≤◌, ◌<◌, min, eqb, replicate}
-use Rattle.std.proofs.Common.{sym, ap, ◌∙◌, eqb→eq}
+use Rattle.std.specs.Prelude.{◌≡◌, Bool, ℕ, ◌+◌, ◌*◌, ◌/◌, ◌%◌, ◌≤◌, ◌<◌, min, eqb, replicate}
+use Rattle.std.proofs.Common.{◌∙◌, eqb→eq}
 use Rattle.std.proofs.Math.Path.{ap₂}
 use native.Mathlib.Omega.{arith}
 use Rattle.std.specs.Int.Bits.{differ}

@@ -1,6 +1,6 @@
 -- Rounds on a state in planes: what the calls work out, and what is promised of each form, whatever state the planes hold. Assumes nothing: these are
 -- definitions.
-use Rattle.std.specs.Prelude.{◌≡◌, List, ℕ, ◌+◌, ◌*◌, ◌≤◌, ◌<◌, length}
+use Rattle.std.specs.Prelude.{◌≡◌, List, ℕ, ◌+◌, ◌*◌, ◌≤◌, length}
 use Rattle.base_lists.specs.Below.{Below}
 use Rattle.gage_spec.specs.Permutation.{permute, judged, after}
 use Rattle.gage_planes_spec.specs.declared.Planes.{Planes}

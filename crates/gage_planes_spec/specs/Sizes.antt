@@ -1,11 +1,11 @@
 -- The sizes that are permitted, by the form of their planes: at most 50 bytes, 64, or twice 34 to 36; and what is made of another size or count. Assumes
 -- nothing.
-use Rattle.std.specs.Prelude.{◌≡◌, refl, Bool, true, false, cond, ◌&&◌, List, [], ◌∷◌, ℕ, ◌+◌, ◌/◌, ◌≤◌, ◌<◌, T, leb, eqb, replicate}
-use Rattle.std.proofs.Common.{sym, ap, ◌∙◌, ⊎_elim, arith, leb→le, eqb→eq, leb-true, eqb-true}
+use Rattle.std.specs.Prelude.{◌≡◌, refl, Bool, true, false, cond, ◌&&◌, [], ◌∷◌, ℕ, ◌+◌, ◌/◌, ◌≤◌, ◌<◌, T, leb, eqb, replicate}
+use Rattle.std.proofs.Common.{sym, ap, ⊎_elim, arith, leb→le, eqb→eq, leb-true, eqb-true}
 use types.Run.{OneOf}
 use denote.Enum.Declared.{tag_of}
 use Rattle.base_lists.specs.Table.{at, both, both_left, both_right}
-use Rattle.gage_spec.specs.Permutation.{LARGEST, MOST-ROUNDS, among, permitted, judged_number, judged, after}
+use Rattle.gage_spec.specs.Permutation.{LARGEST, MOST-ROUNDS, among, permitted, judged_number, judged}
 use Rattle.gage_spec.specs.Tables.{permitted-size}
 use Rattle.gage_spec.specs.declared.Answer.{Answer}
 use Rattle.gage_spec.specs.declared.Answer.TheVariants.{Done, Size, Rounds}

@@ -90,7 +90,9 @@ number_more p x c zero h g = absurd (omega arith)
 number_more p x c (suc n) h g = elim (dec_lt n p) [
   | yes l ↦
       let e : p ≡ suc n = omega (arith, l) in
-      rw (e, last n) (omega (arith, number-beyond (suc n) x c n (omega arith), alone-there (suc n) x))
+      let one : 2 ^ (suc n - p) ≡ 1 = rw (e, last n) in
+      let there : alone p x (suc n) ≡ x = rw (← e) (alone-there p x) in
+      rw one (omega (arith, number-beyond p x c n (omega arith), there))
   | no l ↦
       let k : p ≤ n = omega (arith, l) in
       rw (doubled n p k, mul_left_comm x 2 (2 ^ (n - p)))

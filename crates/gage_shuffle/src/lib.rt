@@ -1,6 +1,8 @@
 // The inverse of GAGE's bit shuffling, a byte at a time (document 000, section 1.1.1; specs/Shuffling.antt). The state is first copied with seven bytes
 // wrapped around, so that no loop divides by the size; where an element went is read from the table of places. The shuffle itself is a shift of planes
 // (gage_turn).
+#![tactic(auto)]
+
 ghost use Rattle.std.specs.Prelude.{◌≡◌, [], ◌∷◌, ◌++◌, ◌+◌, ◌-◌, ◌<◌, ◌≤◌, ◌%◌, get_or, take, drop};
 ghost use Rattle.base_lists.specs.Upto.{Upto};
 ghost use Rattle.gage_cells.specs.Sizes.{LARGEST};

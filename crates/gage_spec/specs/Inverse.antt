@@ -5,12 +5,12 @@ use Rattle.base_lists.specs.Below.{Below}
 use Rattle.gage_cells.specs.Cells.{table, substitute, restore}
 use Rattle.gage_cells.specs.Quasigroup.{table-closed}
 use Rattle.gage_cells.specs.States.{length-substitute, length-restore, substitute-below, restore-below}
-use Rattle.gage_cells.specs.Inverse.{restore-substitute, substitute-restore}
+use Rattle.gage_cells.proofs.Inverse.{restore-substitute, substitute-restore}
 use Rattle.gage_shuffle.specs.Sizes.{SMALLEST}
 use Rattle.gage_shuffle.specs.Shuffling.{shuffle}
 use Rattle.gage_shuffle.specs.States.{length-shuffle, shuffle-below}
 use Rattle.gage_shuffle.specs.Inverse.{unshuffle-shuffle, shuffle-unshuffle}
-use Rattle.gage_leaders.specs.Rule.{leaders-below}
+use Rattle.gage_leaders.proofs.Rule.{leaders-below}
 use Rattle.gage_spec.specs.Permutation.{leaders, turns, permute_by, permute, unturns, unpermute_by, unpermute}
 use Rattle.gage_spec.specs.States.{length-unturns, unturns-below}
 

@@ -1,6 +1,8 @@
 // GAGE's round permutation and its inverse by definition (document 000, section 1.1; document 01, 'The permutation'; order W9), that each undoes
 // the other, and which sizes and counts of rounds there are. Leaders, substitution and shuffle are crates of their own, and so is the
 // permutation's code, rounds. The promises cite specs/Permutation.antt.
+#![tactic(auto)]
+
 ghost use Rattle.std.specs.Prelude.{◌≡◌};
 ghost use Rattle.gage_spec.specs.Permutation.{judged_number, permitted, judged};
 
@@ -16,7 +18,7 @@ const SIZE_COUNT: usize = 10;
 const SIZES: [usize; SIZE_COUNT] = [29, 30, 32, 34, 36, 40, 48, 64, 68, LARGEST];
 
 // Done, or refused: a state size that is not permitted, a count of rounds that is not 1 to 255.
-#[derive(Drop)]
+#[derive(Clone, Copy)]
 pub enum Answer {
     Done,
     Size,
@@ -24,7 +26,7 @@ pub enum Answer {
 }
 
 // What the permutation and its inverse give: the state changed where it is done, else as it was.
-#[derive(Drop)]
+#[derive(Clone, Copy)]
 pub struct Permuted {
     pub answer: Answer,
     pub state: [u8; LARGEST],

@@ -9,7 +9,7 @@ use lib.ListN.{length, take, drop, set, get_or, replicate}
 use lib.Seq.{take_all, take-suc, length-take-le, set_at}
 use Rattle.base_lists.specs.Buffers.{copied}
 use Rattle.gage_sponge.specs.Padding.{STOP, last_block, LARGEST-RATE}
-use Rattle.gage_sponge.specs.Blocks.{padded-short}
+use Rattle.gage_sponge.proofs.Blocks.{padded-short}
 
 drop-replicate : (k n a : ℕ) → k ≤ n → drop k (replicate n a) ≡ replicate (n - k) a
 drop-replicate zero n a h = rw (sub-zero n)

@@ -1,4 +1,3 @@
 pub mod Padding
-pub mod Blocks
 pub mod Absorbing
 pub mod Xor

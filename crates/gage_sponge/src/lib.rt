@@ -1,5 +1,7 @@
 // What GAGE's digest and InGAGE's cipher share: a block XORed into a state by value, and the last block of a message, padded.
 // The promises cite specs/Padding.antt and specs/Absorbing.antt.
+#![tactic(auto)]
+
 ghost use Rattle.std.specs.Prelude.{◌≡◌};
 ghost use Rattle.gage_sponge.specs.Absorbing.{xored};
 ghost use Rattle.gage_sponge.specs.Padding.{last_block};

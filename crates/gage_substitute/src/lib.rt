@@ -1,5 +1,7 @@
 // GAGE's substitution and its inverse on a state's first bytes, with a leader (document 000, section 1.1.1), by the products of the crate gage_cells.
 // The promises cite gage_cells/specs/Cells.antt.
+#![tactic(auto)]
+
 ghost use Rattle.std.specs.Prelude.{◌≡◌, ◌<◌, ◌≤◌, ◌%◌, min, take};
 ghost use Rattle.gage_cells.specs.Sizes.{LARGEST};
 ghost use Rattle.gage_cells.specs.Cells.{table, substitute, restore, on_first};

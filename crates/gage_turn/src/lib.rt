@@ -1,6 +1,8 @@
 // One turn of the permutation on a state in planes (document 000, Algorithm 2): the shuffle is a shift of each plane, the substitution a few XOR and AND
 // (document 003, formula 6), and now and then the planes are drawn out anew. Nothing is looked up, and nothing depends on the bytes. The promises cite
 // gage_planes_spec/specs/Planes.antt.
+#![tactic(auto)]
+
 ghost use Rattle.std.specs.Prelude.{◌≡◌, ◌<◌, ◌/◌, ◌%◌};
 ghost use Rattle.base_digits.specs.Joined.{grown};
 ghost use Rattle.gage_planes_spec.specs.Planes.{slid, rolled, rolled_all, upper, lower, begun, led, products};

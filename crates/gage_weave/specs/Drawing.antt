@@ -1,19 +1,19 @@
 -- Bytes drawn into planes, eight at a time, the last first, are the planes of those bytes. Assumes nothing.
-use Rattle.std.specs.Prelude.{◌≡◌, Bool, ℕ, zero, suc, ◌+◌, ◌-◌, ◌*◌, ◌/◌, ◌%◌, ◌^◌, ◌≤◌, ◌<◌, min, get_or, drop}
+use Rattle.std.specs.Prelude.{◌≡◌, ℕ, suc, ◌+◌, ◌-◌, ◌*◌, ◌/◌, ◌%◌, ◌^◌, ◌≤◌, ◌<◌, min, get_or, drop}
 use Rattle.std.proofs.Math.Path.{refl, sym, ap, ap₂}
-use Rattle.std.proofs.Common.{◌∙◌, add-zero, div-one, mod-lt, lt_of_lt_of_le, lt_of_le_of_lt, arith, length-append, drop_of_length-le, pow_mono, pow_pos, length-take-le, take_all, take-take, drop-drop, drop-cons, get_or-append-add}
+use Rattle.std.proofs.Common.{◌∙◌, add-zero, div-one, mod-lt, lt_of_lt_of_le, lt_of_le_of_lt, arith, length-append, pow_mono, pow_pos, length-take-le, take_all, drop-drop, drop-cons, get_or-append-add}
 use mathlib.Core.List.{List, [], ◌∷◌, ◌++◌}
 use Rattle.std.proofs.Math.Decide.{dec_lt}
 use Rattle.std.specs.Int.Bits.{bit_and, bit_xor}
 use Rattle.std.proofs.lemmas.Nat.{xor_lt, and_le_r}
 use Rattle.std.proofs.Math.ListN.{length, take, length-take, length-drop, get_or-append, get_or-eq_default, take-append-drop}
-use Rattle.std.proofs.Math.Seq.{get_or-take, get_or-drop, drop-length, ext_get_or}
+use Rattle.std.proofs.Math.Seq.{get_or-take, get_or-drop, ext_get_or}
 use Rattle.gage_shuffle.specs.Bits.{eight}
 use Rattle.base_digits.specs.Digits.{digit, digit-shr, digit-high, digits_same}
-use Rattle.base_digits.specs.Joined.{grown, joined, grown-below, joined-below, grown-low, grown-high, digit-joined}
+use Rattle.base_digits.specs.Joined.{grown, joined}
+use Rattle.base_digits.proofs.Joined.{grown-below, joined-below, grown-low, grown-high, digit-joined}
 use Rattle.gage_planes_spec.specs.declared.Planes.{Planes}
-use Rattle.gage_planes_spec.specs.declared.State.{State}
-use Rattle.gage_planes_spec.specs.Told.{LOW, ROOM, plane, planes_of, rest_of, state_of}
+use Rattle.gage_planes_spec.specs.Told.{LOW, ROOM, plane, planes_of, rest_of}
 use Rattle.gage_planes_spec.specs.Bytes.{digit-plane, plane-below, worth-plane}
 use Rattle.gage_planes_spec.specs.Exact.{same-planes}
 use Rattle.gage_weave.specs.Weaving.{exchanged, woven, drawn}

@@ -1,5 +1,5 @@
 -- Digits that change places, and a block of eight bytes turned about. Assumes nothing.
-use Rattle.std.specs.Prelude.{◌≡◌, refl, Bool, true, false, cond, T, eqb, ltb, replicate}
+use Rattle.std.specs.Prelude.{◌≡◌, refl, Bool, cond, T, eqb, ltb, replicate}
 use Rattle.std.proofs.Common.{sym, ◌∙◌, eqb→eq, ltb→lt, lt-ltb, le-ltb}
 use Rattle.std.proofs.Math.Path.{ap, ap₂}
 use Prim.Native.Nat.{ℕ, zero, suc, ◌+◌, ◌-◌, ◌*◌, ◌/◌, ◌%◌, ◌^◌, ◌≤◌, ◌<◌, min}

@@ -1,16 +1,15 @@
 -- What callers cite: the bytes of a state with a block XORed in, and of a woven state. Assumes nothing.
 use Rattle.std.specs.Prelude.{◌≡◌, refl, List, [], ◌∷◌, ℕ, zero, suc, ◌≤◌, ◌<◌, length, get_or, take}
-use Rattle.std.proofs.Common.{sym, ap, ap₂, ◌∙◌, not-suc-le-zero, le_of_suc-le-suc, arith, length-take-le, get_or-take}
+use Rattle.std.proofs.Common.{sym, ap, ◌∙◌, not-suc-le-zero, le_of_suc-le-suc, arith, length-take-le, get_or-take}
 use Rattle.std.specs.Int.Bits.{bit_xor, differ}
-use Rattle.std.proofs.lemmas.Nat.{xor_lt}
-use Rattle.base_lists.specs.Below.{Below, below_all, below-take, below_at}
+use Rattle.base_lists.specs.Below.{Below, below-take}
 use Rattle.gage_sponge.specs.Absorbing.{xored}
 use Rattle.gage_sponge.specs.Xor.{length-xored, xored-below}
 use Rattle.base_digits.specs.Digits.{digit, digit-xor}
 use Rattle.gage_planes_spec.specs.declared.State.{State}
-use Rattle.gage_planes_spec.specs.Told.{ROOM, told, state_of, mixed, digit_at}
-use Rattle.gage_planes_spec.specs.Bytes.{Woven, woven-told, told-woven, length-told, mixed-digit, state-woven, told-state}
-use Rattle.gage_planes_spec.specs.Permuting.{told-bytes}
+use Rattle.gage_planes_spec.specs.Told.{ROOM, told, state_of, mixed}
+use Rattle.gage_planes_spec.specs.Bytes.{woven-told, told-woven, length-told, mixed-digit, state-woven}
+use Rattle.gage_planes_spec.proofs.Permuting.{told-bytes}
 
 -- what stands in a state after a block was XORed in
 xored-at : (bs s : List ℕ) (i : ℕ) → i < length s → get_or (xored bs s) i 0 ≡ bit_xor (get_or bs i 0) (get_or s i 0)

@@ -1,12 +1,11 @@
 -- A block of one byte: it is XORed in and told without weaving, a digit a plane. Assumes nothing.
-use Rattle.std.specs.Prelude.{◌≡◌, refl, List, [], ◌∷◌, ℕ, zero, suc, ◌+◌, ◌*◌, ◌/◌, ◌%◌, ◌^◌, min, length, get_or, set}
+use Rattle.std.specs.Prelude.{◌≡◌, refl, List, [], ◌∷◌, ℕ, ◌+◌, ◌*◌, ◌%◌, min, length, get_or, set}
 use Rattle.std.proofs.Common.{sym, ap, ◌∙◌, add-zero, mod-eq_of_lt, arith}
 use Rattle.std.specs.Int.Bits.{bit_xor}
 use Rattle.base_lists.specs.Buffers.{over}
 use Rattle.base_digits.specs.Digits.{digit}
 use Rattle.base_digits.specs.Joined.{grown}
 use Rattle.gage_shuffle.specs.Shuffling.{weighed, tabled}
-use Rattle.gage_planes_spec.specs.declared.Planes.{Planes}
 use Rattle.gage_planes_spec.specs.declared.State.{State}
 use Rattle.gage_planes_spec.specs.Told.{ROOM, plane, rest_of, state_of, mixed, digit_at, byte_at, told}
 use Rattle.gage_planes_spec.specs.Bytes.{byte-below}

@@ -1,8 +1,8 @@
 -- Planes told as bytes, eight at a time. Assumes nothing.
-use Rattle.std.specs.Prelude.{◌≡◌, refl, List, [], ◌∷◌, ◌++◌, ℕ, zero, suc, ◌+◌, ◌-◌, ◌*◌, ◌/◌, ◌%◌, ◌^◌, ◌≤◌, ◌<◌, min, ltb, length, get_or, take, drop}
+use Rattle.std.specs.Prelude.{◌≡◌, refl, List, [], ◌∷◌, ◌++◌, ℕ, zero, suc, ◌+◌, ◌-◌, ◌*◌, ◌/◌, ◌%◌, ◌^◌, ◌≤◌, ◌<◌, length, get_or, take, drop}
 use Rattle.std.proofs.Common.{sym, ap, ap₂, ◌∙◌, append_assoc, zero-add, add-zero, suc-add, add-suc, arith, length-append, length-drop, ext_get_or, drop-drop, drop_at, take_at, length-take-le, lt-ltb, le-ltb}
 use Rattle.std.proofs.Math.Decide.{dec_lt}
-use borrow.Rule.Slice.PartMut.{put_mid, post_of}
+use borrow.Rule.Slice.PartMut.{put_mid}
 use Rattle.base_lists.specs.Buffers.{over}
 use Rattle.base_lists.specs.Over.{over-length}
 use Rattle.base_lists.specs.Upto.{Upto}
@@ -10,10 +10,9 @@ use Rattle.gage_shuffle.specs.Shuffling.{tabled}
 use Rattle.gage_shuffle.specs.Bits.{eight}
 use Rattle.gage_shuffle.specs.States.{length-tabled, tabled-at}
 use Rattle.base_digits.specs.Digits.{digit, digit-shr, digit-mod, digits_same}
-use Rattle.base_digits.specs.Joined.{joined, digit-joined}
+use Rattle.base_digits.proofs.Joined.{digit-joined}
 use Rattle.gage_planes_spec.specs.declared.Planes.{Planes}
 use Rattle.gage_planes_spec.specs.declared.State.{State}
-use Rattle.gage_planes_spec.specs.Planes.{taken}
 use Rattle.gage_planes_spec.specs.Told.{LOW, ROOM, worth, digit_at, byte_at, told}
 use Rattle.gage_planes_spec.specs.Bytes.{length-told, byte-digit, byte-below}
 use Rattle.gage_weave.specs.Weaving.{woven, eight_of, bytes_of}

@@ -1,6 +1,8 @@
 // Between a state's bytes and its planes, eight bytes at a time: a block of eight is a table of 64 bits in a number, and is turned about its diagonal by
 // three exchanges, the same way in and out. And a block XORed into a state in planes. Nothing is looked up, and nothing depends on the bytes. The promises
 // cite gage_planes_spec/specs/Told.antt and specs/Weaving.antt.
+#![tactic(auto)]
+
 ghost use Rattle.std.specs.Prelude.{◌≡◌, [], ◌∷◌, ◌+◌, ◌-◌, ◌≤◌, ◌<◌, ◌%◌, min, length, get_or, take, drop};
 ghost use Rattle.base_lists.specs.Buffers.{over};
 ghost use Rattle.base_digits.specs.Digits.{digit};

@@ -1,0 +1,12 @@
+-- `copy` meets its promise. The invariant: what was copied so far stands over the buffer's start (`Filled`); the measure is what
+-- is left of src. Assumes nothing.
+use Prim.Native.Nat.{◌-◌}
+use lib.ListN.{length, take}
+use Rattle.base_lists.specs.Fill.{Filled}
+use Rattle.base_lists.proofs.copy.Given as goal
+
+abbrev pub invariant-loop-i : goal.invariant-loop-i
+invariant-loop-i l = Filled (take (length l.initial.out) l.src) l.initial.out l.out l.i
+
+abbrev pub decreases-loop-i : goal.decreases-loop-i
+decreases-loop-i l = length l.src - l.i
