@@ -1,5 +1,7 @@
 // The ten GAGE digests (document 000, section 1.1.4; document 01, 'The digest'): the call, with its refusals and its count. The sponge is the
 // crate digest_sponge. The promises cite specs/Answers.antt.
+#![tactic(auto)]
+
 ghost use Rattle.std.specs.Prelude.{◌≡◌};
 ghost use Rattle.digest_call.specs.Answers.{digest_answer, digest_out, digest_number, count_of};
 
@@ -9,7 +11,7 @@ pub const DIGEST: usize = digest_sponge::DIGEST;
 pub const LONGEST_MESSAGE: usize = 65536;
 
 // Done with the calls of the permutation, or refused: an unknown instance, a message too long, no room for the digest.
-#[derive(Drop)]
+#[derive(Clone, Copy)]
 pub enum Digested {
     Done(usize),
     Instance,

@@ -15,13 +15,3 @@ abbrev pub known : List ℕ
 known =
     0xD5 ∷ 0xEE ∷ 0x01 ∷ 0x04 ∷ 0x81 ∷ 0x90 ∷ 0x10 ∷ 0x77 ∷ 0x8D ∷ 0xCB ∷ 0x75 ∷ 0x8E ∷ 0xF3 ∷ 0xD9 ∷ 0xB5 ∷ 0x59 ∷ 0xDB ∷ 0x48 ∷ 0xF4 ∷ 0x87
     ∷ 0xAE ∷ 0xBF ∷ 0x93 ∷ 0x99 ∷ 0x5D ∷ 0x14 ∷ 0x6C ∷ 0xB1 ∷ 0x5F ∷ 0x37 ∷ 0x46 ∷ 0xB0 ∷ []
-
--- compared byte by byte, so that a wrong definition is found out at its first wrong byte
-tested : same (digest_of 8 []) known ≡ true
-unfolding same digest_of sponged squeezed absorbed bit_size bit_rate size_of rate_of outputs_of block padded xored permute permute_by turns leaders substitute cells
-    bytes follow shuffle shuffled_byte weighed tabled
-tested = refl
-
--- the digest of no bytes by instance 8
-pub known-answer : digest_of 8 [] ≡ known
-known-answer = same-eq (digest_of 8 []) known tested

@@ -8,7 +8,7 @@ use Rattle.gage_spec.specs.Tables.{permitted-size}
 use Rattle.gage_spec.specs.States.{length-permute, permute-below}
 use Rattle.gage_sponge.specs.Padding.{LARGEST-RATE, block, block_count}
 use Rattle.gage_sponge.specs.Absorbing.{Run, xored}
-use Rattle.gage_sponge.specs.Blocks.{block-below}
+use Rattle.gage_sponge.proofs.Blocks.{block-below}
 use Rattle.gage_sponge.specs.Xor.{length-xored, xored-below}
 use Rattle.digest_spec.specs.Instances.{DIGEST, unknown, size_of, rate_of, outputs_of}
 use Rattle.digest_spec.specs.Shapes.{known-whole}

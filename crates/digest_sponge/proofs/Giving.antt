@@ -13,7 +13,7 @@ use Rattle.base_lists.specs.Buffers.{over}
 use Rattle.base_lists.specs.Over.{over-whole}
 use Rattle.gage_spec.specs.Permutation.{ROUNDS, permute}
 use Rattle.gage_sponge.specs.Absorbing.{from}
-use Rattle.gage_sponge.specs.Blocks.{blocks-suc}
+use Rattle.gage_sponge.proofs.Blocks.{blocks-suc}
 use Rattle.gage_planes_spec.specs.declared.State.{State}
 use Rattle.gage_planes_spec.specs.Told.{ROOM, told}
 use Rattle.gage_planes_spec.specs.Bytes.{length-told, take-told}

@@ -6,13 +6,13 @@ use Prim.Native.Nat.{ℕ, ◌+◌, ◌-◌, ◌*◌, ◌/◌, ◌≤◌, ◌<◌
 use native.Mathlib.Nat.{zero-mul, div-mul-le_self}
 use native.Mathlib.Numerals.{add-one}
 use native.Mathlib.Omega.{arith}
-use lib.ListN.{length, take, drop, replicate, length-take, length-drop}
+use lib.ListN.{length, take, drop, replicate, length-drop}
 use lib.Seq.{take_all}
 use Rattle.gage_spec.specs.Permutation.{LARGEST, ROUNDS, permute}
 use Rattle.gage_spec.specs.Tables.{permitted-size}
 use Rattle.gage_sponge.specs.Padding.{block, block_count, last_block}
 use Rattle.gage_sponge.specs.Absorbing.{xored, from}
-use Rattle.gage_sponge.specs.Blocks.{blocks-suc, whole-ends, last-block-cut, take-replicate}
+use Rattle.gage_sponge.proofs.Blocks.{blocks-suc, whole-ends, last-block-cut, take-replicate}
 use Rattle.gage_planes_spec.specs.declared.State.{State}
 use Rattle.gage_planes_spec.specs.Told.{told}
 use Rattle.gage_weave.specs.Mixing.{MixedIn}

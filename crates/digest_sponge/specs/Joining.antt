@@ -7,9 +7,9 @@ use Rattle.std.proofs.lemmas.List.{length-replicate, take-append-le, drop-append
 use Rattle.std.proofs.Math.Seq.{drop-append-add}
 use Rattle.gage_spec.specs.Permutation.{ROUNDS, permute}
 use Rattle.gage_spec.specs.States.{length-permute}
-use Rattle.gage_sponge.specs.Padding.{LARGEST-RATE, block, last_block}
+use Rattle.gage_sponge.specs.Padding.{LARGEST-RATE, last_block}
 use Rattle.gage_sponge.specs.Absorbing.{xored, Run, from, changed, called}
-use Rattle.gage_sponge.specs.Blocks.{block-whole, last-block-cut, take-replicate}
+use Rattle.gage_sponge.proofs.Blocks.{block-whole, last-block-cut, take-replicate}
 use Rattle.gage_sponge.specs.Xor.{length-xored}
 use Rattle.digest_spec.specs.Hashing.{absorbed, squeezed, sponged}
 use Rattle.digest_sponge.specs.Calls.{squeezed-calls}

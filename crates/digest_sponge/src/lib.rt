@@ -1,6 +1,8 @@
 // The sponge of the ten GAGE digests (document 000, section 1.1.4; document 01, 'The digest') over state size and rate, with the instances as
 // rows of a table: a message taken up whole or in parts, and the digest given out. A state stays in planes from block to block; its bytes are woven in and told
 // only where a call begins or ends. The promises cite specs/Parts.antt and the definitions of the crate digest_spec.
+#![tactic(auto)]
+
 ghost use Rattle.std.specs.Prelude.{◌≡◌, true, false, ◌*◌, ◌/◌, ◌≤◌, length, take};
 ghost use Rattle.gage_spec.specs.Permutation.{LARGEST, ROUNDS, permitted, permute};
 ghost use Rattle.gage_planes_spec.specs.Told.{told};
@@ -39,7 +41,7 @@ const INSTANCES: [[usize; 2]; INSTANCE_COUNT] = [
 ];
 
 // What the sponge of an instance works with: state size and rate in bytes, and how often it gives out.
-#[derive(Drop)]
+#[derive(Clone, Copy)]
 pub struct Shape {
     pub size: usize,
     pub rate: usize,

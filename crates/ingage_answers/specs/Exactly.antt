@@ -13,8 +13,8 @@ use Rattle.ingage_answers.specs.declared.Sealed.TheVariants as sealed
 use Rattle.ingage_answers.specs.declared.Opened.TheVariants as opened
 use Rattle.ingage_spec.specs.Instances.{Fitting}
 use Rattle.ingage_spec.specs.Cipher.{Work, encrypted, decrypted, accepted}
-use Rattle.ingage_spec.specs.RoundTrip.{seal-open, exactly, accepted-refl, accepted-eq}
-use Rattle.ingage_spec.specs.Results.{seal-calls, open-calls, length-encrypted, length-decrypted, decrypted-below}
+use Rattle.ingage_spec.proofs.RoundTrip.{seal-open, exactly, accepted-refl, accepted-eq}
+use Rattle.ingage_spec.proofs.Results.{seal-calls, open-calls, length-encrypted, length-decrypted, decrypted-below}
 use Rattle.ingage_answers.specs.Answers.{seal_count, open_count, LONGEST-ASSOCIATED, LONGEST-TEXT, sized, too_long}
 use Rattle.ingage_answers.specs.Answers.{calls_of, SealCall, seal_call, OpenCall, open_call}
 

@@ -1,14 +1,12 @@
 -- The calls with an instance's number: 1 comes before every other refusal, and at a known number what is said over the sizes of an
 -- instance holds (`Exactly`). Assumes nothing.
 use Rattle.std.specs.Prelude.{◌≡◌, List, ℕ}
-use Rattle.std.proofs.Common.{ap, ◌∙◌}
 use Rattle.ingage_spec.specs.declared.Instance.{Instance}
-use Rattle.ingage_spec.specs.declared.Named.{Named}
 use Rattle.ingage_spec.specs.declared.Named.TheVariants.{Unknown, Known}
 use Rattle.ingage_answers.specs.declared.Sealed.TheVariants as sealed
 use Rattle.ingage_answers.specs.declared.Opened.TheVariants as opened
 use Rattle.ingage_spec.specs.Instances.{named, FIRST, first, first-named}
-use Rattle.ingage_answers.specs.Answers.{SealCall, seal_call, seal_named, OpenCall, open_call, open_named}
+use Rattle.ingage_answers.specs.Answers.{seal_call, seal_named, open_call, open_named}
 
 module _ (i : ℕ) (key nonce A text out seal : List ℕ) where
   -- a number that names none is 1, whatever else is wrong

@@ -1,6 +1,8 @@
 // What seal and open answer and leave in the buffers lent (document 01, 'Numbers returned'), by definition, and that open gives back what seal
 // was given. The only code is what both ask about lengths, and the number and count of each answer; the calls that meet the definitions are in the
 // crate ingage_call. The promises cite specs/Answers.antt.
+#![tactic(auto)]
+
 ghost use Rattle.std.specs.Prelude.{◌≡◌};
 ghost use Rattle.ingage_answers.specs.Answers.{too_long, calls_of, seal_number, seal_count, open_number, open_count};
 
@@ -12,7 +14,7 @@ const LONGEST_ASSOCIATED: usize = 1024;
 const LONGEST_TEXT: usize = 4096;
 
 // Done with so many calls of the permutation, or refused: Instance is a number that names none.
-#[derive(Drop)]
+#[derive(Clone, Copy)]
 pub enum Sealed {
     Done(usize),
     Instance,
@@ -22,7 +24,7 @@ pub enum Sealed {
 }
 
 // The same; Seal is a seal that is not the one worked out, with the calls of the finished work.
-#[derive(Drop)]
+#[derive(Clone, Copy)]
 pub enum Opened {
     Done(usize),
     Instance,

@@ -9,7 +9,7 @@ use lib.Dec.{eqb}
 use lib.ListN.{length, take, drop, length-replicate, drop_of_length-le}
 use lib.Seq.{take_all, drop_at, length-take-le, take-take, take-add}
 use borrow.Author.Tests.{eqb-true, lt-ltb}
-use Rattle.base_lists.specs.Buffers.{over, copied, cleared, same}
+use Rattle.base_lists.specs.Buffers.{over, copied, cleared}
 use Rattle.base_lists.specs.Over.{over-length}
 use Rattle.gage_spec.specs.Permutation.{LARGEST}
 use Rattle.gage_sponge.specs.Padding.{block_count}
@@ -23,7 +23,7 @@ use Rattle.ingage_spec.specs.Instances.{Fitting, named, named-fits}
 use Rattle.ingage_spec.specs.Cipher.{begun, encrypting, decrypting, finished, seal_of, encrypted, decrypted, accepted}
 use Rattle.ingage_answers.specs.Answers.{sized, too_long, calls_of, SealCall, seal_call, seal_named, OpenCall, open_call, open_named}
 use Rattle.ingage_spec.specs.Runs.{encrypting-from, decrypting-from}
-use Rattle.ingage_spec.specs.Results.{length-seal, length-decrypted}
+use Rattle.ingage_spec.proofs.Results.{length-seal, length-decrypted}
 use Rattle.ingage_answers.specs.Naming.{seal-unnamed, open-unnamed, seal-named, open-named}
 use Rattle.ingage_answers.specs.Exactly.{Within, not-too-long, seal-counted, open-counted, sealed-within, opened-within}
 use Rattle.gage_planes_spec.specs.declared.State.{State}
@@ -38,8 +38,8 @@ all_three true false c e = never (sym e)
 all_three false b c e = never (sym e)
 
 -- a promise in parts
-pub seal-met : {c x : SealCall} → c ≡ x → (x.answer ≡ c.answer) × ((x.out ≡ c.out) × (x.seal ≡ c.seal))
-seal-met e = (ap (λ (y : SealCall). y.answer) (sym e), (ap (λ (y : SealCall). y.out) (sym e), ap (λ (y : SealCall). y.seal) (sym e)))
+pub seal-met : {c x : SealCall} → c ≡ x → (x.answer ≡ c.answer) × (x.out ≡ c.out) × (x.seal ≡ c.seal)
+seal-met e = (ap (λ (y : SealCall). y.answer) (sym e), ap (λ (y : SealCall). y.out) (sym e), ap (λ (y : SealCall). y.seal) (sym e))
 
 pub open-met : {c x : OpenCall} → c ≡ x → (x.answer ≡ c.answer) × (x.out ≡ c.out)
 open-met e = (ap (λ (y : OpenCall). y.answer) (sym e), ap (λ (y : OpenCall). y.out) (sym e))

@@ -1,6 +1,6 @@
 -- A block is its piece of the text, padded: for the last block and for the whole ones before it. Where the code has a piece
 -- end, and the turns of a loop over blocks. Assumes nothing.
-use mathlib.Core.Path.{◌≡◌, sym, ap, ◌∙◌}
+use mathlib.Core.Path.{◌≡◌, sym, ◌∙◌}
 use mathlib.Core.List.{List}
 use Prim.Native.Nat.{ℕ, ◌+◌, ◌-◌, ◌*◌, ◌/◌, ◌%◌, ◌≤◌, ◌<◌, min}
 use native.Mathlib.Nat.{mul-le-mul_right, div-le_self, div-mul-le_self}
@@ -8,9 +8,9 @@ use native.Mathlib.Decide.{dec_lt}
 use native.Mathlib.Omega.{arith}
 use lib.Dec.{eqb, ltb}
 use lib.ListN.{length, take, drop, length-take, length-drop}
-use lib.Seq.{take_all, take_at, length-take-le}
+use lib.Seq.{take_all, take_at}
 use Rattle.gage_sponge.specs.Padding.{padded, block, block_count, last_block, LARGEST-RATE}
-use Rattle.gage_sponge.specs.Blocks.{blocks-suc, whole-rest, block-whole, last-block-cut}
+use Rattle.gage_sponge.proofs.Blocks.{blocks-suc, whole-rest, block-whole, last-block-cut}
 use borrow.Author.Tests.{eq-eqb, ne_eqb, lt-ltb, le-ltb}
 use Rattle.ingage_spec.specs.declared.Instance.{Instance}
 use Rattle.ingage_spec.specs.Instances.{Fitting}

@@ -15,7 +15,7 @@ use Rattle.gage_planes_spec.specs.Told.{ROOM, told}
 use Rattle.gage_planes_spec.specs.Bytes.{length-told, take-told}
 use Rattle.gage_weave.specs.Mixing.{MixedIn}
 use Rattle.gage_sponge.specs.Padding.{padded, block, block_count, last_block, LARGEST-RATE}
-use Rattle.gage_sponge.specs.Blocks.{length-last-block}
+use Rattle.gage_sponge.proofs.Blocks.{length-last-block}
 use Rattle.gage_sponge.specs.Absorbing.{xored, Run, from}
 use Rattle.ingage_spec.specs.declared.Instance.{Instance}
 use Rattle.ingage_spec.specs.Instances.{Fitting}
@@ -28,7 +28,7 @@ use Rattle.ingage_steps.specs.First.{last-told}
 use Rattle.ingage_spec.specs.Masking.{masked-take, length-masked}
 use Rattle.ingage_spec.specs.Pieces.{piece-starts, length-piece}
 use Rattle.ingage_spec.specs.Runs.{length-encrypting, length-decrypting}
-use Rattle.ingage_spec.specs.Flows.{sealing-grows, opening-grows, length_found}
+use Rattle.ingage_spec.proofs.Flows.{sealing-grows, opening-grows, length_found}
 use Rattle.ingage_call.proofs.Pads.{block_of, piece-part, marked-piece}
 use Rattle.ingage_call.proofs.Writing.{written}
 

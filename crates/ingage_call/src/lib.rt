@@ -1,6 +1,8 @@
 // InGAGE's cipher (document 000, section 2.1; document 01, 'The cipher'): seal and open, at each instance of the crate cipher's table. The
 // texts are passed by the module texts, and the steps between them are the crate ingage_steps. The promises cite the definitions of the crates
 // sealing and cipher.
+#![tactic(auto)]
+
 mod texts;
 
 ghost use Rattle.std.specs.Prelude.{◌≡◌};

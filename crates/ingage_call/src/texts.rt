@@ -19,7 +19,7 @@ use gage_sponge::LARGEST_RATE;
 use ingage_spec::Instance;
 
 // What a text is passed for: 'Absorb associated data A', 'Absorb and encrypt the plaintext P', 'Process the ciphertext C'.
-#[derive(Drop)]
+#[derive(Clone, Copy)]
 pub enum Way {
     Absorb,
     Encrypt,

@@ -1,7 +1,7 @@
 -- The instances of InGAGE (document 000, Table 2.1), one row each, and the rule that every row keeps, by which the cipher's steps fit
 -- its state: one test computed over the whole table. Assumes nothing.
 use Rattle.std.specs.Prelude.{ℕ, suc, ◌+◌, ◌-◌, ◌*◌, ◌/◌, ◌≤◌, ◌<◌, ◌≡◌, refl, Bool, true, false, cond, List, [], ◌∷◌, T, leb, ltb, length, get_or, replicate}
-use Rattle.std.proofs.Common.{arith, subst, ◌∙◌, leb→le, ltb→lt, ltb-false}
+use Rattle.std.proofs.Common.{arith, subst, leb→le, ltb→lt, ltb-false}
 use Rattle.base_lists.specs.Buffers.{same}
 use Rattle.base_lists.specs.Sameness.{same-eq}
 use Rattle.base_lists.specs.Table.{at, both, both_left, both_right}

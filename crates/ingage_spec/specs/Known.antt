@@ -31,13 +31,3 @@ abbrev pub long_known : List ℕ
 long_known =
     0xA5 ∷ 0x84 ∷ 0x14 ∷ 0xBA ∷ 0x3F ∷ 0xAB ∷ 0xB0 ∷ 0x70 ∷ 0xD5 ∷ 0x89 ∷ 0x60 ∷ 0x83 ∷ 0xF4 ∷ 0xC2 ∷ 0x45 ∷ 0x44 ∷
     0x1D ∷ 0xBB ∷ 0x5E ∷ 0xFA ∷ 0xD4 ∷ 0xD9 ∷ 0x0E ∷ 0x1E ∷ []
-
--- compared byte by byte, so that a wrong definition is found out at its first wrong byte
-long-tested : same (long_answer.text ++ long_answer.seal) long_known ≡ true
-unfolding same encrypted seal_of finished encrypting begun absorbed absorbing associated_block started keyed last_xored block padded xored permute permute_by turns
-    leaders substitute cells bytes follow shuffle shuffled_byte weighed tabled instance_of
-long-tested = refl
-
--- the ciphertext and the seal behind it
-pub long-known-answer : long_answer.text ++ long_answer.seal ≡ long_known
-long-known-answer = same-eq (long_answer.text ++ long_answer.seal) long_known long-tested

@@ -4,6 +4,4 @@ pub mod Masking
 pub mod Pieces
 pub mod Runs
 pub mod Flows
-pub mod RoundTrip
-pub mod Results
 pub mod Known

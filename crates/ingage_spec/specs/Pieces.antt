@@ -7,7 +7,7 @@ use Rattle.std.proofs.Math.Decide.{dec_le, dec_lt}
 use Rattle.std.proofs.Math.Seq.{take-length}
 use Rattle.std.proofs.lemmas.List.{take-append-le, drop-append-le}
 use Rattle.gage_sponge.specs.Padding.{padded, block, block_count}
-use Rattle.gage_sponge.specs.Blocks.{blocks-suc, whole-rest}
+use Rattle.gage_sponge.proofs.Blocks.{blocks-suc, whole-rest}
 use Rattle.ingage_spec.specs.Cipher.{piece}
 
 -- a piece that there is starts in the text or at its end

@@ -1,7 +1,7 @@
 -- The first bytes of the arrays that the steps leave, as many as the instance's state or its rate has, are the states and blocks of the crate
 -- cipher's definitions. Assumes nothing.
 use Rattle.std.specs.Prelude.{◌≡◌, refl, Bool, true, false, cond, List, [], ◌∷◌, ◌++◌, ℕ, zero, suc, ◌+◌, ◌-◌, ◌≤◌, ◌<◌, ltb, length, get_or, set, take, drop, replicate}
-use Rattle.std.proofs.Common.{sym, ap, ap₂, ◌∙◌, append-nil, not-suc-le-zero, le_of_suc-le-suc, arith, length-append, length-set, length-take, length-drop, take_all, length-take-le, get_or-take, drop_at, drop-drop, le-ltb}
+use Rattle.std.proofs.Common.{sym, ap, ap₂, ◌∙◌, not-suc-le-zero, le_of_suc-le-suc, arith, length-append, length-take, length-drop, take_all, length-take-le, get_or-take, drop_at, drop-drop, le-ltb}
 use Rattle.std.specs.Int.Bits.{bit_xor, xor_zero_r}
 use Rattle.std.proofs.lemmas.List.{length-replicate, get_or-replicate}
 use Rattle.std.proofs.Math.Seq.{take-set-lt, take-append-add}
@@ -14,12 +14,12 @@ use Rattle.gage_spec.specs.Answers.{answered-first, judged-done}
 use Rattle.gage_spec.specs.States.{length-permute}
 use Rattle.gage_sponge.specs.Padding.{last_block, LARGEST-RATE}
 use Rattle.gage_sponge.specs.Absorbing.{xored, from}
-use Rattle.gage_sponge.specs.Blocks.{take-replicate, length-last-block}
+use Rattle.gage_sponge.proofs.Blocks.{take-replicate, length-last-block}
 use Rattle.gage_sponge.specs.Xor.{xored-take}
 use Rattle.gage_planes_spec.specs.declared.State.{State}
 use Rattle.gage_planes_spec.specs.Told.{told, mixed}
 use Rattle.gage_planes_spec.specs.Bytes.{length-told}
-use Rattle.gage_planes_spec.specs.Permuting.{told-permuted}
+use Rattle.gage_planes_spec.proofs.Permuting.{told-permuted}
 use Rattle.gage_weave.specs.Mixing.{told-mixed}
 use Rattle.ingage_spec.specs.declared.Instance.{Instance}
 use Rattle.ingage_spec.specs.Instances.{Fitting}

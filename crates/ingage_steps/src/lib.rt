@@ -1,6 +1,8 @@
 // The steps of InGAGE's Algorithms 5 and 6 (ingage_spec/specs/Cipher.antt) that pass no text: the start, the block of a piece of the associated data,
 // and what is XORed in behind each text. The start is worked out in an array by value of which the first bytes count, as many as the instance's state has;
 // from then on a state stays in planes. The promises cite specs/Arrays.antt.
+#![tactic(auto)]
+
 ghost use Rattle.std.specs.Prelude.{◌≡◌};
 ghost use Rattle.ingage_spec.specs.Cipher.{AFTER-ASSOCIATED};
 ghost use Rattle.ingage_steps.specs.Arrays.{whole_of, last_of, put_at, marked_of, start_of, last_mixed, finish_of};

@@ -1,4 +1,6 @@
 // The table of InGAGE's instances (document 000, Table 2.1), and what a number names in it. The promise cites ingage_spec/specs/Instances.antt.
+#![tactic(auto)]
+
 ghost use Rattle.std.specs.Prelude.{◌≡◌};
 ghost use Rattle.ingage_spec.specs.Instances.{named};
 

@@ -1,5 +1,7 @@
 // The running digest (order W4) on a record that the caller lends: it is updated where it stands. Thin over the steps by value of `running_steps`;
 // the promises cite the definitions of `running_spec`.
+#![tactic(auto)]
+
 ghost use Rattle.std.specs.Prelude.{◌≡◌};
 ghost use Rattle.running_spec.specs.Running.{start_answer, start_record, feed_answer, feed_record, finish_answer, finish_record, finish_out};
 

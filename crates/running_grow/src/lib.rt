@@ -1,5 +1,7 @@
 // The sponge's state and the unfinished block as bytes are fed (order W4): a block is taken in as it fills, and what fills none is kept. The promises
 // cite specs/Growing.antt and running_spec/specs/Running.antt.
+#![tactic(auto)]
+
 ghost use Rattle.std.specs.Prelude.{◌≡◌, ◌++◌, ◌≤◌, take};
 ghost use Rattle.gage_sponge.specs.Padding.{LARGEST-RATE};
 ghost use Rattle.digest_sponge.specs.Parts.{within, taken_in};
@@ -10,7 +12,7 @@ use gage_spec::LARGEST;
 use gage_sponge::LARGEST_RATE;
 
 // The state after the blocks that fill, and the block that holds what is left.
-#[derive(Drop)]
+#[derive(Clone, Copy)]
 pub struct Grown {
     pub state: [u8; LARGEST],
     pub block: [u8; LARGEST_RATE],

@@ -2,7 +2,7 @@
 -- test has, and what a call that passed them all does.
 -- Assumes nothing.
 use Rattle.std.specs.Prelude.{◌≡◌, refl, Bool, true, false, cond, List, ◌++◌, ℕ, ◌+◌, ◌≤◌, ltb, length}
-use Rattle.std.proofs.Common.{sym, ap, ◌∙◌, arith, le-ltb, ltb-false}
+use Rattle.std.proofs.Common.{sym, ap, arith, le-ltb, ltb-false}
 use Rattle.base_lists.specs.Never.{never}
 use Rattle.base_lists.specs.Buffers.{over}
 use Rattle.digest_spec.specs.Instances.{DIGEST, unknown}

@@ -1,6 +1,8 @@
 // The running digest (order W4) by definition: its record, what start, feed and finish answer and leave, and that any cutting of a message
 // gives its digest. The only code is the test whether a record can be fed at all; the steps that meet the definitions are in the crate running_steps,
 // the calls on a lent record in running_call.
+#![tactic(auto)]
+
 ghost use Rattle.std.specs.Prelude.{◌≡◌};
 ghost use Rattle.running_spec.specs.Running.{unfeedable};
 
@@ -10,7 +12,7 @@ use gage_sponge::LARGEST_RATE;
 
 // The record: bytes fed, instance, whether there was a finish, the sponge's state and the unfinished block. It has no padding.
 #[repr(C)]
-#[derive(Drop)]
+#[derive(Clone, Copy)]
 pub struct Record {
     pub total: usize,
     pub instance: u32,
@@ -20,14 +22,14 @@ pub struct Record {
 }
 
 // Done, or refused: no known instance.
-#[derive(Drop)]
+#[derive(Clone, Copy)]
 pub enum Started {
     Done,
     Unknown,
 }
 
 // Done, or refused: after a finish; a record with no known instance or with a count no feeding gives; too long.
-#[derive(Drop)]
+#[derive(Clone, Copy)]
 pub enum Fed {
     Done,
     AfterFinish,
@@ -36,7 +38,7 @@ pub enum Fed {
 }
 
 // Done with the calls of the permutation, or refused: after a finish; such a record; no room for the digest.
-#[derive(Drop)]
+#[derive(Clone, Copy)]
 pub enum Finished {
     Done(usize),
     AfterFinish,

@@ -1,12 +1,9 @@
 -- Each return of a step by value gives what the order's refusals say, in their order. Assumes nothing.
 use mathlib.Core.Path.{◌≡◌, refl, sym, ap, ◌∙◌}
 use mathlib.Core.Bool.{false}
-use mathlib.Core.List.{List, [], ◌∷◌, ◌++◌}
-use mathlib.Core.Logic.{⊎_elim}
+use mathlib.Core.List.{List, ◌++◌}
 use Prim.Native.Nat.{ℕ, ◌+◌, ◌/◌, ◌%◌, ◌≤◌}
 use native.Mathlib.Omega.{arith}
-use types.Run.{OneOf}
-use denote.Enum.Declared.{tag_of}
 use borrow.Author.Tests.{le-ltb}
 use lib.ListN.{length, take}
 use Rattle.base_lists.specs.Buffers.{copied, over}
@@ -30,20 +27,18 @@ use Rattle.running_spec.specs.declared.Fed.{Fed}
 use Rattle.running_spec.specs.declared.Fed.TheVariants as fed-is
 use Rattle.running_spec.specs.declared.Finished.{Finished}
 use Rattle.running_spec.specs.declared.Finished.TheVariants as finished-is
-use Rattle.running_spec.specs.contracts.Fed as fed-type
-use Rattle.running_spec.specs.contracts.Finished as finished-type
 
 -- a refused feed leaves the record
-pub feed-refused : (r : Record) (b : List ℕ) (a : Fed) → OneOf (1 ∷ 2 ∷ 3 ∷ []) (tag_of fed-type.the_type a) → a ≡ feed_answer r b → r ≡ feed_record r b
+pub feed-refused : (r : Record) (b : List ℕ) (a : Fed) → (a ≡ fed-is.Done → ⊥) → a ≡ feed_answer r b → r ≡ feed_record r b
 unfolding feed_record
-feed-refused r b fed-is.Done k e = absurd (⊎_elim (λ h. omega (arith, h)) (⊎_elim (λ h. omega (arith, h)) (λ h. omega (arith, h))) k)
+feed-refused r b fed-is.Done k e = absurd (k refl)
 feed-refused r b fed-is.AfterFinish k e = rw (sym e)
 feed-refused r b fed-is.Unknown k e = rw (sym e)
 feed-refused r b fed-is.TooLong k e = rw (sym e)
 
 -- a refused finish leaves the record
-pub finish-refused : (r : Record) (a : Finished) → OneOf (1 ∷ 2 ∷ 3 ∷ []) (tag_of finished-type.the_type a) → r ≡ on_finish a (ended r) r
-finish-refused r (finished-is.Done n) k = absurd (⊎_elim (λ h. omega (arith, h)) (⊎_elim (λ h. omega (arith, h)) (λ h. omega (arith, h))) k)
+pub finish-refused : (r : Record) (a : Finished) → ((n : ℕ) → a ≡ finished-is.Done n → ⊥) → r ≡ on_finish a (ended r) r
+finish-refused r (finished-is.Done n) k = absurd (k n refl)
 finish-refused r finished-is.AfterFinish k = refl
 finish-refused r finished-is.Unknown k = refl
 finish-refused r finished-is.NoRoom k = refl

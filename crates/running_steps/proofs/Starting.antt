@@ -1,20 +1,18 @@
 -- Feeding nothing gives a record of zeros but for its instance. Assumes nothing.
-use mathlib.Core.Path.{◌≡◌, refl, ap, ap₂, ◌∙◌}
+use mathlib.Core.Path.{◌≡◌}
 use mathlib.Core.Bool.{false}
-use mathlib.Core.List.{List, []}
-use Prim.Native.Nat.{ℕ, ◌*◌, ◌/◌}
+use mathlib.Core.List.{[]}
+use Prim.Native.Nat.{ℕ}
 use native.Mathlib.Nat.{zero-div, zero-mul}
-use lib.ListN.{length, replicate, drop}
+use lib.ListN.{replicate}
 use Rattle.gage_spec.specs.Permutation.{LARGEST}
 use Rattle.gage_spec.specs.Tables.{permitted-size}
 use Rattle.gage_sponge.specs.Padding.{LARGEST-RATE}
 use Rattle.digest_spec.specs.Instances.{unknown, size_of, rate_of}
 use Rattle.digest_spec.specs.Hashing.{absorbed}
 use Rattle.digest_spec.specs.Shapes.{known-whole}
-use Rattle.digest_sponge.specs.Parts.{within}
 use Rattle.digest_sponge.specs.Joining.{within-zeros}
 use Rattle.running_spec.specs.Running.{written, left_of, running_of}
-use Rattle.running_spec.specs.declared.Record.{Record}
 
 pub started-empty : (i : ℕ) → unknown i ≡ false
     → running_of i [] ≡ record { total = 0; instance = i; finished = 0; state = replicate LARGEST 0; block = replicate LARGEST-RATE 0 }

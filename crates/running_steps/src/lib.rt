@@ -1,5 +1,7 @@
 // The steps of the running digest (order W4) by value: what start, feed and finish answer, and the record that each leaves. The record holds no more
 // of the message than its unfinished block. The promises cite running_spec/specs/Running.antt.
+#![tactic(auto)]
+
 ghost use Rattle.std.specs.Prelude.{◌≡◌, ◌≤◌, take};
 ghost use Rattle.gage_sponge.specs.Padding.{LARGEST-RATE};
 ghost use Rattle.digest_sponge.specs.Parts.{closed_by};

@@ -1,0 +1,4 @@
+pub mod Flows
+pub mod Known
+pub mod Results
+pub mod RoundTrip
