@@ -3,6 +3,5 @@ pub mod Answers
 pub mod Lengths
 pub mod OneToOne
 pub mod Places
-pub mod Bytes
 pub mod Job
 pub mod Known

@@ -1,5 +1,7 @@
 // The fields of a frame's body (document 01, 'A frame and a stream', and order W6): their tags, lengths and places, and bytes judged as a body.
 // The promises cite specs/Answers.antt; the paper's words stand in specs/Fields.antt.
+#![tactic(auto)]
+
 ghost use Rattle.std.specs.Prelude.{◌≡◌, ◌+◌, ◌*◌, ◌≤◌, [], length, drop};
 ghost use Rattle.frame_body.specs.Fields.{high_byte, takes, job_size, own_of, after_job, fields_of};
 ghost use Rattle.frame_body.specs.Lengths.{job_field_length};
@@ -58,14 +60,14 @@ pub const BESIDE_CIPHER: usize = CIPHER_AT + HEAD_LENGTH + SEAL_LENGTH;
 pub const LONGEST_BODY: usize = BESIDE_CIPHER + HEAD_LENGTH + JOB_LENGTH + LONGEST_LINE;
 
 // Document 01's edition, and the one with a job (order W6).
-#[derive(Drop)]
+#[derive(Clone, Copy)]
 pub enum Edition {
     One,
     Two,
 }
 
 // What some bytes are as a body.
-#[derive(Drop)]
+#[derive(Clone, Copy)]
 pub enum BodyJudged {
     // The fields of this edition; so long is the line ciphertext. Together they give all places.
     Fields(Edition, usize),

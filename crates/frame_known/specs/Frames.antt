@@ -1,6 +1,6 @@
 -- A whole frame of each edition as bytes: the line sealed, its body, stuffed and between two marks. The values are the second program's, which is
 -- written from the papers alone (tests/second; the rows `write 0 1` and `edition 0` of crates/rows_seal/stdout). Assumes nothing.
-use Rattle.std.specs.Prelude.{◌≡◌, refl, true, List, [], ◌∷◌, ◌++◌, ℕ}
+use Rattle.std.specs.Prelude.{◌≡◌, refl, true, List, [], ◌∷◌, ℕ}
 use Rattle.base_lists.specs.Buffers.{same}
 use Rattle.base_lists.specs.Sameness.{same-eq}
 use Rattle.gage_cells.specs.Cells.{cells, bytes, follow, substitute}
@@ -44,20 +44,3 @@ known_two =
     0x52 ∷ 0x55 ∷ 0x58 ∷ 0x5B ∷ 0x5E ∷ 0x05 ∷ 0x00 ∷ 0x04 ∷ 0x7C ∷ 0x7D ∷ 0x5D ∷ 0x7D ∷ 0x5E ∷ 0x7F ∷ 0x03 ∷ 0x00 ∷
     0x01 ∷ 0x01 ∷ 0x04 ∷ 0x00 ∷ 0x10 ∷ 0xED ∷ 0x9C ∷ 0x09 ∷ 0x77 ∷ 0x7A ∷ 0xCF ∷ 0x49 ∷ 0x01 ∷ 0xA3 ∷ 0x4A ∷ 0xEC ∷
     0x4A ∷ 0x92 ∷ 0x49 ∷ 0xC8 ∷ 0x5A ∷ 0x7E ∷ []
-
--- compared byte by byte
-tested-one : same frame_one known_one ≡ true
-unfolding same frame_of framed stuffed sealed_body sealed_line body associated job_field field encrypted seal_of finished encrypting begun absorbed absorbing
-    associated_block started keyed last_xored block padded xored permute permute_by turns leaders substitute cells bytes follow shuffle shuffled_byte weighed tabled
-tested-one = refl
-
-tested-two : same frame_two known_two ≡ true
-unfolding same frame_of framed stuffed sealed_body sealed_line body associated job_field field encrypted seal_of finished encrypting begun absorbed absorbing
-    associated_block started keyed last_xored block padded xored permute permute_by turns leaders substitute cells bytes follow shuffle shuffled_byte weighed tabled
-tested-two = refl
-
-pub frame-one-known : frame_one ≡ known_one
-frame-one-known = same-eq frame_one known_one tested-one
-
-pub frame-two-known : frame_two ≡ known_two
-frame-two-known = same-eq frame_two known_two tested-two

@@ -1,5 +1,6 @@
 -- Room for the fields of a body one behind the other, and what is laid whole, as `put_body` goes. Assumes nothing.
 use mathlib.Core.Path.{◌≡◌, sym, ap, ◌∙◌}
+use mathlib.Core.Bool.{true}
 use mathlib.Core.List.{List, [], ◌++◌, append-nil}
 use Prim.Native.Nat.{ℕ, ◌+◌, ◌≤◌}
 use native.Mathlib.Omega.{arith}
@@ -7,13 +8,15 @@ use lib.ListN.{length, length-append}
 use lib.Seq.{sets, length-sets}
 use Rattle.base_fields.specs.Fields.{head_length, field, field_end, field_out}
 use Rattle.base_fields.specs.Laws.{length-field, put-fits}
-use Rattle.base_fields.specs.Laying.{Laid, Space, sets_more}
+use Rattle.base_fields.specs.Laying.{Laid, Space, sets_more, laid_none, laid_more, laid-field}
 use Rattle.frame_body.specs.declared.Edition.{Edition}
 use Rattle.frame_body.specs.declared.Edition.TheVariants.{One, Two}
 use Rattle.frame_body.specs.Fields.{nonce_tag, digest_tag, cipher_tag, seal_tag, job_tag, nonce_length, digest_length}
 use Rattle.frame_body.specs.Fields.{seal_length, job_length, job_size, Own, job_field, body, associated}
-use Rattle.frame_body.specs.Lengths.{Sized, associated_length, beside_cipher, length-associated}
-use Rattle.frame_put.specs.Answers.{put_answer, put_out, associated_answer, associated_out}
+use Rattle.frame_body.specs.Lengths.{Sized, associated_length, beside_cipher}
+use Rattle.frame_body.proofs.Lengths.{length-associated}
+use Rattle.frame_put.specs.Fitting.{fitting-sized}
+use Rattle.frame_put.specs.Answers.{fitting, put_answer, put_out, associated_answer, associated_out}
 use Rattle.frame_put.specs.Outcomes.{put-done, associated-done}
 use Rattle.frame_put.specs.declared.Put.TheVariants.{Done}
 
@@ -85,6 +88,26 @@ module _ {own : Own} {digest cipher seal o : List ℕ} (r : Ready own digest cip
 
   pub room-seal : Space (n ++ d ++ c) s o
   room-seal = record { both = simp length-append (omega (arith, lengths, r.room)) }
+
+  -- the fields laid so far, one more at a time
+  pub laid_nonce : {out : List ℕ} {k : ℕ} → k ≡ field_end o 0 nonce_tag own.nonce → out ≡ field_out o 0 nonce_tag own.nonce → Laid o out n k
+  laid_nonce e g = laid-field nonce_tag own.nonce (laid_none o) room-nonce (omega (arith, r.sized)) e g
+
+  pub laid_associated : {out out' : List ℕ} {at k : ℕ} → Laid o out n at → k ≡ at + length d → out' ≡ sets out at d → Laid o out' (n ++ d) k
+  laid_associated l e g = laid_more l room-associated e g
+
+  pub laid_cipher : {out out' : List ℕ} {at k : ℕ} → Laid o out (n ++ d) at → k ≡ field_end out at cipher_tag cipher
+      → out' ≡ field_out out at cipher_tag cipher → Laid o out' (n ++ d ++ c) k
+  laid_cipher l e g = laid-field cipher_tag cipher l room-cipher (omega (arith, r.sized)) e g
+
+  pub laid_seal : {out out' : List ℕ} {at k : ℕ} → Laid o out (n ++ d ++ c) at → k ≡ field_end out at seal_tag seal
+      → out' ≡ field_out out at seal_tag seal → Laid o out' (n ++ d ++ c ++ s) k
+  laid_seal l e g = laid-field seal_tag seal l room-seal (omega (arith, r.sized)) e g
+
+-- values that fit, and room for them
+pub ready : (own : Own) (digest cipher seal o : List ℕ) → fitting own digest cipher seal ≡ true → beside_cipher own.edition + length cipher ≤ length o
+    → Ready own digest cipher seal o
+ready own digest cipher seal o e h = record { sized = fitting-sized own digest cipher seal e; room = h }
 
 -- what is laid whole is what the answers speak of
 pub put_whole : {own : Own} {digest cipher seal o out : List ℕ} {k : ℕ} → Sized own digest cipher seal

@@ -5,8 +5,9 @@ use Rattle.base_lists.specs.Never.{never}
 use Rattle.frame_body.specs.declared.Edition.{Edition}
 use Rattle.frame_body.specs.declared.Edition.TheVariants.{One, Two}
 use Rattle.frame_body.specs.Fields.{nonce_tag, digest_tag, cipher_tag, seal_tag, digest_length, job_size, Own, takes}
-use Rattle.frame_body.specs.Lengths.{Sized, takes-nonce, takes-digest, takes-cipher, takes-seal, takes-job}
-use Rattle.frame_body.specs.Lengths.{nonce-taken, digest-taken, cipher-taken, seal-taken, job-taken}
+use Rattle.frame_body.specs.Lengths.{Sized}
+use Rattle.frame_body.proofs.Lengths.{takes-nonce, takes-digest, takes-cipher, takes-seal, takes-job}
+use Rattle.frame_body.proofs.Lengths.{nonce-taken, digest-taken, cipher-taken, seal-taken, job-taken}
 use Rattle.frame_put.specs.Answers.{job_fits, fitting_associated, fitting}
 
 -- a job of its edition's length fits, and no other

@@ -1,5 +1,7 @@
 // Bodies and associated data written (document 01, 'A frame and a stream', and order W6): fields laid one behind the other into a lent buffer.
 // The promises cite specs/Answers.antt; what a field is stands in fields.
+#![tactic(auto)]
+
 ghost use Rattle.std.specs.Prelude.{◌≡◌, ◌++◌, ◌+◌, ◌≤◌, length};
 ghost use Rattle.std.proofs.lemmas.List.Edits.{sets};
 ghost use Rattle.frame_body.specs.Fields.{digest_length, job_size, own_of, associated};
@@ -12,7 +14,7 @@ use frame_body::{
 };
 
 // What writing a body comes to.
-#[derive(Drop)]
+#[derive(Clone, Copy)]
 pub enum Put {
     // The number of bytes written.
     Done(usize),

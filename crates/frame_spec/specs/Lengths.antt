@@ -5,11 +5,12 @@ use Rattle.std.proofs.Common.{◌∙◌, length-append}
 use native.Mathlib.Omega.{arith}
 use Rattle.line_spec.specs.Lines.{longest}
 use Rattle.ingage_spec.specs.Instances.{first, first_fits}
-use Rattle.ingage_spec.specs.Results.{seal-calls-first, length-encrypted, length-seal}
+use Rattle.ingage_spec.proofs.Results.{seal-calls-first, length-encrypted, length-seal}
 use Rattle.frame_body.specs.declared.Edition.{Edition}
 use Rattle.frame_body.specs.declared.Edition.TheVariants.{Two}
 use Rattle.frame_body.specs.Fields.{nonce_length, digest_length, shortest, job_size, Own, associated}
-use Rattle.frame_body.specs.Lengths.{Sized, job_field_length, job-field-most, length-associated, length-body, beside_cipher, shortest_body, longest_body}
+use Rattle.frame_body.specs.Lengths.{Sized, job_field_length, beside_cipher, shortest_body, longest_body}
+use Rattle.frame_body.proofs.Lengths.{job-field-most, length-associated, length-body}
 use Rattle.frame_stuff_spec.specs.Stuffing.{longest_stretch, stuffed}
 use Rattle.frame_stuff_spec.specs.Lengths.{stuffed-at-most, stuffed-at-least}
 use Rattle.frame_spec.specs.Told.{Told, key_length}

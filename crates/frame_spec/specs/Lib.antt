@@ -2,6 +2,5 @@ pub mod Told
 pub mod Frames
 pub mod Lengths
 pub mod Marks
-pub mod Bytes
 pub mod OneToOne
 pub mod AnyLayout

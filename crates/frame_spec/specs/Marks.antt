@@ -6,7 +6,7 @@ use Rattle.std.proofs.Math.ListN.{get_or-append}
 use Rattle.std.proofs.lemmas.List.{get_or_at}
 use Rattle.base_lists.specs.Free.{free-at}
 use Rattle.frame_stuff_spec.specs.Stuffing.{mark, stuffed}
-use Rattle.frame_stuff_spec.specs.Marks.{stuffed-free}
+use Rattle.frame_stuff_spec.proofs.Marks.{stuffed-free}
 use Rattle.frame_body.specs.Fields.{Own}
 use Rattle.frame_spec.specs.Told.{Told}
 use Rattle.frame_spec.specs.Frames.{sealed_body, framed, frame_of}

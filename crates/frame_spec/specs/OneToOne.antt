@@ -2,7 +2,7 @@
 use Rattle.std.specs.Prelude.{◌≡◌, List, [], ◌∷◌, ℕ, ◌-◌, length, take, drop}
 use Rattle.std.proofs.Common.{sym, ap, ◌∙◌, arith, take_at}
 use Rattle.frame_body.specs.Fields.{Own, fields}
-use Rattle.frame_body.specs.OneToOne.{body-one-to-one}
+use Rattle.frame_body.proofs.OneToOne.{body-one-to-one}
 use Rattle.frame_stuff_spec.specs.Stuffing.{mark, stuffed}
 use Rattle.frame_stuff_spec.specs.RoundTrip.{stuffed-one-to-one}
 use Rattle.frame_spec.specs.Told.{Told}

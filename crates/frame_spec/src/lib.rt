@@ -1,6 +1,8 @@
 // The frame of a line by definition, what a writer and a reader are told, and what follows from it: how long a frame is, what it counts,
 // where its marks stand. The only code is what writing and reading both ask of a frame; the call that writes one is in the crate frame_write.
 // The promises cite specs/Lengths.antt.
+#![tactic(auto)]
+
 ghost use Rattle.std.specs.Prelude.{◌≡◌};
 ghost use Rattle.frame_spec.specs.Lengths.{beside_line, frame_room};
 

@@ -1,20 +1,16 @@
 -- What `unstuff` answers once the unstuffed length is known: a refusal of the length, too little room, or done. Assumes nothing.
-use mathlib.Core.Path.{◌≡◌, sym, ap}
-use mathlib.Core.Logic.{⊎_elim}
-use mathlib.Core.List.{List, [], ◌∷◌}
+use mathlib.Core.Path.{◌≡◌, refl, sym, ap}
+use mathlib.Core.List.{List}
 use Prim.Native.Nat.{ℕ, ◌≤◌, ◌<◌}
 use native.Mathlib.Omega.{arith}
 use lib.ListN.{length}
-use denote.Enum.Declared.{tag_of}
-use types.Run.{OneOf}
 use borrow.Author.Tests.{lt-ltb, le-ltb}
 use Rattle.base_lists.specs.Buffers.{over}
 use Rattle.frame_stuff_spec.specs.declared.Unstuffed.{Unstuffed}
 use Rattle.frame_stuff_spec.specs.declared.Unstuffed.TheVariants.{Length, Bad, TooLong, NoRoom}
 use Rattle.frame_stuff_spec.specs.Stuffing.{unstuffed}
 use Rattle.frame_stuff_spec.specs.Answers.{room_for, written_by, length_answer, unstuff_answer, unstuff_out}
-use Rattle.frame_stuff_spec.specs.Outcomes.{length-length}
-use Rattle.frame_stuff_spec.specs.contracts.Unstuffed as unstuffed-type
+use Rattle.frame_stuff_spec.proofs.Outcomes.{length-length}
 
 -- the answer and the buffer, from the answer about the length
 met : (s o : List ℕ) (r : Unstuffed) → r ≡ length_answer s
@@ -23,9 +19,9 @@ unfolding unstuff_answer unstuff_out
 met s o r e =
     (ap (λ (a : Unstuffed). room_for a o) e, ap (λ (a : Unstuffed). written_by (room_for a o) (unstuffed s) o) e)
 
-pub refused : (s o : List ℕ) (r : Unstuffed) → OneOf (1 ∷ 2 ∷ 3 ∷ []) (tag_of unstuffed-type.the_type r) → r ≡ length_answer s
+pub refused : (s o : List ℕ) (r : Unstuffed) → ((n : ℕ) → r ≡ Length n → ⊥) → r ≡ length_answer s
     → (r ≡ unstuff_answer s o) × (o ≡ unstuff_out s o)
-refused s o (Length n) k e = absurd (⊎_elim (λ h. omega (arith, h)) (⊎_elim (λ h. omega (arith, h)) (λ h. omega (arith, h))) k)
+refused s o (Length n) k e = absurd (k n refl)
 refused s o Bad k e = met s o Bad e
 refused s o TooLong k e = met s o TooLong e
 refused s o NoRoom k e = met s o NoRoom e

@@ -1,5 +1,7 @@
 // A body to the bytes of a stretch and back (document 01, 'A frame and a stream'), into lent buffers. The promises cite the definitions of the
 // crate frame_stuff_spec, specs/Answers.antt.
+#![tactic(auto)]
+
 ghost use Rattle.std.specs.Prelude.{◌≡◌, ◌+◌, ◌≤◌, length};
 ghost use Rattle.std.proofs.lemmas.List.Edits.{sets};
 ghost use Rattle.base_lists.specs.Buffers.{over};

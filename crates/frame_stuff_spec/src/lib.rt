@@ -1,5 +1,7 @@
 // Stuffing as in RFC 1662 (document 01, 'A frame and a stream') by definition, and the two rules of the unstuffed length. The calls that stuff
 // and unstuff are in the crate frame_stuff. The promises cite specs/Answers.antt; the paper's words stand in specs/Stuffing.antt and specs/Rules.antt.
+#![tactic(auto)]
+
 ghost use Rattle.std.specs.Prelude.{◌≡◌, ◌≤◌, length};
 ghost use Rattle.frame_stuff_spec.specs.Stuffing.{longest_stretch};
 ghost use Rattle.frame_stuff_spec.specs.Rules.{length_outside, length_inside, one_more, AtMost, stands};
@@ -21,7 +23,7 @@ pub const ESCAPED_ESCAPE: u8 = 0x5D;
 pub const LONGEST_STRETCH: usize = 288;
 
 // What a stretch's bytes come to.
-#[derive(Drop)]
+#[derive(Clone, Copy)]
 pub enum Unstuffed {
     // The length of the body.
     Length(usize),
@@ -34,7 +36,7 @@ pub enum Unstuffed {
 }
 
 // What stuffing a body comes to.
-#[derive(Drop)]
+#[derive(Clone, Copy)]
 pub enum Stuffed {
     // The number of bytes written.
     Done(usize),
@@ -43,7 +45,7 @@ pub enum Stuffed {
 }
 
 // What the two rules count: so many bytes, or bad stuffing.
-#[derive(Drop)]
+#[derive(Clone, Copy)]
 enum Count {
     Of(usize),
     Bad,

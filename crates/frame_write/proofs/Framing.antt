@@ -13,7 +13,7 @@ use Rattle.frame_stuff_spec.specs.declared.Stuffed.TheVariants as stuffed-is
 use Rattle.frame_stuff_spec.specs.Stuffing.{mark, stuffed}
 use Rattle.frame_stuff_spec.specs.Lengths.{stuffed-at-most}
 use Rattle.frame_stuff_spec.specs.Answers.{stuff_answer, stuff_out}
-use Rattle.frame_stuff_spec.specs.Outcomes.{stuff-done}
+use Rattle.frame_stuff_spec.proofs.Outcomes.{stuff-done}
 use Rattle.frame_spec.specs.Frames.{framed}
 
 module _ (b o : List ℕ) (room : 2 * length b + 2 ≤ length o) where

@@ -13,7 +13,8 @@ use Rattle.ingage_answers.specs.Naming.{seal-first}
 use Rattle.ingage_answers.specs.Exactly.{sealed-within}
 use Rattle.frame_body.specs.declared.Edition.TheVariants.{Two}
 use Rattle.frame_body.specs.Fields.{Own, associated}
-use Rattle.frame_body.specs.Lengths.{associated_length, longest_body, job-field-most, length-associated}
+use Rattle.frame_body.specs.Lengths.{associated_length, longest_body}
+use Rattle.frame_body.proofs.Lengths.{job-field-most, length-associated}
 use Rattle.frame_put.specs.Answers.{associated_out, put_out}
 use Rattle.frame_put.specs.Outcomes.{associated-done, put-done}
 use Rattle.frame_spec.specs.Told.{Told}

@@ -1,8 +1,7 @@
 -- `layout-narrows` of the writer (order W7): with a layout named a call comes to what it does with none, or that was done or 4 and now it is 17
 -- and the buffer is as it was. Assumes nothing.
-use Rattle.std.specs.Prelude.{◌≡◌, refl, Bool, true, false, not, cond, List, ℕ, ltb, length}
+use Rattle.std.specs.Prelude.{◌≡◌, refl, Bool, true, false, cond, List, ℕ, ltb, length}
 use Rattle.line_layout.specs.declared.Layout.TheVariants.{Neither}
-use Rattle.line_layout.specs.Layouts.{layout_rule}
 use Rattle.line_layout.specs.Rule as ruled
 use Rattle.frame_body.specs.Fields.{Own}
 use Rattle.frame_spec.specs.Told.{Told}
@@ -11,7 +10,7 @@ use Rattle.frame_spec.specs.Lengths.{frame_room}
 use Rattle.frame_spec.specs.AnyLayout.{under}
 use Rattle.frame_write.specs.declared.Written.{Written}
 use Rattle.frame_write.specs.declared.Written.TheVariants as written_is
-use Rattle.frame_write.specs.Answers.{sizes_right, length_right, WriteCall, refused, by_rule, by_room, framed_call, write_call}
+use Rattle.frame_write.specs.Answers.{sizes_right, length_right, WriteCall, refused, by_room, framed_call, write_call}
 
 -- the answers for a line that the rule accepts
 pub data Accepting : Written → Type 0 where

@@ -1,5 +1,7 @@
 // The writer (document 01, 'A frame and a stream', and orders W6 and W7): a line sealed, put in a body, stuffed and set between two marks.
 // The promise cites specs/Answers.antt; the paper's words stand in frame_spec/specs/Frames.antt.
+#![tactic(auto)]
+
 ghost use Rattle.std.specs.Prelude.{◌≡◌, ◌+◌, ◌*◌, ◌≤◌, length, replicate, []};
 ghost use Rattle.base_lists.specs.Buffers.{over};
 ghost use Rattle.frame_body.specs.Fields.{own_of};
@@ -17,7 +19,7 @@ use frame_stuff_spec::{MARK, Stuffed};
 use line_layout::{Layout, LineJudged, judge_line};
 
 // What writing a frame comes to.
-#[derive(Drop)]
+#[derive(Clone, Copy)]
 pub enum Written {
     // The frame's length, and the calls of the permutation.
     Done { length: usize, calls: usize },

@@ -1,5 +1,7 @@
 // The rule of a line (order W2; line_spec/specs/Lines.antt) in one pass over its bytes, which counts the digits between the trade's transit
 // symbols. The promise of the whole cites the rule, those of its steps specs/Passing.antt.
+#![tactic(auto)]
+
 ghost use Rattle.std.specs.Prelude.{◌≡◌};
 ghost use Rattle.line_spec.specs.Lines.{line_rule};
 ghost use Rattle.line_judge.specs.Passing.{at_transit, at_digit, at_other, passing, judged_by};
@@ -10,7 +12,7 @@ use line_spec::{FIRST_DIGIT, LAST_DIGIT, TRANSIT, TradeJudged, listed};
 pub const BETWEEN: usize = 9;
 
 // What the bytes passed so far hold.
-#[derive(Drop)]
+#[derive(Clone, Copy)]
 enum Met {
     // No transit symbol and no digit.
     Nothing,

@@ -1,6 +1,6 @@
 -- What the layouts share, over the account's digit count d: a line of layout d as a statement on lists, its 12 + d bytes, that it meets the
 -- rule of a line, and that no line is of two layouts. Assumes nothing.
-use Rattle.std.specs.Prelude.{◌≡◌, refl, ◌↔◌, Bool, true, false, cond, List, [], ◌∷◌, ◌++◌, ℕ, suc, ◌+◌, ◌-◌, eqb, length, get_or, take, drop}
+use Rattle.std.specs.Prelude.{◌≡◌, refl, ◌↔◌, Bool, true, false, cond, List, [], ◌∷◌, ◌++◌, ℕ, suc, ◌+◌, eqb, length, get_or, take, drop}
 use Rattle.std.proofs.Common.{sym, ap, ◌∙◌, arith, length-append, length-drop, take-append-drop, drop_of_length-le, take_at, drop-drop, get_or-append-add, length-take-le, eq-eqb, eqb-true}
 use Rattle.std.proofs.lemmas.List.{get_or_at}
 use Rattle.std.proofs.Math.Seq.{drop-append-add}
@@ -9,8 +9,9 @@ use Rattle.base_lists.specs.Free.{Free}
 use Rattle.base_lists.specs.Walk.{at}
 use Rattle.line_spec.specs.Lines.{nine, transit, on_us, is_transit, all_digits, line_rule}
 use Rattle.line_spec.specs.Bytewise.{is-transit}
-use Rattle.line_spec.specs.Trade.{Digits, TradeLine, two-transits, are-digits, digits_are, digits-free}
-use Rattle.line_spec.specs.Rule.{AllListed, a-digit, a-symbol, rule-accepted}
+use Rattle.line_spec.specs.Trade.{Digits, two-transits, are-digits, digits_are, digits-free}
+use Rattle.line_spec.specs.Rule.{AllListed, a-digit, a-symbol}
+use Rattle.line_spec.proofs.Rule.{rule-accepted}
 use Rattle.line_spec.specs.declared.TradeJudged.TheVariants.{Accepted}
 use Rattle.line_layout.specs.declared.Layout.{Layout}
 use Rattle.line_layout.specs.declared.Layout.TheVariants.{A, B}

@@ -1,7 +1,7 @@
 -- The tests of a line of d account digits one after another, in the words of bytes and parts. Assumes nothing.
 use Rattle.std.specs.Prelude.{◌≡◌, true, false, List, ℕ, ◌+◌, eqb, length, get_or}
 use Rattle.std.proofs.Common.{eq-eqb, ne_eqb}
-use Rattle.line_spec.specs.Lines.{nine, transit, on_us, is_transit, all_digits}
+use Rattle.line_spec.specs.Lines.{nine, transit, on_us, all_digits}
 use Rattle.line_spec.specs.Bytewise.{transit-is, transit-apart}
 use Rattle.line_layout.specs.Layouts.{part, is_laid}
 

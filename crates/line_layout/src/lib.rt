@@ -1,5 +1,7 @@
 // The layouts of a line (order W7): under A it has ten account digits, under B twelve. A line is judged by the rule of a line, in
 // trade, and then by the layout named. The promises cite specs/Layouts.antt.
+#![tactic(auto)]
+
 ghost use Rattle.std.specs.Prelude.{◌≡◌, ◌≤◌};
 ghost use Rattle.line_spec.specs.Lines.{is_digit, all_digits};
 ghost use Rattle.line_layout.specs.Layouts.{digits_a, digits_b, is_laid, has_layout, layout_rule, layout_of};
@@ -18,7 +20,7 @@ const SECOND: usize = BETWEEN + 1;
 const ACCOUNT: usize = SECOND + 1;
 
 // The layout that a line is asked to have.
-#[derive(Drop)]
+#[derive(Clone, Copy)]
 pub enum Layout {
     // None is named: the rule of a line alone holds.
     Neither,
@@ -29,7 +31,7 @@ pub enum Layout {
 }
 
 // What a line is found to be.
-#[derive(Drop)]
+#[derive(Clone, Copy)]
 pub enum LineJudged {
     Accepted,
     // It holds a byte that is not listed.

@@ -43,6 +43,7 @@ has-digit (b ∷ s) e = go (is_digit b) refl (has-digit s) e
 
 digit-has : (s : List ℕ) → HasDigit s → any_digit s ≡ true
 unfolding any_digit
+digit-has [] x' = elim x' [ ]
 digit-has (b ∷ s) (here d) = rw (digit-is b d.0 d.1)
 digit-has (b ∷ s) (later h) = go (is_digit b) (digit-has s h)
   where

@@ -1,6 +1,8 @@
 // Which bytes and which lines are accepted (document 01, 'A frame and a stream', and order W2): the one place for the rule of a line. The
 // promises cite specs/Lines.antt. The pass over a line that judges it by the rule is in the crate line_judge. How long a line may be is the
 // writer's and the reader's business; the longest is named here.
+#![tactic(auto)]
+
 ghost use Rattle.std.specs.Prelude.{◌≡◌};
 ghost use Rattle.line_spec.specs.Lines.{is_listed};
 
@@ -26,7 +28,7 @@ const DASH: u8 = b'D';
 const BLANK: u8 = 0x20;
 
 // What a line is found to be.
-#[derive(Drop)]
+#[derive(Clone, Copy)]
 pub enum TradeJudged {
     Accepted,
     // It holds a byte that is not listed.

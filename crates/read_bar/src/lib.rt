@@ -1,5 +1,7 @@
 // What a reader asks of a body before it opens it (document 01, number 8; orders W5 and W6): the edition, the font, the work. The promise cites
 // specs/Asked.antt; the judgement of which this is a part stands in read_spec/specs/Judging.antt.
+#![tactic(auto)]
+
 ghost use Rattle.std.specs.Prelude.{◌≡◌};
 ghost use Rattle.read_spec.specs.Editions.{allows as allowed};
 ghost use Rattle.read_bar.specs.Asked.{bar_in};
@@ -9,7 +11,7 @@ use frame_body::Edition;
 use frame_spec::beside_line;
 
 // What bars a body from being opened.
-#[derive(Drop)]
+#[derive(Clone, Copy)]
 pub enum Bar {
     // Its edition is not among those allowed.
     Edition,

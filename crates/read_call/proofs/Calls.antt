@@ -7,7 +7,8 @@ use lib.ListN.{length}
 use borrow.Author.Tests.{eq-eqb, ne_eqb, lt-ltb, le-ltb}
 use Rattle.read_stretch.specs.declared.Span.{Span}
 use Rattle.read_stretch.specs.Stretches.{span, bytes_at, next_span, next_stretch}
-use Rattle.read_stretch.specs.Places.{Within, next-within, next-equal}
+use Rattle.read_stretch.specs.Places.{Within}
+use Rattle.read_stretch.proofs.Places.{next-within, next-equal}
 use Rattle.line_spec.specs.Lines.{longest}
 use Rattle.frame_spec.specs.Told.{key_length, Told, told}
 use Rattle.frame_body.specs.Fields.{digest_length}
@@ -16,7 +17,6 @@ use Rattle.read_call.specs.declared.Answer.{Answer}
 use Rattle.read_call.specs.declared.Reading.{Reading}
 use Rattle.read_call.specs.declared.Verdict.{Verdict}
 use Rattle.read_call.specs.declared.Answer.TheVariants as answer-is
-use Rattle.read_spec.specs.Sizes.{Sizes}
 use Rattle.read_call.specs.Answers.{longest_stream, sized_told, Found, call, stretch, found, reading_at, reading_of}
 use Rattle.read_call.specs.Answers.{buffer, plain, verdict_of, judged_within, line_over, read_answer, read_out}
 

@@ -10,11 +10,12 @@ use lib.Seq.{take_at}
 use borrow.Author.Tests.{eq-eqb, ne_eqb, lt-ltb, le-ltb}
 use Rattle.frame_stuff_spec.specs.declared.Unstuffed.{Unstuffed}
 use Rattle.frame_stuff_spec.specs.declared.Unstuffed.TheVariants as unstuffed-is
-use Rattle.frame_stuff_spec.specs.Stuffing.{longest_stretch, unstuffed}
+use Rattle.frame_stuff_spec.specs.Stuffing.{unstuffed}
 use Rattle.frame_stuff_spec.specs.Answers.{unstuff_answer, unstuff_out}
-use Rattle.frame_stuff_spec.specs.Outcomes.{Outcome, too_long, bad, no_room, done, unstuff-outcome, length-too-long, length-bad, length-good}
+use Rattle.frame_stuff_spec.specs.Outcomes.{Outcome, too_long, bad, done}
+use Rattle.frame_stuff_spec.proofs.Outcomes.{unstuff-outcome, length-too-long, length-bad, length-good}
 use Rattle.line_spec.specs.Lines.{longest}
-use Rattle.frame_body.specs.Fields.{digest_length, Fields, no_body, fields_of}
+use Rattle.frame_body.specs.Fields.{digest_length, no_body, fields_of}
 use Rattle.frame_spec.specs.Told.{key_length, Told, told}
 use Rattle.read_spec.specs.Judging.{held}
 use Rattle.read_call.specs.declared.Asked.{Asked}

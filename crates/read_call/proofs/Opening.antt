@@ -18,7 +18,7 @@ use Rattle.line_layout.specs.Layouts.{layout_rule}
 use Rattle.ingage_answers.specs.declared.Opened.TheVariants as opened
 use Rattle.ingage_spec.specs.Instances.{named, FIRST, first, first_fits}
 use Rattle.ingage_spec.specs.Cipher.{Work, decrypted}
-use Rattle.ingage_spec.specs.Results.{length-decrypted}
+use Rattle.ingage_spec.proofs.Results.{length-decrypted}
 use Rattle.ingage_answers.specs.Answers.{OpenCall, open_named}
 use Rattle.ingage_answers.specs.Naming.{open-first}
 use Rattle.ingage_answers.specs.Exactly.{Within, opened-within}

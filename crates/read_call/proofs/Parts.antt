@@ -5,32 +5,34 @@ use mathlib.Core.List.{List, [], ◌∷◌}
 use Prim.Native.Nat.{ℕ, ◌+◌, ◌-◌, ◌≤◌, ◌<◌}
 use native.Mathlib.Omega.{arith}
 use lib.Dec.{ltb}
-use lib.ListN.{length, take, drop, length-drop, replicate}
+use lib.ListN.{length, drop, length-drop, replicate}
 use borrow.Author.Tests.{ltb-true, ltb-false}
 use lib.Seq.{length-take-le}
 use Rattle.base_lists.specs.Below.{Below}
 use Rattle.base_lists.specs.Buffers.{same}
 use Rattle.line_spec.specs.Lines.{longest}
 use Rattle.ingage_spec.specs.Instances.{first}
-use Rattle.ingage_spec.specs.Results.{open-calls-first}
+use Rattle.ingage_spec.proofs.Results.{open-calls-first}
 use Rattle.ingage_answers.specs.Exactly.{Within}
 use Rattle.line_layout.specs.declared.Layout.{Layout}
 use Rattle.frame_body.specs.declared.Edition.{Edition}
 use Rattle.frame_body.specs.declared.Edition.TheVariants.{One, Two}
 use Rattle.frame_body.specs.declared.BodyJudged.TheVariants as judged-is
-use Rattle.frame_body.specs.Fields.{nonce_length, digest_length, seal_length, job_length, Own, own_of, Fields, fields, no_body, fields_of, body, associated}
+use Rattle.frame_body.specs.Fields.{seal_length, Own, own_of, Fields, fields, no_body, fields_of, body, associated}
 use Rattle.frame_body.specs.Answers.{edition_number, judged}
 use Rattle.frame_body.specs.Job.{job_number}
-use Rattle.frame_body.specs.Lengths.{Sized, job_field_length, associated_length, job-field-most, length-body, length-associated}
-use Rattle.frame_body.specs.Places.{nonce_at, associated_at, digest_at, cipher_at, seal_at, nonce-at, associated-at, digest-at, job-at, cipher-at, seal-at}
-use Rattle.frame_body.specs.OneToOne.{body-fields}
+use Rattle.frame_body.specs.Lengths.{Sized, job_field_length, associated_length}
+use Rattle.frame_body.proofs.Lengths.{job-field-most, length-body, length-associated}
+use Rattle.frame_body.specs.Places.{associated_at, cipher_at, seal_at}
+use Rattle.frame_body.proofs.Places.{nonce-at, associated-at, digest-at, job-at, cipher-at, seal-at}
+use Rattle.frame_body.proofs.OneToOne.{body-fields}
 use Rattle.frame_spec.specs.Told.{Told, key_length}
 use Rattle.frame_spec.specs.Lengths.{beside_line}
 use Rattle.read_spec.specs.Editions.{allows, among, among-allowed}
-use Rattle.read_spec.specs.Judged.{Judged, Label, label, label_of, shape, font, work, calls_in}
+use Rattle.read_spec.specs.Judged.{Label, label, label_of, shape, font, work, calls_in}
 use Rattle.read_spec.specs.Judging.{judge_fields}
 use Rattle.read_spec.specs.Ceiling as ceiling
-use Rattle.read_spec.specs.Allowance.{no-ceiling, enough-allowed, not-enough, sealed-work}
+use Rattle.read_spec.proofs.Allowance.{no-ceiling, enough-allowed, not-enough, sealed-work}
 use Rattle.read_bar.specs.declared.Bar.{Bar}
 use Rattle.read_bar.specs.declared.Bar.TheVariants as bar-is
 use Rattle.read_bar.specs.Asked.{bar_in, barred}

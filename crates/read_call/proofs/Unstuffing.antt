@@ -11,13 +11,14 @@ use Rattle.frame_stuff_spec.specs.Stuffing.{longest_stretch, unstuffed}
 use Rattle.frame_stuff_spec.specs.Lengths.{stuffed-at-least}
 use Rattle.frame_stuff_spec.specs.RoundTrip.{stuff-unstuff}
 use Rattle.frame_stuff_spec.specs.Answers.{unstuff_answer, unstuff_out}
-use Rattle.frame_stuff_spec.specs.Outcomes.{Outcome, too_long, bad, no_room, done, unstuff-outcome}
+use Rattle.frame_stuff_spec.specs.Outcomes.{Outcome, too_long, bad, no_room, done}
+use Rattle.frame_stuff_spec.proofs.Outcomes.{unstuff-outcome}
 use Rattle.frame_body.specs.Fields.{fields_of}
 use Rattle.frame_spec.specs.Told.{Told}
 use Rattle.read_spec.specs.Editions.{among}
 use Rattle.read_spec.specs.Judged.{shape, stuffing}
 use Rattle.read_spec.specs.Judging.{judge_fields, judge}
-use Rattle.read_spec.specs.Cases.{judge-too-long, judge-bad, judge-fields}
+use Rattle.read_spec.proofs.Cases.{judge-too-long, judge-bad, judge-fields}
 
 module _ (t : Told) (ed : ℕ) (s o : List ℕ) where
   outcome : (r : Unstuffed) → unstuff_answer s o ≡ r → Outcome s o r (unstuff_out s o)

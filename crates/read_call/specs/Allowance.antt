@@ -12,7 +12,7 @@ use Rattle.read_spec.specs.Judged.{Judged, shape, stuffing, font, work, seal, un
 use Rattle.read_spec.specs.Judging.{judge}
 use Rattle.read_readings.specs.Readings.{ends}
 use Rattle.read_spec.specs.Ceiling.{within, all_work}
-use Rattle.read_spec.specs.Allowance as allowance
+use Rattle.read_spec.proofs.Allowance as allowance
 use Rattle.read_call.specs.declared.Asked.{Asked}
 use Rattle.read_call.specs.declared.Answer.TheVariants as answer-is
 use Rattle.read_call.specs.Answers.{longest_stream, sized_told, Found, call, stretch, judged_within, found, reading_of, answer_of, calls_of}

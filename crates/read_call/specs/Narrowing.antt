@@ -11,14 +11,13 @@ use Rattle.frame_body.specs.Fields.{Own}
 use Rattle.frame_spec.specs.Told.{Told}
 use Rattle.frame_spec.specs.AnyLayout.{under}
 use Rattle.read_spec.specs.Judged.{Label, label_of, Judged, layout, line}
-use Rattle.read_spec.specs.Judging.{judge}
 use Rattle.read_readings.specs.Readings.{ends}
-use Rattle.read_spec.specs.Ceiling.{within}
-use Rattle.read_spec.specs.Narrowing.{Narrower, alike, narrowed, judge-narrows, within-narrows}
+use Rattle.read_spec.specs.Narrowing.{Narrower, alike, narrowed}
+use Rattle.read_spec.proofs.Narrowing.{judge-narrows, within-narrows}
 use Rattle.read_call.specs.declared.Asked.{Asked}
 use Rattle.read_call.specs.declared.Answer.TheVariants as answer-is
 use Rattle.read_call.specs.Answers.{longest_stream, sized_told, Found, call, stretch, judged_within, found}
-use Rattle.read_call.specs.Answers.{plain, reading_at, reading_of, buffer, verdict_of, read_answer, read_out}
+use Rattle.read_call.specs.Answers.{plain, reading_at, reading_of, buffer, read_answer, read_out}
 
 -- what a call finds with a layout named, beside what it finds with none
 data Beside : Found → Found → Type 0 where

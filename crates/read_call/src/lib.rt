@@ -1,5 +1,7 @@
 // The reader (document 01, 'A frame and a stream', and orders W6 and W7): judging a stretch and the read call.
 // The promises cite specs/Answers.antt; the order in which a stretch is judged stands in read_spec/specs/Judging.antt.
+#![tactic(auto)]
+
 ghost use Rattle.std.specs.Prelude.{◌≡◌, ◌+◌, ◌≤◌, length};
 ghost use Rattle.read_stretch.specs.Stretches.{span};
 ghost use Rattle.line_spec.specs.Lines.{longest};
@@ -37,7 +39,7 @@ pub const ALL_WORK: usize = LONGEST_LINE + BESIDE_LINE + HEAD_LENGTH + JOB_LENGT
 
 // What a reader is told anew at each call: which editions it allows, how many calls of the permutation one stretch is allowed, and which layout
 // a line must have.
-#[derive(Drop)]
+#[derive(Clone, Copy)]
 pub struct Asked {
     // Two bits, 1 for edition one and 2 for edition two; other bits say nothing.
     pub editions: usize,
@@ -59,7 +61,7 @@ const NO_JOB: usize = 0;
 
 // What one read call answers: the place of the stretch's first byte, that of its closing mark, where the next call starts, what is found there,
 // and the edition and the job of a line that is given; both are 0 unless one is.
-#[derive(Drop)]
+#[derive(Clone, Copy)]
 pub struct Reading {
     pub first: usize,
     pub closing: usize,
@@ -69,14 +71,14 @@ pub struct Reading {
 }
 
 // What a stretch is found to be, with the edition and the job of a line that is given.
-#[derive(Drop)]
+#[derive(Clone, Copy)]
 pub struct Verdict {
     pub answer: Answer,
     pub edition: usize,
     pub job: usize,
 }
 
-#[derive(Drop)]
+#[derive(Clone, Copy)]
 pub enum Answer {
     // The call is refused: key or font digest not of their sizes, stream too long, line buffer too short, place beyond the end.
     // Both places are the place asked for.

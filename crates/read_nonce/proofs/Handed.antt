@@ -14,16 +14,17 @@ use Rattle.frame_stuff_spec.specs.Stuffing.{longest_stretch, unstuffed}
 use Rattle.frame_stuff_spec.specs.RoundTrip.{stuff-unstuff}
 use Rattle.frame_stuff_spec.specs.Lengths.{stuffed-at-least}
 use Rattle.frame_stuff_spec.specs.Answers.{unstuff_answer, unstuff_out}
-use Rattle.frame_stuff_spec.specs.Outcomes.{Outcome, too_long, bad, no_room, done, unstuff-outcome, length-too-long, length-bad, length-good}
+use Rattle.frame_stuff_spec.specs.Outcomes.{Outcome, too_long, bad, no_room, done}
+use Rattle.frame_stuff_spec.proofs.Outcomes.{unstuff-outcome, length-too-long, length-bad, length-good}
 use Rattle.frame_body.specs.declared.Edition.{Edition}
 use Rattle.frame_body.specs.declared.BodyJudged.TheVariants as judged-is
 use Rattle.frame_body.specs.Fields.{nonce_length, Fields, fields, no_body, fields_of}
 use Rattle.frame_body.specs.Answers.{judged}
-use Rattle.frame_body.specs.Lengths.{length-body}
-use Rattle.frame_body.specs.Places.{nonce_at, nonce-at}
-use Rattle.frame_body.specs.OneToOne.{body-fields}
+use Rattle.frame_body.proofs.Lengths.{length-body}
+use Rattle.frame_body.specs.Places.{nonce_at}
+use Rattle.frame_body.proofs.Places.{nonce-at}
+use Rattle.frame_body.proofs.OneToOne.{body-fields}
 use Rattle.read_spec.specs.Judging.{held}
-use Rattle.read_nonce.specs.declared.Nonce.{Nonce}
 use Rattle.read_nonce.specs.Nonces.{no_nonce, of_fields, nonce_answer}
 
 module _ (s o : List ℕ) where

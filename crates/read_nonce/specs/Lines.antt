@@ -1,16 +1,16 @@
 -- A stretch that reads as a line holds the fields that it was opened by: its nonce is the line's own. Assumes nothing.
-use Rattle.std.specs.Prelude.{◌≡◌, refl, List, ℕ}
-use Rattle.std.proofs.Common.{sym, ap, subst, ◌∙◌, arith}
+use Rattle.std.specs.Prelude.{◌≡◌, List, ℕ}
+use Rattle.std.proofs.Common.{ap, ◌∙◌, arith}
 use Rattle.frame_stuff_spec.specs.Stuffing.{unstuffed}
-use Rattle.frame_stuff_spec.specs.Outcomes.{length-good}
+use Rattle.frame_stuff_spec.proofs.Outcomes.{length-good}
 use Rattle.frame_body.specs.Fields.{Own, fields, fields_of}
 use Rattle.frame_spec.specs.Told.{Told}
 use Rattle.read_spec.specs.Editions.{among-fields}
 use Rattle.read_spec.specs.Judged.{Judged, line, number_in}
 use Rattle.read_spec.specs.Judging.{judge, held}
-use Rattle.read_spec.specs.Cases.{Stuffed, Holds, Case, judge-case, too_long, bad-stuffing, no_fields}
+use Rattle.read_spec.specs.Cases.{Holds, Case, too_long, bad-stuffing, no_fields}
+use Rattle.read_spec.proofs.Cases.{judge-case}
 use Rattle.read_spec.specs.Cases.{other-font, other-seal, not_listed, not-trade, not-laid, given}
-use Rattle.read_nonce.specs.declared.Nonce.{Nonce}
 use Rattle.read_nonce.specs.Nonces.{nonce_answer}
 use Rattle.read_nonce.specs.Sizes.{nonce-held}
 

@@ -8,8 +8,9 @@ use Rattle.frame_stuff_spec.specs.Stuffing.{unstuffed}
 use Rattle.frame_stuff_spec.specs.Answers.{length_answer}
 use Rattle.frame_stuff_spec.specs.Bytes.{unstuffed-below}
 use Rattle.frame_body.specs.Fields.{nonce_length, Own, Fields, fields, no_body, fields_of}
-use Rattle.frame_body.specs.Places.{nonce_at, nonce-at}
-use Rattle.frame_body.specs.OneToOne.{body-fields}
+use Rattle.frame_body.specs.Places.{nonce_at}
+use Rattle.frame_body.proofs.Places.{nonce-at}
+use Rattle.frame_body.proofs.OneToOne.{body-fields}
 use Rattle.read_spec.specs.Judging.{held, held_by}
 use Rattle.read_nonce.specs.declared.Nonce.{Nonce}
 use Rattle.read_nonce.specs.Nonces.{no_nonce, of_fields, nonce_answer, nonce_of}

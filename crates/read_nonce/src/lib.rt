@@ -1,5 +1,7 @@
 // The nonce of a stretch (beyond the orders): who reads can tie a line to its order by it, and see a frame that was sent twice. Nothing is told and no
 // seal is looked at. The promises cite specs/Nonces.antt.
+#![tactic(auto)]
+
 ghost use Rattle.std.specs.Prelude.{◌≡◌, ◌+◌, ◌≤◌, length, take, drop};
 ghost use Rattle.frame_body.specs.Fields.{nonce_length, fields_of};
 ghost use Rattle.frame_body.specs.Places.{nonce_at};
@@ -11,7 +13,7 @@ use frame_stuff_spec::{LONGEST_STRETCH, Unstuffed};
 
 // Whether a stretch holds the fields of a body (1 or 0), of whatever edition, and their nonce; zeros where it holds none. It has no padding.
 #[repr(C)]
-#[derive(Drop)]
+#[derive(Clone, Copy)]
 pub struct Nonce {
     pub found: u32,
     pub bytes: [u8; NONCE_LENGTH],

@@ -1,5 +1,7 @@
 // What `read` answers in document 01's numbers ('Numbers returned'; orders W2, W5 and W7), for callers that report them: one `match` gives them all.
 // The promises cite specs/Reports.antt and read_call/specs/Answers.antt.
+#![tactic(auto)]
+
 ghost use Rattle.std.specs.Prelude.{◌≡◌};
 ghost use Rattle.read_call.specs.Answers.{answer_number, length_of, calls_of};
 ghost use Rattle.read_numbers.specs.Reports.{report, report_of};
@@ -19,7 +21,7 @@ pub const CALL_REFUSED: u32 = 3;
 const NO_CALLS: usize = 0;
 
 // The number, which of the four it is, the line's length, 0 where none is given, and the count.
-#[derive(Drop)]
+#[derive(Clone, Copy)]
 pub struct Report {
     pub number: u32,
     pub outcome: u32,

@@ -1,11 +1,7 @@
 -- What each return of `judge_opened` has to show, from what `open` and the rule of a line answered. Assumes nothing.
-use mathlib.Core.Path.{◌≡◌, refl, sym, ap, subst, ◌∙◌}
-use mathlib.Core.Logic.{⊎_elim}
-use mathlib.Core.List.{List, [], ◌∷◌}
+use mathlib.Core.Path.{◌≡◌, refl, sym, ap, ◌∙◌}
+use mathlib.Core.List.{List}
 use Prim.Native.Nat.{ℕ}
-use native.Mathlib.Omega.{arith}
-use denote.Enum.Declared.{tag_of}
-use types.Run.{OneOf}
 use Rattle.base_lists.specs.Buffers.{copied}
 use Rattle.line_layout.specs.declared.Layout as layouts
 use Rattle.line_layout.specs.declared.LineJudged as line-judged
@@ -13,7 +9,6 @@ use Rattle.line_layout.specs.declared.LineJudged.TheVariants.{Accepted, Unlisted
 use Rattle.line_layout.specs.Layouts.{layout_rule}
 use Rattle.ingage_answers.specs.declared.Opened.{Opened}
 use Rattle.ingage_answers.specs.declared.Opened.TheVariants as opened
-use Rattle.ingage_answers.specs.contracts.Opened as opened-type
 use Rattle.read_open.specs.declared.OpenedLine.{OpenedLine}
 use Rattle.read_open.specs.declared.OpenedLine.TheVariants as found
 use Rattle.read_open.specs.Opened.{found_by, line_by, by_rule}
@@ -29,17 +24,12 @@ module _ (l : layouts.Layout) (x : Opened) (s o : List ℕ) where
   by-seal n e = met (found.Seal n) (ap (λ (y : Opened). found_by l y s) e)
 
   -- any other refusal of `open`
-  pub by-other : OneOf (1 ∷ 2 ∷ 3 ∷ 4 ∷ []) (tag_of opened-type.the_type x) → Met found.Sizes o
-  by-other h = go x refl
+  pub by-other : ((n : ℕ) → x ≡ opened.Seal n → ⊥) → ((n : ℕ) → x ≡ opened.Done n → ⊥) → Met found.Sizes o
+  by-other h g = go x refl
     where
-      none : {X : Type 0} (y : Opened) → x ≡ y → (OneOf (1 ∷ 2 ∷ 3 ∷ 4 ∷ []) (tag_of opened-type.the_type y) → X) → X
-      none y e f = f (subst (λ (z : Opened). OneOf (1 ∷ 2 ∷ 3 ∷ 4 ∷ []) (tag_of opened-type.the_type z)) e h)
-
       go : (y : Opened) → x ≡ y → Met found.Sizes o
-      go (opened.Done n) e = none (opened.Done n) e (λ g. absurd (⊎_elim (λ i. omega (arith, i)) (⊎_elim (λ i. omega (arith, i))
-          (⊎_elim (λ i. omega (arith, i)) (λ i. omega (arith, i)))) g))
-      go (opened.Seal n) e = none (opened.Seal n) e (λ g. absurd (⊎_elim (λ i. omega (arith, i)) (⊎_elim (λ i. omega (arith, i))
-          (⊎_elim (λ i. omega (arith, i)) (λ i. omega (arith, i)))) g))
+      go (opened.Done n) e = absurd (g n e)
+      go (opened.Seal n) e = absurd (h n e)
       go opened.Instance e = met found.Sizes (ap (λ (y : Opened). found_by l y s) e)
       go opened.Sizes e = met found.Sizes (ap (λ (y : Opened). found_by l y s) e)
       go opened.TooLong e = met found.Sizes (ap (λ (y : Opened). found_by l y s) e)

@@ -1,5 +1,5 @@
 -- What each return of `open_line` has to show, from the tests of the two lengths, and what `open_beside` has. Assumes nothing.
-use mathlib.Core.Path.{◌≡◌, refl, sym, ap, ◌∙◌}
+use mathlib.Core.Path.{◌≡◌, sym, ap, ◌∙◌}
 use mathlib.Core.List.{List, []}
 use Prim.Native.Nat.{ℕ, ◌-◌, ◌≤◌, ◌<◌}
 use native.Mathlib.Omega.{arith}
@@ -9,7 +9,7 @@ use Rattle.line_spec.specs.Lines.{longest}
 use Rattle.line_layout.specs.declared.Layout.{Layout}
 use Rattle.ingage_spec.specs.Instances.{named, FIRST}
 use Rattle.ingage_answers.specs.declared.Opened.{Opened}
-use Rattle.ingage_answers.specs.Answers.{OpenCall, open_named}
+use Rattle.ingage_answers.specs.Answers.{open_named}
 use Rattle.read_open.specs.declared.OpenedLine.{OpenedLine}
 use Rattle.read_open.specs.declared.OpenedLine.TheVariants as found
 use Rattle.read_open.specs.Opened.{found_by, line_by, LineCall, line_call, open_beside, open_line}

@@ -1,5 +1,7 @@
 // Opening a sealed line (document 01, 'A frame and a stream'; orders W2 and W7): it is opened under the instance that frames are sealed by, and
 // judged by the rule of a line and the layout. The promise cites specs/Opened.antt.
+#![tactic(auto)]
+
 ghost use Rattle.std.specs.Prelude.{◌≡◌, ◌≤◌, length};
 ghost use Rattle.base_lists.specs.Buffers.{copied};
 ghost use Rattle.read_open.specs.Opened.{found_by, line_by, open_beside, open_line};
@@ -12,7 +14,7 @@ use ingage_call::open;
 use line_layout::{Layout, judge_line};
 
 // What opening a sealed line finds; all but Sizes with the calls of the permutation made.
-#[derive(Drop)]
+#[derive(Clone, Copy)]
 pub enum OpenedLine {
     // Nothing is opened: key, nonce, associated data, ciphertext, seal or buffer is not of a size that a frame's has.
     Sizes,

@@ -6,7 +6,8 @@ use Rattle.std.proofs.Math.Decide.{dec_le, dec_lt}
 use Rattle.read_stretch.specs.declared.Span.{Span}
 use Rattle.read_stretch.specs.Stretches.{span, next_span}
 use Rattle.read_stretch.specs.Meaning.{Stretch}
-use Rattle.read_stretch.specs.Places.{Found, Next, nothing, something, next-cases, next-none, stretch-closing}
+use Rattle.read_stretch.specs.Places.{Found, Next, nothing, something}
+use Rattle.read_stretch.proofs.Places.{next-cases, next-none, stretch-closing}
 use Rattle.read_readings.specs.Resync.{Mark}
 
 -- what is found from a place is one stretch

@@ -11,8 +11,10 @@ use Rattle.std.proofs.Math.ListN.{length-drop}
 use Rattle.std.proofs.lemmas.Bool.{eqb-false}
 use Rattle.read_stretch.specs.declared.Span.{Span}
 use Rattle.read_stretch.specs.Stretches.{span, next_span, next_stretch}
-use Rattle.read_stretch.specs.Places.{Found, next-found, next-within}
-use Rattle.read_stretch.specs.Shift.{moved, next-moved, stretch-moved}
+use Rattle.read_stretch.specs.Places.{Found}
+use Rattle.read_stretch.proofs.Places.{next-found, next-within}
+use Rattle.read_stretch.specs.Shift.{moved}
+use Rattle.read_stretch.proofs.Shift.{next-moved, stretch-moved}
 use Rattle.read_spec.specs.Judged.{Judged}
 
 -- one reading: where the stretch stands, and what it is found to be

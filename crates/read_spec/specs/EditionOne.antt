@@ -5,19 +5,20 @@ use Rattle.std.proofs.Math.Path.{refl}
 use Rattle.std.proofs.Common.{sym, ap, ◌∙◌, arith, eqb-true, le-ltb}
 use mathlib.Core.List.{List, [], ◌∷◌, ◌++◌, append-nil}
 use Rattle.base_lists.specs.Below.{Below}
-use Rattle.frame_stuff_spec.specs.Stuffing.{stuffed, unstuffed, WellStuffed}
+use Rattle.frame_stuff_spec.specs.Stuffing.{unstuffed, WellStuffed}
 use Rattle.frame_stuff_spec.specs.RoundTrip.{stuff-unstuff}
 use Rattle.frame_stuff_spec.specs.Lengths.{stuffed-at-most}
 use Rattle.frame_stuff_spec.specs.Bytes.{unstuffed-below}
 use Rattle.frame_stuff_spec.specs.Rules.{length_outside}
 use Rattle.frame_stuff_spec.specs.Answers as stuffing-answers
-use Rattle.frame_stuff_spec.specs.Outcomes.{length-by-rules}
+use Rattle.frame_stuff_spec.proofs.Outcomes.{length-by-rules}
 use Rattle.base_fields.specs.Fields.{Front, value, no_field, value_of, front, high_byte}
 use Rattle.frame_body.specs.declared.Edition.TheVariants.{One, Two}
 use Rattle.frame_body.specs.Fields.{nonce_tag, digest_tag, cipher_tag, seal_tag, job_tag, field, Own, own_of, job_field, associated, body, takes}
 use Rattle.frame_body.specs.Fields.{Fields, fields, no_body, next, by_job, after_nonce, after_digest, after_job, after_cipher, after_seal, fields_of}
-use Rattle.frame_body.specs.OneToOne.{body-fields}
-use Rattle.frame_body.specs.Lengths.{job_field_length, body-lengths}
+use Rattle.frame_body.proofs.OneToOne.{body-fields}
+use Rattle.frame_body.specs.Lengths.{job_field_length}
+use Rattle.frame_body.proofs.Lengths.{body-lengths}
 use Rattle.frame_spec.specs.Told.{Told}
 use Rattle.read_spec.specs.Editions.{allows, one_alone, among}
 use Rattle.read_spec.specs.Judged.{Judged, shape}

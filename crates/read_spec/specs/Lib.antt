@@ -3,10 +3,7 @@ pub mod Sizes
 pub mod Judged
 pub mod Judging
 pub mod Cases
-pub mod Numbers
 pub mod Counts
 pub mod Ceiling
-pub mod Allowance
-pub mod OtherFont
 pub mod EditionOne
 pub mod Narrowing

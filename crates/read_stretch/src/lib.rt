@@ -1,12 +1,14 @@
 // The next stretch of a stream (document 01, 'A frame and a stream'): its places, and the stretch itself as a part of the lent stream.
 // Streams of any length, places of any size. The promises cite specs/Stretches.antt; specs/Meaning.antt says what they mean.
+#![tactic(auto)]
+
 ghost use Rattle.std.specs.Prelude.{◌≡◌, ◌+◌, ◌≤◌, ◌<◌, length, get_or, drop};
 ghost use Rattle.read_stretch.specs.Stretches.{SaysMark, after_mark, next_span, next_stretch};
 
 use frame_stuff_spec::MARK;
 
 // Where a stretch stands: the place of its first byte and that of its closing mark. At the end of the stream both are its length.
-#[derive(Drop)]
+#[derive(Clone, Copy)]
 pub struct Span {
     pub first: usize,
     pub closing: usize,

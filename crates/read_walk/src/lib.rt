@@ -1,6 +1,8 @@
 // A walker (document 01, 'A frame and a stream'): a small struct that holds the stream and the place reached, thin over the read call.
 // `next` reads and moves in one: its reading is that of `read` from the place reached, and the walker then stands where that reading
 // ends. What moves it is its own reading, of its own stream. The promises cite specs/Steps.antt.
+#![tactic(auto)]
+
 ghost use Rattle.std.specs.Prelude.{◌≡◌};
 ghost use Rattle.frame_spec.specs.Told.{told};
 ghost use Rattle.read_call.specs.Answers.{read_answer, read_out};
@@ -15,7 +17,7 @@ pub struct Walker<'a> {
 }
 
 // What one step comes to: the reading, and the place where the walker then stands.
-#[derive(Drop)]
+#[derive(Clone, Copy)]
 pub struct Step {
     pub reading: Reading,
     pub at: usize,
