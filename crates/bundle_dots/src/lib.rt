@@ -1,5 +1,7 @@
 // The lines of a drawing: what stands at a place of the line of a row, and which row of a text is not as a drawing has it. The promises cite
 // specs/Lines.antt and specs/Faults.antt.
+#![tactic(auto)]
+
 ghost use Rattle.std.specs.Prelude.{◌≡◌, ◌<◌, length, get_or};
 ghost use Rattle.bundle_dots.specs.Lines.{dot_of, line_char};
 ghost use Rattle.bundle_dots.specs.Faults.{next_row, fault};

@@ -3,7 +3,6 @@ use Rattle.std.specs.Prelude.{◌≡◌, refl, List, [], ◌∷◌, ◌++◌, �
 use Rattle.std.proofs.Common.{sym, ap, ap₂, ◌∙◌, not-suc-le-zero, arith, length-append, take-suc, take_all, get_or-append-add}
 use Rattle.std.proofs.Math.Decide.{dec_lt}
 use Rattle.std.proofs.Math.ListN.{get_or-append}
-use Rattle.base_lists.specs.Upto.{Upto}
 use Rattle.bundle_draw.specs.Drawing.{listed}
 
 pub length-listed : (f : ℕ → ℕ) (n : ℕ) → length (listed f n) ≡ n

@@ -1,7 +1,7 @@
 -- The bundle of a drawing: what name and rows a text draws, whether it is their drawing, and what `make` answers. Assumes nothing: these are
 -- definitions.
 use Rattle.std.specs.Prelude.{cond, List, [], ◌∷◌, ℕ, zero, suc, ◌+◌, ◌-◌, ◌*◌, ◌/◌, eqb, leb, ltb, length, get_or}
-use Rattle.bundle_spec.specs.Bundles.{longest_name, all_rows, bundle_of}
+use Rattle.bundle_spec.specs.Bundles.{longest_name, all_rows}
 use Rattle.bundle_write.specs.declared.Written.{Written}
 use Rattle.bundle_write.specs.declared.Written.TheVariants as written_is
 use Rattle.bundle_write.specs.Answers.{write_answer, write_out}

@@ -1,29 +1,27 @@
 -- `make` undoes `show`: the drawing of a bundle is taken for a drawing, and its bundle is the one that was drawn. Assumes nothing.
-use Rattle.std.specs.Prelude.{◌≡◌, Bool, ℕ, zero, suc, ◌+◌, ◌-◌, ◌*◌, ◌/◌, ◌%◌, ◌≤◌, ◌<◌, T, eqb, leb, drop}
+use Rattle.std.specs.Prelude.{◌≡◌, Bool, ℕ, zero, suc, ◌+◌, ◌-◌, ◌*◌, ◌/◌, ◌%◌, ◌≤◌, ◌<◌, eqb, leb, drop}
 use Rattle.std.proofs.Math.Path.{refl, ap, ap₂}
 use Rattle.std.proofs.Common.{sym, ◌∙◌, suc-le-suc, not-suc-le-zero, le_of_suc-le-suc, eqb→eq, ltb→lt}
 use Rattle.std.proofs.Math.Bool.{true, false, cond}
 use mathlib.Core.List.{List, [], ◌∷◌}
-use Rattle.std.proofs.Math.Decide.{dec_lt}
 use native.Mathlib.Omega.{arith}
 use Rattle.std.proofs.Math.Dec.{ltb}
 use Rattle.std.proofs.Math.ListN.{length, get_or}
-use borrow.Author.Tests.{eq-eqb, ne_eqb, lt-ltb, le-ltb, le-leb, lt-leb, leb-true, ltb-true}
+use borrow.Author.Tests.{eq-eqb, ne_eqb, lt-ltb, le-ltb, leb-true, ltb-true}
 use Rattle.base_lists.specs.Never.{never}
 use Rattle.base_lists.specs.Table.{at}
 use Rattle.base_lists.specs.Below.{Below, below_at, below-take, below-drop}
 use Rattle.base_lists.specs.Buffers.{over}
 use Rattle.base_hex.specs.Hex.{digit}
-use Rattle.bundle_spec.specs.Bundles.{longest_name, characters, all_rows, row_bound, dotted, bundle_of}
-use Rattle.bundle_spec.specs.Lengths.{longest_bundle, Fitting, name-taken}
+use Rattle.bundle_spec.specs.Bundles.{longest_name, characters, all_rows, row_bound, dotted}
+use Rattle.bundle_spec.specs.Lengths.{longest_bundle, name-taken}
 use Rattle.bundle_read.specs.declared.Bundle.TheVariants.{Named}
 use Rattle.bundle_read.specs.Answers.{read_answer}
-use Rattle.bundle_read.specs.Exactly.{read-written}
-use Rattle.bundle_write.specs.declared.Written.TheVariants as written_is
+use Rattle.bundle_read.proofs.Exactly.{read-written}
 use Rattle.bundle_write.specs.Answers.{name_part, name_in, write_answer, write_out}
 use Rattle.bundle_write.specs.Exactly.{rows_over, name-given, all-given, bundle-written-read}
 use Rattle.bundle_draw.specs.declared.Made.TheVariants.{Done}
-use Rattle.bundle_dots.specs.Lines.{newline, blank, printed, unprinted, line_length, line_end, weights, dot_of, line_char}
+use Rattle.bundle_dots.specs.Lines.{newline, blank, unprinted, line_length, line_end, weights, dot_of, line_char}
 use Rattle.bundle_draw.specs.Drawing.{name_word, word_length, legible, digit_at, name_line_length, name_char, row_char, char_at, drawing_length, listed, drawing}
 use Rattle.bundle_draw.specs.Listed.{length-listed, get_d-listed, listed-agree, listed-self}
 use Rattle.bundle_dots.specs.Faults.{next_row, fault}

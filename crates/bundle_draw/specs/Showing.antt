@@ -1,5 +1,5 @@
 -- A bundle's rows stand where `show` takes them from, and its name has the length read. Assumes nothing.
-use Rattle.std.specs.Prelude.{◌≡◌, refl, List, ℕ, ◌+◌, ◌*◌, ◌/◌, ◌%◌, ◌≤◌, ◌<◌, length, take, drop}
+use Rattle.std.specs.Prelude.{◌≡◌, List, ℕ, ◌+◌, ◌*◌, ◌/◌, ◌%◌, ◌≤◌, ◌<◌, length, drop}
 use Rattle.std.proofs.Common.{sym, ◌∙◌, arith, get_or-drop, get_or-take}
 use Rattle.std.proofs.Math.Path.{ap}
 use Rattle.std.proofs.Math.ListN.{get_or}
@@ -11,7 +11,7 @@ use Rattle.bundle_spec.specs.Lengths.{glyph_field, Fitting}
 use Rattle.bundle_spec.specs.Places.{rows_at, glyphs-place, rows-place}
 use Rattle.bundle_read.specs.declared.Bundle.TheVariants.{Named, Shape, Alike}
 use Rattle.bundle_read.specs.Answers.{read_answer}
-use Rattle.bundle_read.specs.Exactly.{read-written}
+use Rattle.bundle_read.proofs.Exactly.{read-written}
 use Rattle.bundle_write.specs.Answers.{name_in}
 use Rattle.bundle_write.specs.Exactly.{rows_over, name-given, all-given}
 use Rattle.bundle_draw.specs.declared.Shown.TheVariants as shown-is

@@ -1,4 +1,6 @@
 // The drawing of a glyph bundle as text, for people. The promises cite specs/Answers.antt; the drawing stands in specs/Drawing.antt.
+#![tactic(auto)]
+
 ghost use Rattle.std.specs.Prelude.{◌≡◌, ◌+◌, ◌*◌, ◌≤◌, ◌<◌, length, get_or, take};
 ghost use Rattle.bundle_spec.specs.Bundles.{all_rows, longest_name};
 ghost use Rattle.bundle_spec.specs.Lengths.{beside_name};
@@ -33,7 +35,7 @@ const BESIDE_NAME: usize = WORD + 2 + ROWS * LINE;
 pub const LONGEST_DRAWING: usize = BESIDE_NAME + 3 * LONGEST_NAME;
 
 // The drawing's length, or why there is none.
-#[derive(Drop)]
+#[derive(Clone, Copy)]
 pub enum Shown {
     Done(usize),
     Shape,
@@ -42,7 +44,7 @@ pub enum Shown {
 }
 
 // The bundle's length, the first row of the drawing that is not as it must be (from 1), or why there is no bundle.
-#[derive(Drop)]
+#[derive(Clone, Copy)]
 pub enum Made {
     Done(usize),
     Row(usize),

@@ -4,14 +4,14 @@ use mathlib.Core.Bool.{Bool, true, false, cond}
 use mathlib.Core.List.{List, [], ◌∷◌}
 use Prim.Native.Nat.{ℕ, ◌+◌, ◌-◌, ◌*◌, ◌≤◌, ◌<◌}
 use native.Mathlib.Omega.{arith}
-use lib.Dec.{eqb, leb}
+use lib.Dec.{eqb}
 use lib.ListN.{length, get_or, take, drop, length-drop}
 use lib.Seq.{length-take-le, drop-drop}
 use borrow.Author.Tests.{eq-eqb, ne_eqb, le-leb, lt-leb}
 use Rattle.base_lists.specs.Walk.{at}
 use Rattle.base_fields.specs.Fields.{head_length, high_byte, Front, value, no_field, front}
 use Rattle.base_fields.specs.Laws.{head_at, front-few, front-stands}
-use Rattle.bundle_spec.specs.Bundles.{name_tag, glyph_tag, glyph_rows, glyph_length, takes, dotted, glyph_of}
+use Rattle.bundle_spec.specs.Bundles.{glyph_tag, glyph_rows, glyph_length, takes, dotted, glyph_of}
 use Rattle.bundle_spec.specs.Lengths.{glyph_field, glyph-taken}
 use Rattle.bundle_spec.specs.Places.{rows_at}
 use Rattle.bundle_read.specs.Answers.{length_found, is_field}

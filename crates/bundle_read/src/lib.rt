@@ -1,5 +1,7 @@
 // Bytes judged as a glyph bundle (order W1): the reader, which accepts exactly what the writer can make. The promises cite specs/Answers.antt; what a
 // bundle is stands in bundles, and the rules of its parts are asked of rules.
+#![tactic(auto)]
+
 ghost use Rattle.std.specs.Prelude.{◌≡◌, ◌+◌, ◌*◌, ◌≤◌, length, take, drop};
 ghost use Rattle.base_fields.specs.Fields.{high_byte, front};
 ghost use Rattle.bundle_spec.specs.Bundles.{glyph_tag, glyph_rows, characters, glyph_count, takes, among, repeated, glyph_of, rows_of};
@@ -23,7 +25,7 @@ const GLYPHS_LENGTH: usize = GLYPHS * GLYPH_FIELD;
 pub const BESIDE_NAME: usize = HEAD_LENGTH + GLYPHS_LENGTH;
 
 // What some bytes are as a bundle.
-#[derive(Drop)]
+#[derive(Clone, Copy)]
 pub enum Bundle {
     // A bundle; so long is its name, which gives all places.
     Named(usize),

@@ -1,5 +1,7 @@
 // The rules of a bundle's parts (order W1): which lengths a field may have, the order of the characters, and rows of seven dots. The promises cite
 // bundle_spec/specs/Bundles.antt and bundle_spec/specs/Places.antt.
+#![tactic(auto)]
+
 ghost use Rattle.std.specs.Prelude.{◌≡◌};
 ghost use Rattle.bundle_spec.specs.Bundles.{characters, takes, dotted};
 ghost use Rattle.bundle_spec.specs.Places.{index_of};

@@ -1,7 +1,7 @@
 -- A bundle is one to one with its name and rows: what is made of them is taken apart as they were, and bytes that can be taken apart are what is
 -- made of them. Assumes nothing.
-use Rattle.std.specs.Prelude.{◌≡◌, refl, Bool, true, false, cond, List, [], ◌∷◌, ◌++◌, ℕ, ◌+◌, ◌*◌, ◌≤◌, eqb, ltb, length, take, drop}
-use Rattle.std.proofs.Common.{sym, ap, ap₂, ◌∙◌, append-nil, arith, length-append, length-drop, take-append-drop, length-take-le, take_at, drop_at, eq-eqb, eqb-true}
+use Rattle.std.specs.Prelude.{◌≡◌, refl, Bool, true, false, cond, List, [], ◌∷◌, ◌++◌, ℕ, ◌*◌, eqb, ltb, length, take, drop}
+use Rattle.std.proofs.Common.{sym, ap, ◌∙◌, arith, length-append, length-drop, take-append-drop, length-take-le, take_at, drop_at, eq-eqb, eqb-true}
 use Rattle.base_fields.specs.Fields.{field, Front, value, no_field, front}
 use Rattle.base_fields.specs.Laws.{front-field, front-short, front-stands}
 use Rattle.bundle_spec.specs.Bundles.{name_tag, glyph_tag, glyph_rows, glyph_length, characters, all_rows, takes, glyph_fields, bundle_of, dotted, glyph_of, Rows}

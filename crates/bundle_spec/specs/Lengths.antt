@@ -1,6 +1,6 @@
 -- How long bundles and their parts are, what the tags' rules take, and what the writer takes. Assumes nothing.
-use Rattle.std.specs.Prelude.{◌≡◌, refl, Bool, true, false, cond, List, [], ◌∷◌, ◌++◌, ℕ, ◌+◌, ◌*◌, ◌≤◌, eqb, leb, length, take, drop}
-use Rattle.std.proofs.Common.{ap, ◌∙◌, arith, length-append, length-drop, length-take-le, eq-eqb, le-leb, eqb-true, leb-true}
+use Rattle.std.specs.Prelude.{◌≡◌, refl, Bool, true, false, cond, List, [], ◌∷◌, ℕ, ◌+◌, ◌*◌, ◌≤◌, eqb, leb, length, take, drop}
+use Rattle.std.proofs.Common.{◌∙◌, arith, length-append, length-drop, length-take-le, eq-eqb, le-leb, eqb-true, leb-true}
 use Rattle.base_lists.specs.Never.{never}
 use Rattle.base_fields.specs.Fields.{field}
 use Rattle.base_fields.specs.Laws.{length-field}

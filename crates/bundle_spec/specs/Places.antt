@@ -1,11 +1,10 @@
 -- Where the name and the rows stand in a bundle: all places are fixed by the length of the name. Assumes nothing.
 use Rattle.std.specs.Prelude.{◌≡◌, refl, Bool, cond, List, [], ◌∷◌, ◌++◌, ℕ, zero, suc, ◌+◌, ◌*◌, ◌<◌, eqb, length, get_or, take, drop}
 use Rattle.std.proofs.Common.{ap, ap₂, ◌∙◌, not-suc-le-zero, le_of_suc-le-suc, arith, eqb→eq, length-drop, length-take-le, take_at, drop_at, drop-drop}
-use Rattle.std.proofs.Math.Seq.{drop-append-add}
 use Rattle.base_lists.specs.Table.{at}
 use Rattle.base_fields.specs.Fields.{head_length, field}
 use Rattle.base_fields.specs.Laws.{length-field}
-use Rattle.bundle_spec.specs.Bundles.{name_tag, glyph_tag, glyph_rows, characters, glyph_count, all_rows, glyph_fields, bundle_of, glyphs_of}
+use Rattle.bundle_spec.specs.Bundles.{name_tag, glyph_tag, glyph_rows, characters, glyph_count, glyph_fields, bundle_of, glyphs_of}
 use Rattle.bundle_spec.specs.Lengths.{glyph_field}
 
 -- the name stands behind its head

@@ -6,15 +6,15 @@ use Prim.Native.Nat.{ℕ, zero, suc, ◌+◌, ◌-◌, ◌*◌, ◌≤◌, ◌<�
 use native.Mathlib.Nat.{not-suc-le-zero, le_of_suc-le-suc}
 use native.Mathlib.Numerals.{add-one}
 use native.Mathlib.Omega.{arith}
-use lib.ListN.{length, get_or, take, drop, replicate, length-append, length-take, length-drop, length-replicate}
+use lib.ListN.{length, get_or, take, drop, replicate, length-append, length-drop, length-replicate}
 use lib.Seq.{length-take-le, take_all, drop-drop}
 use borrow.Rule.Slice.PartMut.{put_mid}
-use Rattle.base_lists.specs.Buffers.{over, copied}
+use Rattle.base_lists.specs.Buffers.{copied}
 use Rattle.base_lists.specs.Over.{take-over, copied_all, over-length}
-use Rattle.base_fields.specs.Fields.{head_length, high_byte, field, field_end, field_out}
+use Rattle.base_fields.specs.Fields.{head_length, field, field_end, field_out}
 use Rattle.base_fields.specs.Laws.{length-field}
-use Rattle.base_fields.specs.Laying.{Laid, Space, laid_none, laid-field}
-use Rattle.bundle_spec.specs.Bundles.{name_tag, glyph_tag, longest_name, glyph_rows, glyph_length, characters, glyph_count, all_rows, takes, glyph_fields, bundle_of}
+use Rattle.base_fields.specs.Laying.{Laid, laid_none, laid-field}
+use Rattle.bundle_spec.specs.Bundles.{name_tag, glyph_tag, glyph_rows, glyph_length, characters, glyph_count, all_rows, takes, glyph_fields, bundle_of}
 use Rattle.bundle_spec.specs.Lengths.{glyph_field, beside_name, longest_bundle, name-taken, length-glyphs, length-bundle}
 
 -- the fields of one glyph more

@@ -1,36 +1,33 @@
 -- What the writer makes is read, with its name and rows, and what is read the writer makes, of the name and rows that the part calls give.
 -- Assumes nothing.
 use Rattle.std.specs.Prelude.{◌≡◌, refl, Bool, true, false, cond, ℕ, zero, suc, ◌+◌, ◌*◌, ◌≤◌, ◌<◌, ltb, get_or, drop}
-use Rattle.std.proofs.Common.{sym, ap₂, ◌∙◌, not-suc-le-zero, take-append-drop}
+use Rattle.std.proofs.Common.{sym, ap₂, ◌∙◌, take-append-drop}
 use Rattle.std.proofs.Math.Path.{ap}
 use mathlib.Core.List.{List, [], ◌∷◌, ◌++◌}
 use native.Mathlib.Omega.{arith}
 use Rattle.std.proofs.Math.ListN.{length, take, drop_of_length-le}
 use Rattle.std.proofs.Math.Seq.{drop-drop}
 use borrow.Author.Tests.{lt-ltb, le-ltb, ltb-false}
-use Rattle.base_lists.specs.Never.{never}
 use Rattle.base_lists.specs.Walk.{at}
 use Rattle.base_lists.specs.Buffers.{over}
 use Rattle.base_lists.specs.Over.{take-over}
 use Rattle.digest_spec.specs.Instances.{DIGEST}
 use Rattle.digest_spec.specs.Hashing.{digest_of}
-use Rattle.digest_call.specs.Answers.{LONGEST-MESSAGE}
 use Rattle.base_fields.specs.Fields.{head_length}
 use Rattle.bundle_spec.specs.Bundles.{glyph_rows, characters, glyph_count, bundle_of, fitting, alike}
-use Rattle.bundle_spec.specs.Lengths.{glyph_field, beside_name, longest_bundle, Fitting, fitting-is, is-fitting, length-bundle, bundle-at-most}
-use Rattle.bundle_spec.specs.Places.{name_at, rows_at, glyph_at, index_of, index-character, name-place, glyphs-place, rows-place}
+use Rattle.bundle_spec.specs.Lengths.{glyph_field, beside_name, longest_bundle, Fitting, fitting-is, length-bundle, bundle-at-most}
+use Rattle.bundle_spec.specs.Places.{rows_at, index_of, index-character, name-place, glyphs-place, rows-place}
 use Rattle.bundle_spec.specs.Exactly.{bundle-one-to-one}
 use Rattle.bundle_spec.specs.Alike.{glyph}
 use Rattle.bundle_read.specs.declared.Bundle.{Bundle}
 use Rattle.bundle_read.specs.declared.Bundle.TheVariants.{Named}
 use Rattle.bundle_read.specs.Answers.{read_answer}
-use Rattle.bundle_read.specs.Exactly.{Bundled, written_read, read-written, read_length}
-use Rattle.bundle_write.specs.declared.Written.{Written}
+use Rattle.bundle_read.proofs.Exactly.{written_read, read-written, read_length}
 use Rattle.bundle_write.specs.declared.Written.TheVariants as written_is
 use Rattle.bundle_write.specs.declared.Digested.TheVariants as digested-is
-use Rattle.bundle_write.specs.Answers.{write_answer, write_out, font_instance, bundle_digest, name_by, name_part, glyph_part}
+use Rattle.bundle_write.specs.Answers.{write_answer, write_out, font_instance, bundle_digest, name_by, name_part}
 use Rattle.bundle_write.specs.Answers.{rows_by, rows_part, part_of, name_in, rows_in, digest_answer, digest_out}
-use Rattle.bundle_write.specs.Steps.{given_answer, given_out, font_answer, font_out}
+use Rattle.bundle_write.specs.Steps.{given_answer, given_out}
 use Rattle.bundle_write.specs.Order.{given, of-bundle}
 
 -- a writer's answer that is done tells of a name and rows that fit, of glyphs that differ, of room, and of the length

@@ -1,11 +1,10 @@
 -- The order of the refusals, one law for each answer, with the buffer that goes with it. Assumes nothing.
 use Rattle.std.proofs.Math.Path.{◌≡◌, refl}
 use Rattle.std.proofs.Common.{sym, ◌∙◌, arith}
-use Rattle.std.specs.Prelude.{Bool, cond, List, ℕ, ◌≤◌, ◌<◌, eqb, length}
+use Rattle.std.specs.Prelude.{Bool, List, ℕ, ◌≤◌, ◌<◌, length}
 use Rattle.std.proofs.Math.Bool.{true, false}
 use Rattle.std.proofs.Math.Dec.{ltb}
 use borrow.Author.Tests.{lt-ltb, le-ltb, eq-eqb, ne_eqb}
-use Rattle.base_lists.specs.Buffers.{over}
 use Rattle.digest_spec.specs.Instances.{DIGEST}
 use Rattle.digest_call.specs.Answers.{LONGEST-MESSAGE}
 use Rattle.bundle_spec.specs.Bundles.{name_tag, all_rows, takes, bundle_of, dotted, fitting, alike}
@@ -13,10 +12,10 @@ use Rattle.bundle_spec.specs.Lengths.{longest_bundle}
 use Rattle.bundle_read.specs.declared.Bundle.{Bundle}
 use Rattle.bundle_read.specs.declared.Bundle.TheVariants as bundle-is
 use Rattle.bundle_read.specs.Answers.{told, read_answer}
-use Rattle.bundle_read.specs.Exactly.{read_made}
+use Rattle.bundle_read.proofs.Exactly.{read_made}
 use Rattle.bundle_write.specs.declared.Written.TheVariants as written_is
 use Rattle.bundle_write.specs.declared.Digested.TheVariants as digested-is
-use Rattle.bundle_write.specs.Answers.{write_answer, write_out, bundle_digest, if_bundle, digest_answer, digest_out}
+use Rattle.bundle_write.specs.Answers.{write_answer, write_out, digest_answer, digest_out}
 use Rattle.bundle_write.specs.Steps.{given_answer, given_out, font_answer, font_out}
 
 -- the writer: a name or rows of another length

@@ -3,13 +3,13 @@ use Rattle.std.specs.Prelude.{◌≡◌, refl, Bool, true, false, cond, List, �
 use Rattle.std.proofs.Common.{arith, ltb-true}
 use Rattle.bundle_spec.specs.Bundles.{glyph_rows, characters, glyph_count}
 use Rattle.bundle_spec.specs.Lengths.{beside_name}
-use Rattle.bundle_spec.specs.Places.{name_at, glyph_at, index_of}
+use Rattle.bundle_spec.specs.Places.{glyph_at, index_of}
 use Rattle.bundle_read.specs.declared.Bundle.{Bundle}
 use Rattle.bundle_read.specs.declared.Bundle.TheVariants.{Named, Shape, Alike}
 use Rattle.bundle_read.specs.Answers.{read_answer}
-use Rattle.bundle_read.specs.Exactly.{read_length}
+use Rattle.bundle_read.proofs.Exactly.{read_length}
 use Rattle.bundle_write.specs.declared.Part.{Part}
-use Rattle.bundle_write.specs.Answers.{part, no_part, name_by, name_part, glyph_part, rows_by, rows_part}
+use Rattle.bundle_write.specs.Answers.{part, no_part, name_by, name_part, rows_by, rows_part}
 
 -- a part of some bytes ends within them
 abbrev pub Inside : Part → List ℕ → Type 0

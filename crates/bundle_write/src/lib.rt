@@ -1,5 +1,7 @@
 // Glyph bundles (order W1): the writer, the font digest of a bundle, and its parts as parts of the caller's bytes.
 // The promises cite specs/Answers.antt; specs/Exactly.antt says that what is written is read and what is read was written.
+#![tactic(auto)]
+
 ghost use Rattle.std.specs.Prelude.{◌≡◌, true, ◌∷◌, ◌+◌, ◌*◌, ◌≤◌, ◌<◌, length, get_or, take, drop};
 ghost use Rattle.digest_call.specs.Answers.{LONGEST-MESSAGE};
 ghost use Rattle.bundle_spec.specs.Bundles.{name_tag, longest_name, glyph_rows, characters, glyph_count, all_rows, takes, bundle_of};
@@ -26,7 +28,7 @@ pub const BUNDLE_ROOM: usize = BESIDE_NAME + LONGEST_NAME;
 const FONT_INSTANCE: usize = 1;
 
 // The bundle's length, or why it is not written.
-#[derive(Drop)]
+#[derive(Clone, Copy)]
 pub enum Written {
     Done(usize),
     Shape,
@@ -35,7 +37,7 @@ pub enum Written {
 }
 
 // The digest is written, or why it is not.
-#[derive(Drop)]
+#[derive(Clone, Copy)]
 pub enum Digested {
     Done,
     TooLong,
@@ -45,7 +47,7 @@ pub enum Digested {
 }
 
 // Where a part of some bytes stands.
-#[derive(Drop)]
+#[derive(Clone, Copy)]
 pub struct Part {
     pub first: usize,
     pub length: usize,

@@ -28,7 +28,7 @@ use Rattle.convert_spec.specs.declared.Converted.{Converted}
 use Rattle.convert_spec.specs.declared.Converted.TheVariants as converted-is
 use Rattle.convert_spec.specs.declared.Found.{Found}
 use Rattle.convert_spec.specs.Answers.{other, Sorted, judged, sorted, found_of, line_out, ConvertCall, refused, by_sort, convert_call}
-use Rattle.convert_spec.specs.Sorting.{sorted-line, sizes-told, no_line, some-line, convert-small, convert-sorted}
+use Rattle.convert_spec.proofs.Sorting.{sorted-line, sizes-told, no_line, some-line, convert-small, convert-sorted}
 use Rattle.convert_find.specs.Finding.{found_in, line_in}
 use Rattle.convert_find.specs.Sorted.{found-sorted}
 use Rattle.convert_call.specs.Accepting.{found-accepts}

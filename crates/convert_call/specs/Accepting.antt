@@ -8,7 +8,7 @@ use Rattle.frame_write.specs.Outcomes.{Accepts, right-sealable, length-right}
 use Rattle.read_spec.specs.Sizes.{Sizes}
 use Rattle.read_spec.specs.Judged.{line}
 use Rattle.read_spec.specs.Judging.{judge}
-use Rattle.demand_reading.specs.Written.{given_made}
+use Rattle.demand_reading.proofs.Written.{given_made}
 
 pub found-accepts : (t : Told) → Sizes t → (ed : ℕ) (s : List ℕ) → Below 256 s → (own : Own) → sizes_right t own ≡ true
     → (k : Own) (L : List ℕ) (n : ℕ) → judge t ed s ≡ line k L n → Accepts t own L

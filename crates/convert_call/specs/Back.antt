@@ -9,12 +9,12 @@ use Rattle.base_lists.specs.Buffers.{over}
 use Rattle.base_lists.specs.Over.{take-over}
 use Rattle.frame_stuff_spec.specs.Stuffing.{stuffed}
 use Rattle.frame_stuff_spec.specs.RoundTrip.{unstuff-stuff}
-use Rattle.frame_stuff_spec.specs.GoodStuffing.{stuff-well}
-use Rattle.frame_stuff_spec.specs.Outcomes.{length-good}
+use Rattle.frame_stuff_spec.proofs.GoodStuffing.{stuff-well}
+use Rattle.frame_stuff_spec.proofs.Outcomes.{length-good}
 use Rattle.frame_body.specs.declared.Edition.{Edition}
 use Rattle.frame_body.specs.declared.Edition.TheVariants.{One, Two}
 use Rattle.frame_body.specs.Fields.{Own, fields, fields_of}
-use Rattle.frame_body.specs.OneToOne.{fields-body}
+use Rattle.frame_body.proofs.OneToOne.{fields-body}
 use Rattle.frame_spec.specs.Told.{Told}
 use Rattle.frame_spec.specs.Frames.{sealed_line, sealed_body, frame_of}
 use Rattle.frame_spec.specs.Lengths.{beside_line, frame_room, stretch-within, sealed-sized}
@@ -25,11 +25,12 @@ use Rattle.read_spec.specs.Sizes.{Sizes}
 use Rattle.read_spec.specs.Editions.{only, allows-only, only-allows}
 use Rattle.read_spec.specs.Judged.{Judged, shape, stuffing, font, work, seal, unlisted, trade, layout, line}
 use Rattle.read_spec.specs.Judging.{judge, held}
-use Rattle.demand_reading.specs.Written.{marked, Written, written-given, given_made}
+use Rattle.demand_reading.specs.Written.{marked, Written}
+use Rattle.demand_reading.proofs.Written.{written-given, given_made}
 use Rattle.convert_spec.specs.declared.Converted.{Converted}
 use Rattle.convert_spec.specs.declared.Converted.TheVariants as converted-is
 use Rattle.convert_spec.specs.Answers.{other, same_edition, other_than, Sorted, misnamed, judged, sorted, ConvertCall, refused, by_sort, sealed_anew, convert_call}
-use Rattle.convert_spec.specs.Sorting.{sorted-judged, sorted-line, convert-sorted}
+use Rattle.convert_spec.proofs.Sorting.{sorted-judged, sorted-line, convert-sorted}
 use Rattle.convert_call.specs.Accepting.{found-accepts}
 
 -- a call of the converter with the buffer f before it may answer r and leave f' in it

@@ -17,7 +17,8 @@ use Rattle.frame_spec.specs.Lengths.{frame_room}
 use Rattle.frame_write.specs.Answers.{sizes_right}
 use Rattle.read_spec.specs.Judged.{Judged, shape, stuffing, font, work, seal, unlisted, trade, layout, line}
 use Rattle.read_spec.specs.Judging.{judge_fields}
-use Rattle.read_spec.specs.Narrowing.{Narrower, alike, narrowed, fields-narrows}
+use Rattle.read_spec.specs.Narrowing.{Narrower, alike, narrowed}
+use Rattle.read_spec.proofs.Narrowing.{fields-narrows}
 use Rattle.convert_spec.specs.declared.Converted.TheVariants as converted-is
 use Rattle.convert_spec.specs.Answers.{other, same_edition, Sorted, misnamed, judged, sort_fields, sort_stuffing, sorted, refused, by_sort, convert_call}
 

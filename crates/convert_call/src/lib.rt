@@ -1,5 +1,7 @@
 // The converter (orders W6 and W7): the line of a stretch of one edition sealed anew in the other, under a nonce and where needed a job given to it.
 // The promises cite convert_spec/specs/Answers.antt.
+#![tactic(auto)]
+
 ghost use Rattle.std.specs.Prelude.{◌≡◌, []};
 ghost use Rattle.frame_body.specs.declared.Edition.TheVariants.{One, Two};
 ghost use Rattle.frame_body.specs.Fields.{own_of};

@@ -15,11 +15,11 @@ use Rattle.read_spec.specs.Editions.{only}
 use Rattle.read_spec.specs.Judged.{Judged}
 use Rattle.read_spec.specs.Judging.{judge, held}
 use Rattle.read_spec.specs.Ceiling.{all_work}
-use Rattle.read_spec.specs.Allowance.{all-allowed}
+use Rattle.read_spec.proofs.Allowance.{all-allowed}
 use Rattle.read_call.specs.declared.Verdict.{Verdict}
 use Rattle.read_call.specs.Answers.{sized_told, verdict_of, judged_within, judge_answer, judge_out, line_over}
 use Rattle.convert_spec.specs.Answers.{other_than, sorted, found_of, line_out}
-use Rattle.convert_spec.specs.Sorting.{sorted-judged, sorted-misnamed}
+use Rattle.convert_spec.proofs.Sorting.{sorted-judged, sorted-misnamed}
 use Rattle.convert_find.specs.Finding.{alone, found_for, found_in, line_in}
 
 module _ (t : Told) (named : Edition) (s o : List ℕ) (z : Sizes t) (bytes : Below 256 s) (room : longest ≤ length o) where

@@ -1,6 +1,8 @@
 // The line of a stretch of the edition named, as the converter finds it (order W6), and what it asks of an edition for it. The promises cite
 // specs/Finding.antt and convert_spec/specs/Answers.antt, and specs/Sorted.antt says that what is found is what the definition of the converter sorts a
 // stretch to.
+#![tactic(auto)]
+
 ghost use Rattle.std.specs.Prelude.{◌≡◌};
 ghost use Rattle.frame_spec.specs.Told.{told};
 ghost use Rattle.read_spec.specs.Judging.{held};

@@ -1,8 +1,9 @@
 // The converter (orders W6 and W7) by definition: what a call answers and leaves, and what a stretch is found to be. There is no code; the line of a
 // stretch is found in the crate convert_find, the calls are in convert_call.
+#![tactic(auto)]
 
 // What converting a stretch comes to.
-#[derive(Drop)]
+#[derive(Clone, Copy)]
 pub enum Converted {
     // The new frame's length.
     Done(usize),
@@ -29,7 +30,7 @@ pub enum Converted {
 }
 
 // What the line of a stretch comes to: an answer, the outcome, which is that of a reading (1 where a line was given), and its length.
-#[derive(Drop)]
+#[derive(Clone, Copy)]
 pub struct Found {
     pub answer: Converted,
     pub outcome: u32,

@@ -17,8 +17,9 @@ use Rattle.read_spec.specs.Judged.{stuffing, font, work, seal, unlisted, trade, 
 use Rattle.read_spec.specs.Judging.{judge}
 use Rattle.read_readings.specs.Readings.{reading}
 use Rattle.demand_reading.specs.Promises.{Seen}
-use Rattle.demand_reading.specs.Written.{between, given_made, made-given}
-use Rattle.demand_reading.specs.GivenWritten.{Made, made-written, written-made}
+use Rattle.demand_reading.proofs.Written.{between, given_made, made-given}
+use Rattle.demand_reading.specs.GivenWritten.{Made}
+use Rattle.demand_reading.proofs.GivenWritten.{made-written, written-made}
 use Rattle.demand_reading.specs.EveryLine.{given}
 use Rattle.demand_joined.specs.Makes.{makes-accepts, makes-frame}
 use Rattle.demand_joined.specs.Seeing.{seen_of}

@@ -1,13 +1,13 @@
 -- A frame that a write call made, of an edition that the reader allows: what stands between its marks, what that is judged to be, and what a run
 -- sees of it at a place. From the writer's promise alone. Assumes nothing.
-use Rattle.std.specs.Prelude.{◌≡◌, refl, true, List, [], ◌∷◌, ◌++◌, ℕ, ◌+◌, ◌-◌, ◌≤◌, ◌<◌, length}
+use Rattle.std.specs.Prelude.{◌≡◌, true, List, [], ◌∷◌, ◌++◌, ℕ, ◌+◌, ◌-◌, ◌≤◌, ◌<◌, length}
 use Rattle.std.proofs.Common.{ap, ap₂, ◌∙◌, arith, length-append}
 use Rattle.base_lists.specs.Free.{Free}
 use Rattle.frame_stuff_spec.specs.Stuffing.{mark, stuffed}
-use Rattle.frame_stuff_spec.specs.Marks.{stuffed-free}
+use Rattle.frame_stuff_spec.proofs.Marks.{stuffed-free}
 use Rattle.read_stretch.specs.Stretches.{span}
 use Rattle.frame_body.specs.Fields.{Own}
-use Rattle.frame_body.specs.Lengths.{job-field-most}
+use Rattle.frame_body.proofs.Lengths.{job-field-most}
 use Rattle.frame_spec.specs.Told.{Told}
 use Rattle.frame_spec.specs.Frames.{sealed_body, framed, frame_of}
 use Rattle.frame_spec.specs.Lengths.{beside_line, stretch-some}
@@ -17,7 +17,7 @@ use Rattle.read_spec.specs.Judging.{judge}
 use Rattle.read_spec.specs.Ceiling.{all_work}
 use Rattle.read_readings.specs.Readings.{reading}
 use Rattle.demand_reading.specs.Promises.{Seen}
-use Rattle.demand_reading.specs.Written.{written-given}
+use Rattle.demand_reading.proofs.Written.{written-given}
 use Rattle.demand_reading.specs.EveryLine.{given}
 use Rattle.demand_joined.specs.Makes.{Makes, makes-accepts, makes-frame}
 use Rattle.demand_joined.specs.Seeing.{seen_of}

@@ -5,6 +5,3 @@ pub mod Seeing
 pub mod Stretches
 pub mod Frames
 pub mod Fillers
-pub mod Joined
-pub mod Lines
-pub mod Instance

@@ -13,7 +13,7 @@ use Rattle.frame_write.specs.declared.Written.TheVariants as written_is
 use Rattle.frame_write.specs.Answers.{WriteCall, framed_call, write_call}
 use Rattle.frame_write.specs.Outcomes.{Accepts, write_done}
 use Rattle.demand_reading.specs.Promises.{Writes}
-use Rattle.demand_reading.specs.GivenWritten.{wrote}
+use Rattle.demand_reading.proofs.GivenWritten.{wrote}
 
 -- some write call of this line with this key, font and layout, and with what is the frame's own, is done and leaves this frame
 pub record Makes (t : Told) (own : Own) (line frame : List ℕ) : Type 0 where

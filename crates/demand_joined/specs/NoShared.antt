@@ -5,7 +5,7 @@ use Rattle.std.specs.Prelude.{◌≡◌, List, [], ℕ}
 use Rattle.std.proofs.Common.{sym, ap, ap₂, ◌∙◌, arith}
 use Rattle.ingage_spec.specs.Instances.{first, first_fits}
 use Rattle.ingage_spec.specs.Cipher.{Work, decrypted}
-use Rattle.ingage_spec.specs.RoundTrip.{open-seal}
+use Rattle.ingage_spec.proofs.RoundTrip.{open-seal}
 use Rattle.frame_body.specs.declared.Edition.TheVariants.{One, Two}
 use Rattle.frame_body.specs.Fields.{Own, own_of, fields, associated}
 use Rattle.line_layout.specs.declared.Layout.{Layout}

@@ -7,20 +7,21 @@ use Rattle.base_lists.specs.Never.{never}
 use Rattle.line_spec.specs.Lines.{longest}
 use Rattle.read_stretch.specs.Stretches.{span, next_span, next_stretch}
 use Rattle.read_stretch.specs.Places as places
-use Rattle.read_stretch.specs.Places.{Next, nothing, something, next-cases}
+use Rattle.read_stretch.specs.Places.{Next, nothing, something}
+use Rattle.read_stretch.proofs.Places.{next-cases}
 use Rattle.frame_spec.specs.Told.{told}
 use Rattle.read_spec.specs.Judged.{number_in, line_in, label_in, calls_in}
 use Rattle.read_spec.specs.Sizes.{Sizes}
 use Rattle.read_readings.specs.Readings as readings-of
 use Rattle.read_readings.specs.Readings.{reading, readings, readings-step}
-use Rattle.read_readings.specs.Joining.{found-step}
+use Rattle.read_readings.proofs.Joining.{found-step}
 use Rattle.read_call.specs.declared.Asked.{Asked}
 use Rattle.read_call.specs.declared.Reading.{Reading}
 use Rattle.read_call.specs.declared.Answer.TheVariants as answer-is
 use Rattle.read_call.specs.Answers.{longest_stream, Found, call, stretch, judged_within, found, reading_of, buffer}
-use Rattle.demand_reading.specs.Promises.{Reads, Seen, seen_from, Run, next}
-use Rattle.demand_reading.specs.Resync.{seen_at, sized}
-use Rattle.demand_reading.specs.GivenWritten.{told-sized, found-next}
+use Rattle.demand_reading.specs.Promises.{Reads, Seen, seen_from, Run, none, next}
+use Rattle.demand_reading.proofs.Resync.{seen_at, sized}
+use Rattle.demand_reading.proofs.GivenWritten.{told-sized, found-next}
 use Rattle.demand_reading.specs.Reaching.{Ended, at-end, before-end}
 
 -- what is seen of a reading
@@ -98,5 +99,6 @@ module _ (key font : List ℕ) (asked : Asked) (s : List ℕ) (z : Sizes (told k
 
   -- from any place of the stream to its end
   pub run-readings : (from : ℕ) {seen : List Seen} → from ≤ length s → Run key font asked s 0 from seen → Ended seen → seen ≡ seen_to (length s) (on from)
+  run-readings from f none e = elim e [ ]
   run-readings from f (next r l l' {rest} g p q) e =
       by_next from f r l l' rest g p e (λ c k. run-readings r.closing c q k) (next-cases s from)

@@ -5,7 +5,8 @@ use Rattle.std.specs.Prelude.{◌≡◌, List, [], ℕ, ◌≤◌, length}
 use Rattle.std.proofs.Common.{ap, ◌∙◌, arith}
 use Rattle.frame_spec.specs.Told.{told}
 use Rattle.read_spec.specs.Sizes.{Sizes}
-use Rattle.read_readings.specs.Joined.{Piece, Fits, joined, pieces_read, joined-readings}
+use Rattle.read_readings.specs.Joined.{Piece, Fits, joined, pieces_read}
+use Rattle.read_readings.proofs.Joined.{joined-readings}
 use Rattle.read_call.specs.declared.Asked.{Asked}
 use Rattle.read_call.specs.Answers.{longest_stream, judged_within}
 use Rattle.demand_reading.specs.Promises.{Seen, Run}

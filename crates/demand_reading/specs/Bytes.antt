@@ -41,8 +41,8 @@ module _ {M : Type 1} {𝓤 : Ura M} (𝓛 : Logic 𝓤) where
       qed 𝓛 (‵ ((ShrSlice ℓ κ u8).own_val x vs) ∷ ‵ (flft κ q) ∷ []) {P = H.⇛ (guard 𝓤 (Below 256 x.now)
       (sep 𝓤 (sem 𝓛 ((ShrSlice ℓ κ u8).own_val x vs)) (A.lft κ q)))} (
       updating ! $ fsplit ! $ fsplit ! $ feq_l ! (λ e. fjoin ! $
-      use2 𝓛 (later (given (AllWt (f_int w8) x.now) (‵ (OwnH 𝓛 (f_int w8) κ q x.ref_ptr.0 x.ref_ptr.1 x.ghost_name x.now) ⊛ ‵ (flft κ q))))
-      (shs_known 𝓛 (f_int w8) κ q x.ref_ptr.0 x.ref_ptr.1 x.ghost_name x.now) $ await ! tt $ learn !
+      use2 𝓛 (later (given (AllWt (f_int w8) x.now) (‵ (OwnH 𝓛 (f_int w8) κ q x.ref_ptr.0 x.ref_ptr.1 x.now) ⊛ ‵ (flft κ q))))
+      (shs_known 𝓛 (f_int w8) κ q x.ref_ptr.0 x.ref_ptr.1 x.now) $ await ! tt $ learn !
       (λ a. split ! $ at_once ! $ check ! (typed-below x.now a) $
       fsplit ! $ feq_i ! (List Val) vs (v ∷ []) e $ fjoin ! $ fjoin ! $ done !)))
 

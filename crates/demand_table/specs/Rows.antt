@@ -4,7 +4,7 @@ use Rattle.std.specs.Prelude.{◌≡◌, refl, List, ◌∷◌, ℕ, zero, suc, 
 use Rattle.std.proofs.Common.{ap, ◌∙◌, arith}
 use Rattle.gage_cells.specs.Cells.{table, cells, bytes, follow, substitute}
 use Rattle.gage_sponge.specs.Padding.{padded, block_count}
-use Rattle.gage_sponge.specs.Blocks.{length-padded}
+use Rattle.gage_sponge.proofs.Blocks.{length-padded}
 use Rattle.digest_spec.specs.Instances.{DIGEST-BITS, bit_rate, rate_of}
 use Rattle.digest_spec.specs.Hashing.{digest_calls}
 use Rattle.digest_sponge.specs.Calls.{digest-calls}

@@ -1,0 +1,9 @@
+pub mod Written
+pub mod GivenWritten
+pub mod EveryLine
+pub mod FromStart
+pub mod Reaching
+pub mod Resync
+pub mod Walking
+pub mod Whole
+pub mod Ending
