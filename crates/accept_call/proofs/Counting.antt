@@ -1,18 +1,17 @@
 -- Counting the stretches of a stream: what is counted and what is left are all of them. Assumes nothing.
-use mathlib.Core.Path.{◌≡◌, sym, ap, ◌∙◌}
-use mathlib.Core.Bool.{Bool, true, false, cond}
-use mathlib.Core.List.{List, [], ◌∷◌, map}
+use mathlib.Core.Path.{◌≡◌, ap, ◌∙◌}
+use mathlib.Core.List.{List, [], ◌∷◌}
 use Prim.Native.Nat.{ℕ, ◌+◌, ◌-◌, ◌≤◌, ◌<◌}
 use native.Mathlib.Omega.{arith}
-use lib.Dec.{eqb}
-use lib.ListN.{length, length-map}
-use borrow.Author.Tests.{eq-eqb, eqb-true, eqb-false, ne_eqb}
+use lib.ListN.{length}
+use borrow.Author.Tests.{eq-eqb}
 use Rattle.read_stretch.specs.declared.Span.{Span}
 use Rattle.read_stretch.specs.Stretches.{next_span, next_stretch}
-use Rattle.read_stretch.specs.Places.{Found, next-found, next-none}
+use Rattle.read_stretch.specs.Places.{Found}
+use Rattle.read_stretch.proofs.Places.{next-found, next-none}
 use Rattle.read_spec.specs.Judged.{Judged, shape}
-use Rattle.read_readings.specs.Readings.{Reading, reading, readings, readings-step}
-use Rattle.read_readings.specs.Joining.{found-step}
+use Rattle.read_readings.specs.Readings.{reading, readings, readings-step}
+use Rattle.read_readings.proofs.Joining.{found-step}
 use Rattle.accept_spec.specs.Accepting.{stretches_in}
 
 module _ (judge : List ℕ → Judged) (s : List ℕ) (at : ℕ) where

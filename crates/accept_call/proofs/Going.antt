@@ -1,21 +1,20 @@
 -- Judging the stretches of a stream one after the other: what has been judged so far are lines whose nonces are kept, and what is left decides.
 -- Assumes nothing.
-use mathlib.Core.Path.{◌≡◌, refl, sym, ap, ap₂, subst, ◌∙◌}
+use mathlib.Core.Path.{◌≡◌, refl, sym, ap, ap₂, ◌∙◌}
 use mathlib.Core.Bool.{Bool, true, false}
-use mathlib.Core.List.{List, [], ◌∷◌, ◌++◌, map}
+use mathlib.Core.List.{List, [], ◌∷◌, ◌++◌}
 use Prim.Native.Nat.{ℕ, ◌+◌, ◌-◌, ◌≤◌, ◌<◌}
 use native.Mathlib.Omega.{arith}
 use lib.ListN.{length, set, replicate, length-set, length-replicate}
 use borrow.Author.Tests.{eq-eqb, ne_eqb}
 use Rattle.base_lists.specs.Below.{Below, below-take, below-drop}
 use Rattle.read_stretch.specs.declared.Span.{Span}
-use Rattle.read_stretch.specs.Stretches.{span, bytes_at, next_span, next_stretch}
+use Rattle.read_stretch.specs.Stretches.{bytes_at, next_span, next_stretch}
 use Rattle.read_stretch.specs.Places.{Found}
 use Rattle.read_spec.specs.Judged.{Judged, number_in}
 use Rattle.read_readings.specs.Readings.{Reading, reading, readings}
 use Rattle.read_nonce.specs.Nonces.{nonce_of}
 use Rattle.read_nonce.specs.Sizes.{nonce-twelve}
-use Rattle.accept_spec.specs.declared.Accepted.{Accepted}
 use Rattle.accept_spec.specs.declared.Answer.TheVariants as answer-is
 use Rattle.accept_spec.specs.Nonces.{met}
 use Rattle.accept_spec.specs.Accepting.{most_stretches, at, yes, accept_from, stretches_in}
@@ -23,7 +22,7 @@ use Rattle.accept_spec.specs.Readings.{counted}
 use Rattle.accept_nonces.specs.Words.{high, low}
 use Rattle.accept_nonces.specs.Seen.{pair_in}
 use Rattle.accept_nonces.specs.Kept.{Kept, kept-none, kept_more, kept-met}
-use Rattle.accept_call.proofs.Counting.{none_left, one_left, some_left}
+use Rattle.accept_call.proofs.Counting.{one_left, some_left}
 
 -- n stretches up to a place are lines
 pub record Going (judge : List ℕ → Judged) (s : List ℕ) (all : ℕ) (highs lows : List ℕ) (from n : ℕ) : Type 0 where

@@ -1,6 +1,6 @@
 -- With all the work allowed, the number that `judge` gives is that of what the stretch is found to be; and the tests of the call in their order.
 -- Assumes nothing.
-use mathlib.Core.Path.{◌≡◌, refl, sym, ap, ◌∙◌}
+use mathlib.Core.Path.{◌≡◌, refl, ap, ◌∙◌}
 use mathlib.Core.Bool.{true}
 use mathlib.Core.List.{List, []}
 use Prim.Native.Nat.{ℕ, ◌≤◌, ◌<◌}
@@ -15,13 +15,11 @@ use Rattle.frame_spec.specs.Told.{key_length, Told, told}
 use Rattle.read_spec.specs.Judged.{Judged, shape, stuffing, font, work, seal, unlisted, trade, layout, line, number_in}
 use Rattle.read_spec.specs.Judging.{judge}
 use Rattle.read_spec.specs.Ceiling.{all_work}
-use Rattle.read_spec.specs.Allowance.{all-allowed}
+use Rattle.read_spec.proofs.Allowance.{all-allowed}
 use Rattle.read_spec.specs.Sizes.{Sizes}
-use Rattle.read_call.specs.declared.Asked.{Asked}
 use Rattle.read_call.specs.declared.Verdict.{Verdict}
 use Rattle.read_call.specs.Answers.{longest_stream, sized_told, answer_of, verdict_of, judged_within, judge_answer}
 use Rattle.read_call.specs.Answers as answers
-use Rattle.accept_spec.specs.declared.Accepted.{Accepted}
 use Rattle.accept_spec.specs.declared.Answer.TheVariants as answer-is
 use Rattle.accept_spec.specs.Accepting.{most_stretches, refused, stretches_in, read_all, accept_from, accept_answer}
 

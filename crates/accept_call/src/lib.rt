@@ -1,5 +1,7 @@
 // Accepting a bureau's stream (order W12): yes exactly when each stretch reads as a line and no nonce occurs in two of them, else the first stretch at
 // fault. The promises cite accept_spec/specs/Accepting.antt. Nothing is lent: the nonces seen stand in memory of the call's own.
+#![tactic(auto)]
+
 ghost use Rattle.std.specs.Prelude.{◌≡◌, [], ◌≤◌, length};
 ghost use Rattle.frame_spec.specs.Told.{told};
 ghost use Rattle.read_spec.specs.Judged.{number_in};

@@ -1,5 +1,5 @@
 -- The numbers of a nonce put together from three of four bytes, the tests of a place, and looking through places one after the other. Assumes nothing.
-use mathlib.Core.Path.{◌≡◌, refl, sym, ap, ap₂, ◌∙◌}
+use mathlib.Core.Path.{◌≡◌, sym, ap, ap₂, ◌∙◌}
 use mathlib.Core.Bool.{Bool, true, false, cond}
 use mathlib.Core.List.{List, [], ◌∷◌}
 use Prim.Native.Nat.{ℕ, zero, suc, ◌+◌, ◌*◌, ◌-◌, ◌≤◌, ◌<◌}
@@ -10,7 +10,6 @@ use borrow.Author.Tests.{lt-ltb, le-ltb, ne_eqb, eq-eqb}
 use Rattle.base_lists.specs.Walk as walk
 use Rattle.frame_body.specs.Fields.{nonce_length}
 use Rattle.frame_body.specs.Job.{high_first}
-use Rattle.accept_nonces.specs.declared.Words.{Words}
 use Rattle.accept_nonces.specs.Words.{four_bytes, high, low, words_of}
 use Rattle.accept_nonces.specs.Seen.{pair_at, pair_in}
 

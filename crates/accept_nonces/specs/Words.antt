@@ -1,5 +1,5 @@
 -- A nonce as two numbers, high byte first, and that no two nonces are the same two. Assumes nothing.
-use Rattle.std.specs.Prelude.{◌≡◌, refl, Bool, true, false, cond, List, [], ◌∷◌, ◌++◌, ℕ, suc, ◌+◌, ◌*◌, eqb, length, take, drop}
+use Rattle.std.specs.Prelude.{◌≡◌, refl, Bool, true, false, cond, List, [], ◌∷◌, ◌++◌, ℕ, ◌+◌, ◌*◌, eqb, length, take, drop}
 use Rattle.std.proofs.Common.{sym, ap, ap₂, ◌∙◌, arith, length-take, length-drop, take-append-drop, eqb-true, eq-eqb}
 use Rattle.base_lists.specs.Never.{never}
 use Rattle.base_lists.specs.Below.{Below, below-take, below-drop}

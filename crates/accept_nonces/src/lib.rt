@@ -1,5 +1,7 @@
 // The nonces that accepting a stream has seen (order W12), as numbers: the first eight bytes of each in one list and the last four in another, so that
 // one comparison of two numbers takes the place of twelve of bytes. The promises cite specs/Words.antt and specs/Seen.antt.
+#![tactic(auto)]
+
 ghost use Rattle.std.specs.Prelude.{◌≡◌, [], ◌∷◌, ◌<◌};
 ghost use Rattle.frame_body.specs.Job.{high_first};
 ghost use Rattle.accept_nonces.specs.Words.{four_bytes, words_of};
@@ -13,7 +15,7 @@ const BYTE: u64 = 256;
 const FOUR_BYTES: u64 = 4294967296;
 
 // A nonce as two numbers, high byte first: its first eight bytes and its last four.
-#[derive(Drop)]
+#[derive(Clone, Copy)]
 pub struct Words {
     pub high: u64,
     pub low: u32,

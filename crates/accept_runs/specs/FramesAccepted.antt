@@ -1,9 +1,9 @@
 -- `frames-accepted` (order W12), from the promises alone: every stream within the size limit made of at most 512 frames of our writers, of either edition
 -- where it is allowed, none too, under the key, font and layout asked for and with nonces that differ, gets yes. Assumes nothing.
-use Rattle.std.specs.Prelude.{◌≡◌, ℕ, ◌+◌, ◌-◌, ◌≤◌}
+use Rattle.std.specs.Prelude.{◌≡◌, ℕ, ◌+◌, ◌≤◌}
 use Rattle.std.proofs.Math.Path.{refl, ap₂}
 use Rattle.std.proofs.Common.{sym, ap, subst, ◌∙◌, arith}
-use mathlib.Core.List.{List, [], ◌∷◌, map}
+use mathlib.Core.List.{List, [], ◌∷◌}
 use Rattle.std.proofs.Math.ListN.{length}
 use Rattle.line_layout.specs.declared.Layout.{Layout}
 use Rattle.read_stretch.specs.Stretches.{bytes_at}
@@ -16,13 +16,13 @@ use Rattle.read_nonce.specs.declared.Nonce.{Nonce}
 use Rattle.read_nonce.specs.Nonces.{nonce_of}
 use Rattle.read_nonce.specs.Lines.{line-nonce}
 use Rattle.demand_joined.specs.Frames.{Frame, count_of}
-use Rattle.demand_joined.specs.Lines.{frames_of, lines_read, line_read, frames-readings}
+use Rattle.demand_joined.proofs.Lines.{frames_of, lines_read, line_read, frames-readings}
 use Rattle.accept_spec.specs.declared.Accepted.{Accepted}
 use Rattle.accept_spec.specs.Nonces.{AllDiffer}
 use Rattle.accept_spec.specs.Accepting.{most_stretches, yes, read_all}
 use Rattle.accept_spec.specs.Exactly.{Lines, nonces_of}
 use Rattle.accept_spec.specs.Readings.{JudgedAt, readings-judged}
-use Rattle.accept_spec.specs.Cases.{good-accepted}
+use Rattle.accept_spec.proofs.Cases.{good-accepted}
 use Rattle.accept_runs.specs.Promises.{Accepts}
 
 module _ {t : Told} {ed : ℕ} where

@@ -18,8 +18,10 @@ use Rattle.read_nonce.specs.declared.Nonce.{Nonce}
 use Rattle.read_nonce.specs.Nonces.{nonce_answer}
 use Rattle.read_nonce.specs.Lines.{line-nonce}
 use Rattle.demand_reading.specs.Promises.{Reads}
-use Rattle.demand_reading.specs.Written.{marked, between, written-given}
-use Rattle.demand_reading.specs.GivenWritten.{gives, Made, given-is-written, written-made}
+use Rattle.demand_reading.specs.Written.{marked}
+use Rattle.demand_reading.proofs.Written.{between, written-given}
+use Rattle.demand_reading.specs.GivenWritten.{gives, Made}
+use Rattle.demand_reading.proofs.GivenWritten.{given-is-written, written-made}
 use Rattle.demand_joined.specs.Makes.{Makes, makes-accepts, makes-frame}
 use Rattle.accept_runs.specs.Promises.{Tells}
 

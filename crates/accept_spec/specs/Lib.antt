@@ -2,4 +2,3 @@ pub mod Nonces
 pub mod Accepting
 pub mod Exactly
 pub mod Readings
-pub mod Cases

@@ -10,7 +10,8 @@ use Rattle.std.proofs.lemmas.List.{length-map}
 use Rattle.read_stretch.specs.Stretches.{bytes_at, next_span, next_stretch}
 use Rattle.read_spec.specs.Judged.{Judged, shape}
 use Rattle.read_readings.specs.Readings.{Reading, reading, ends, readings_in, readings}
-use Rattle.read_readings.specs.Counting.{place_of, places-alike}
+use Rattle.read_readings.specs.Counting.{place_of}
+use Rattle.read_readings.proofs.Counting.{places-alike}
 use Rattle.accept_spec.specs.Accepting.{stretches_in}
 
 module _ (j k : List ℕ → Judged) (s : List ℕ) (alike : (from : ℕ) → j (next_stretch s from) ≡ k (next_stretch s from)) where

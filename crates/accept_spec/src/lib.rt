@@ -1,8 +1,9 @@
 // Accepting a bureau's stream (order W12) by definition: what the call answers, the first stretch at fault, and a yes. There is no code; the call is in
 // the crate accept_call.
+#![tactic(auto)]
 
 // What accepting a stream comes to.
-#[derive(Drop)]
+#[derive(Clone, Copy)]
 pub enum Answer {
     // Each stretch reads as a line and no nonce occurs in two of them.
     Yes,
@@ -18,7 +19,7 @@ pub enum Answer {
 
 // With the places of the stretch at fault, of its first byte and of its closing mark. Both are the stream's length with yes, and 0 where the call is
 // refused.
-#[derive(Drop)]
+#[derive(Clone, Copy)]
 pub struct Accepted {
     pub first: usize,
     pub closing: usize,

@@ -10,7 +10,6 @@ use borrow.Author.Tests.{eq-eqb, ne_eqb, lt-ltb, le-ltb}
 use Rattle.line_layout.specs.declared.Layout.{Layout}
 use Rattle.frame_spec.specs.Told.{key_length, Told, told}
 use Rattle.frame_body.specs.Fields.{digest_length}
-use Rattle.read_spec.specs.Sizes.{Sizes}
 use Rattle.read_call.specs.Answers.{longest_stream, sized_told}
 use Rattle.index_spec.specs.declared.Answer.{Answer}
 use Rattle.index_spec.specs.declared.Answer.TheVariants as answer-is

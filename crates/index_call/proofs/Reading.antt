@@ -6,14 +6,14 @@ use native.Mathlib.Omega.{arith}
 use Rattle.line_spec.specs.Lines.{longest}
 use Rattle.line_layout.specs.declared.Layout.{Layout}
 use Rattle.read_stretch.specs.Stretches.{next_span, next_stretch}
-use Rattle.read_stretch.specs.Places.{next-found}
+use Rattle.read_stretch.proofs.Places.{next-found}
 use Rattle.frame_spec.specs.Told.{Told, told}
 use Rattle.read_spec.specs.Judged.{Judged, number_in}
 use Rattle.read_call.specs.declared.Reading.{Reading}
 use Rattle.read_call.specs.Answers.{stretch, found, reading_of, answer_number}
 use Rattle.demand_reading.specs.Promises.{Seen}
-use Rattle.demand_reading.specs.Resync.{seen_at}
-use Rattle.demand_reading.specs.GivenWritten.{found-next}
+use Rattle.demand_reading.proofs.Resync.{seen_at}
+use Rattle.demand_reading.proofs.GivenWritten.{found-next}
 use Rattle.index_spec.specs.Entries.{entry_of}
 use Rattle.index_spec.specs.Updating.{all_asked, judged_all}
 use Rattle.index_spec.specs.Recorded.{number-below}

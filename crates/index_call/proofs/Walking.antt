@@ -1,18 +1,17 @@
 -- The walk that adds entries: those of the stretches passed stand in the table, and what is left of them are those from the place reached.
 -- Assumes nothing.
 use mathlib.Core.Path.{◌≡◌, refl, sym, ap, ◌∙◌}
-use mathlib.Core.List.{List, [], ◌∷◌, head-eq_of_cons-eq, tail-eq_of_cons-eq}
-use Prim.Native.Nat.{ℕ, zero, suc, ◌+◌, ◌≤◌, ◌<◌}
+use mathlib.Core.List.{List, ◌∷◌, head-eq_of_cons-eq, tail-eq_of_cons-eq}
+use Prim.Native.Nat.{ℕ, suc, ◌+◌, ◌≤◌, ◌<◌}
 use native.Mathlib.Numerals.{add-one}
 use native.Mathlib.Omega.{arith}
 use lib.ListN.{length, set, get_or, drop}
 use lib.Seq.{sets, sets-eq, paste, paste-zero, paste-suc, length-paste, take_all}
 use Rattle.base_lists.specs.Walk.{at}
-use Rattle.read_stretch.specs.Stretches.{next_span, next_stretch}
-use Rattle.read_stretch.specs.Places.{next-within}
+use Rattle.read_stretch.specs.Stretches.{next_span}
+use Rattle.read_stretch.proofs.Places.{next-within}
 use Rattle.frame_spec.specs.Told.{Told}
-use Rattle.read_spec.specs.Judged.{number_in}
-use Rattle.index_spec.specs.Entries.{entry_of, entries_from}
+use Rattle.index_spec.specs.Entries.{entries_from}
 use Rattle.index_spec.specs.Updating.{judged_all}
 use Rattle.index_spec.specs.Recorded.{entries_none, entries-one}
 use Rattle.index_call.specs.Steps.{Ahead, next_of, Adding}

@@ -1,5 +1,7 @@
 // Bringing an index up to date (order W10): the stretches added are counted before anything is written, and each of them, and no other, is judged
 // once. The promises cite index_spec/specs/Updating.antt.
+#![tactic(auto)]
+
 ghost use Rattle.std.specs.Prelude.{◌≡◌, ◌+◌, ◌≤◌, length};
 ghost use Rattle.std.proofs.lemmas.List.Edits.{sets};
 ghost use Rattle.frame_spec.specs.Told.{told};
@@ -18,7 +20,7 @@ use read_call::{ALL_WORK, Asked, LONGEST_STREAM, read};
 use read_numbers::read_number;
 
 // One stretch as an entry, and where the next one is looked for.
-#[derive(Drop)]
+#[derive(Clone, Copy)]
 struct Next {
     entry: u32,
     closing: usize,

@@ -1,12 +1,12 @@
 -- Counting along a stream, one stretch a turn. Assumes nothing.
-use mathlib.Core.Path.{◌≡◌, refl, sym, ap, ◌∙◌}
+use mathlib.Core.Path.{◌≡◌, ap}
 use mathlib.Core.List.{List}
-use Prim.Native.Nat.{ℕ, ◌+◌, ◌-◌, ◌≤◌, ◌<◌}
+use Prim.Native.Nat.{ℕ, ◌+◌, ◌≤◌, ◌<◌}
 use native.Mathlib.Omega.{arith}
 use lib.ListN.{length}
 use Rattle.read_stretch.specs.declared.Span.{Span}
 use Rattle.read_stretch.specs.Stretches.{next_span}
-use Rattle.read_stretch.specs.Places.{next-found}
+use Rattle.read_stretch.proofs.Places.{next-found}
 use Rattle.index_count.specs.Counted.{stretches_from}
 use Rattle.index_count.specs.Alike.{none-counted, one-counted, end-counted}
 

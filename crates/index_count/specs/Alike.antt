@@ -9,7 +9,8 @@ use Rattle.read_stretch.specs.Stretches.{next_span, next_stretch}
 use Rattle.read_stretch.specs.Steps.{next-end}
 use Rattle.read_spec.specs.Judged.{Judged}
 use Rattle.read_readings.specs.Readings.{reading, readings, readings-step}
-use Rattle.read_readings.specs.Counting.{place_of, places-alike}
+use Rattle.read_readings.specs.Counting.{place_of}
+use Rattle.read_readings.proofs.Counting.{places-alike}
 use Rattle.index_count.specs.Counted.{unjudged, stretches_from}
 
 module _ (s : List ℕ) where

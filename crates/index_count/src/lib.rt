@@ -1,4 +1,6 @@
 // How many stretches stand in a stream from a place on (order W10): counted without judging any. The promise cites specs/Counted.antt.
+#![tactic(auto)]
+
 ghost use Rattle.std.specs.Prelude.{◌≡◌};
 ghost use Rattle.index_count.specs.Counted.{stretches_from};
 

@@ -1,6 +1,6 @@
 -- Passing over the entries on the way to the k-th line, one index a turn. Assumes nothing.
 use mathlib.Core.Path.{◌≡◌, refl, sym, ap, ◌∙◌}
-use mathlib.Core.List.{List, [], ◌∷◌}
+use mathlib.Core.List.{List, ◌∷◌}
 use Prim.Native.Nat.{ℕ, zero, suc, ◌+◌, ◌-◌, ◌≤◌, ◌<◌, min}
 use native.Mathlib.Omega.{arith}
 use lib.ListN.{length, take, drop, get_or, length-take, drop_of_length-le}
@@ -8,7 +8,6 @@ use lib.Seq.{get_or-take}
 use borrow.Author.Tests.{eq-eqb, ne_eqb, lt-ltb, le-ltb}
 use Rattle.base_lists.specs.Walk.{at}
 use Rattle.index_spec.specs.Entries.{most_entries, entry_number}
-use Rattle.index_entry.specs.declared.Entry.{Entry}
 use Rattle.index_entry.specs.declared.Line.{Line}
 use Rattle.index_entry.specs.Lookups.{looked_at, no_entry, entry_is, entry_at, no_line, line_is, or_later, line_from, line_at}
 

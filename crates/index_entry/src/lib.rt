@@ -1,5 +1,7 @@
 // Look-ups in an index (order W10): the place and the number of an entry, and the entry of the k-th line. Any table is taken, with any count.
 // The promises cite specs/Lookups.antt.
+#![tactic(auto)]
+
 ghost use Rattle.std.specs.Prelude.{◌≡◌, min, length};
 ghost use Rattle.index_spec.specs.Entries.{entry_place, entry_number};
 ghost use Rattle.index_entry.specs.Lookups.{looked_at, entry_at, no_line, line_at};
@@ -7,7 +9,7 @@ ghost use Rattle.index_entry.specs.Lookups.{looked_at, entry_at, no_line, line_a
 use index_spec::{MOST_ENTRIES, NUMBERS};
 
 // What a look-up answers, where there is an entry (1) or none (0, and all else 0): the entry's number and its place.
-#[derive(Drop)]
+#[derive(Clone, Copy)]
 pub struct Entry {
     pub there: u32,
     pub number: u32,
@@ -15,7 +17,7 @@ pub struct Entry {
 }
 
 // What the look-up of a line answers, where there is one (1) or none (0, and all else 0): the index of its entry, and its place.
-#[derive(Drop)]
+#[derive(Clone, Copy)]
 pub struct Line {
     pub there: u32,
     pub index: u32,

@@ -14,10 +14,9 @@ use Rattle.read_call.specs.Answers.{longest_stream}
 use Rattle.demand_reading.specs.Promises.{Seen, Run}
 use Rattle.demand_reading.specs.Reaching.{Ended}
 use Rattle.index_spec.specs.declared.Answer.{Answer}
-use Rattle.index_spec.specs.declared.Answer.TheVariants as answer-is
 use Rattle.index_spec.specs.declared.Updated.{Updated}
 use Rattle.index_spec.specs.Entries.{most_entries, entry_place, recorded, entries_from}
-use Rattle.index_spec.specs.Updating.{judged_all, last_place, added, update_answer, update_number, count_of, answered}
+use Rattle.index_spec.specs.Updating.{judged_all, last_place, added, update_answer, update_number}
 use Rattle.index_spec.specs.Cases.{Takes, Case, bad-sizes, too_long, no_room, over, beyond, full, done, update-case}
 use Rattle.index_count.specs.Counted.{stretches_from}
 use Rattle.index_count.specs.Alike.{counted-alike}

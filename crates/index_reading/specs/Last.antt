@@ -1,14 +1,16 @@
 -- The last place recorded: that of the last reading written behind the table's entries, within the stream, and no stretch is found from there.
 -- Assumes nothing.
-use Rattle.std.specs.Prelude.{◌≡◌, refl, List, [], ◌∷◌, ◌++◌, map, ℕ, zero, suc, ◌+◌, ◌≤◌, ◌<◌, length, set, get_or}
-use Rattle.std.proofs.Common.{sym, ap, ◌∙◌, append-nil, arith, length-append, length-set, get_or-set_same, eq-eqb}
+use Rattle.std.specs.Prelude.{◌≡◌, refl, List, [], ◌∷◌, ◌++◌, map, ℕ, zero, suc, ◌+◌, ◌≤◌, ◌<◌, length, set}
+use Rattle.std.proofs.Common.{ap, ◌∙◌, append-nil, arith, length-append, length-set, get_or-set_same, eq-eqb}
 use Rattle.std.proofs.lemmas.List.Edits.{sets}
 use Rattle.read_stretch.specs.Stretches.{next_span}
-use Rattle.read_stretch.specs.Places.{Found, Next, nothing, something, next-cases}
+use Rattle.read_stretch.specs.Places.{Found, Next, nothing, something}
+use Rattle.read_stretch.proofs.Places.{next-cases}
 use Rattle.read_spec.specs.Judged.{Judged}
 use Rattle.read_readings.specs.Readings.{Reading, readings, readings-step}
-use Rattle.read_readings.specs.Joining.{found-step}
-use Rattle.read_readings.specs.Growing.{last_first, grown}
+use Rattle.read_readings.proofs.Joining.{found-step}
+use Rattle.read_readings.specs.Growing.{last_first}
+use Rattle.read_readings.proofs.Growing.{grown}
 use Rattle.index_spec.specs.Entries.{entry_place, recorded}
 use Rattle.index_spec.specs.Updating.{last_place}
 use Rattle.index_spec.specs.Recorded.{recorded-place}

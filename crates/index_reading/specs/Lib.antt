@@ -1,9 +1,5 @@
 pub mod Promises
 pub mod Runs
 pub mod Last
-pub mod Fresh
-pub mod Growing
-pub mod Added
-pub mod Lines
 pub mod Exactly
 pub mod FromContracts

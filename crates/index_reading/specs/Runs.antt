@@ -1,6 +1,6 @@
 -- What a run of `read` to the end sees, without the end, are the stream's readings with all the work allowed. From the promise of `read` alone.
 -- Assumes nothing.
-use Rattle.std.specs.Prelude.{◌≡◌, refl, true, false, cond, List, [], ◌∷◌, map, ℕ, ◌+◌, ◌-◌, ◌≤◌, length, drop}
+use Rattle.std.specs.Prelude.{◌≡◌, refl, true, false, List, [], ◌∷◌, map, ℕ, ◌-◌, ◌≤◌, length, drop}
 use Rattle.std.proofs.Math.Path.{sym}
 use Rattle.std.proofs.Common.{ap, ap₂, ◌∙◌, arith, eq-eqb}
 use Rattle.std.proofs.Math.Numerals.{unary_clauses}
@@ -10,21 +10,21 @@ use Rattle.line_spec.specs.Lines.{longest}
 use Rattle.line_layout.specs.declared.Layout.{Layout}
 use Rattle.read_stretch.specs.Stretches.{span, next_span, next_stretch}
 use Rattle.read_stretch.specs.Places as places
-use Rattle.read_stretch.specs.Places.{Next, nothing, something, next-cases}
+use Rattle.read_stretch.specs.Places.{Next, nothing, something}
+use Rattle.read_stretch.proofs.Places.{next-cases}
 use Rattle.frame_spec.specs.Told.{Told, told}
 use Rattle.read_spec.specs.Judged.{Judged, number_in, line_in, label_in, calls_in}
-use Rattle.read_spec.specs.Judging.{judge}
-use Rattle.read_spec.specs.Ceiling.{within, all_work}
-use Rattle.read_spec.specs.Allowance.{all-allowed}
+use Rattle.read_spec.specs.Ceiling.{all_work}
+use Rattle.read_spec.proofs.Allowance.{all-allowed}
 use Rattle.read_spec.specs.Sizes.{Sizes}
 use Rattle.read_readings.specs.Readings.{Reading, reading, readings, readings-step}
-use Rattle.read_readings.specs.Joining.{found-step}
+use Rattle.read_readings.proofs.Joining.{found-step}
 use Rattle.read_call.specs.declared.Reading as answers
 use Rattle.read_call.specs.declared.Answer.TheVariants as answer-is
 use Rattle.read_call.specs.Answers.{longest_stream, call, stretch, judged_within, found, reading_of, buffer}
 use Rattle.demand_reading.specs.Promises.{Reads, is_end, Seen, seen_from, Run, none, next}
-use Rattle.demand_reading.specs.Resync.{seen_at, sized}
-use Rattle.demand_reading.specs.GivenWritten.{told-sized, found-next}
+use Rattle.demand_reading.proofs.Resync.{seen_at, sized}
+use Rattle.demand_reading.proofs.GivenWritten.{told-sized, found-next}
 use Rattle.demand_reading.specs.Reaching.{Ended, at-end, before-end}
 use Rattle.index_spec.specs.Entries.{recorded}
 use Rattle.index_spec.specs.Updating.{judged_all}
@@ -110,5 +110,6 @@ module _ (key font : List ℕ) (editions a : ℕ) (lay : Layout) (s : List ℕ) 
   -- a run from any place of the stream, made until the end
   pub run-readings : (from : ℕ) {seen : List Seen} → from ≤ length s → Run key font (asking editions a lay) s 0 from seen → Ended seen
       → stretches_seen seen ≡ map seen_of (readings (judged_all t editions) s from)
+  run-readings from f none e = elim e [ ]
   run-readings from f (next r l l' {rest} g p q) e =
       on from f r l l' rest g p e (next-cases s from) (λ c k. run-readings r.closing c q k)

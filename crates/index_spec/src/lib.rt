@@ -1,5 +1,6 @@
 // An index beside the stream (order W10) by definition: an entry, the entries of a stream from a place on, and what bringing a table up to date
 // answers and leaves. There is no code; the look-ups are in the crate index_entry, the call in index_call.
+#![tactic(auto)]
 
 // The most entries that a table keeps (order W10).
 pub const MOST_ENTRIES: usize = 512;
@@ -8,7 +9,7 @@ pub const MOST_ENTRIES: usize = 512;
 pub const NUMBERS: u32 = 256;
 
 // What bringing a table up to date comes to.
-#[derive(Drop)]
+#[derive(Clone, Copy)]
 pub enum Answer {
     Done,
     // Key or font digest not of their sizes.
@@ -26,7 +27,7 @@ pub enum Answer {
 }
 
 // That, and the count of the table's entries then; on a refusal as it was handed in.
-#[derive(Drop)]
+#[derive(Clone, Copy)]
 pub struct Updated {
     pub answer: Answer,
     pub count: usize,

@@ -1,35 +1,32 @@
 -- The returns of a step, in the order of its refusals, and what is answered for what was taken in. Assumes nothing.
 use mathlib.Core.Path.{◌≡◌, refl, sym, ap, ap₂, ◌∙◌}
-use mathlib.Core.Bool.{Bool, true, false, not, cond}
+use mathlib.Core.Bool.{Bool, true, false, cond}
 use mathlib.Core.List.{List}
-use Prim.Native.Nat.{ℕ, ◌+◌, ◌-◌, ◌≤◌, ◌<◌}
-use native.Mathlib.Omega.{arith}
-use lib.Dec.{eqb}
+use Prim.Native.Nat.{ℕ, ◌+◌, ◌≤◌, ◌<◌}
 use lib.ListN.{length}
-use borrow.Author.Tests.{eq-eqb, ne_eqb, lt-ltb, le-ltb, not-true, not-false}
+use borrow.Author.Tests.{eq-eqb, ne_eqb, lt-ltb, le-ltb}
 use Rattle.line_spec.specs.Lines.{longest}
 use Rattle.frame_body.specs.Fields.{digest_length}
 use Rattle.frame_spec.specs.Told.{key_length, Told, told}
 use Rattle.read_stretch.specs.Stretches.{span}
-use Rattle.read_spec.specs.Judged.{Judged}
 use Rattle.read_readings.specs.Readings.{ends}
 use Rattle.read_call.specs.declared.Asked.{Asked}
 use Rattle.read_call.specs.Answers.{sized_told, line_over}
 use Rattle.live_spec.specs.declared.Numbers.{Numbers}
 use Rattle.live_spec.specs.declared.Step.{Step}
 use Rattle.live_spec.specs.declared.Answer.TheVariants as answer-is
-use Rattle.live_spec.specs.Taking.{possible, Taken, taken, taken_in}
+use Rattle.live_spec.specs.Taking.{possible, taken_in}
 use Rattle.live_spec.specs.Steps.{most_bytes, judged_in, Found, refused, waits, closed, found_in, found}
 use Rattle.live_spec.specs.Steps.{no_reading, step_of, window_of, line_of, step_answer, step_window, step_line}
 use Rattle.live_call.specs.declared.Taking.{Taking}
 use Rattle.live_call.specs.declared.Read.{Read}
 use Rattle.live_call.specs.Parts.{taken_by, taken_of, read_of}
 
-pub said-no : {b : Bool} (n : Numbers) → b ≡ possible n → not b ≡ true → possible n ≡ false
-said-no {b} n e h = sym e ∙ not-true b h
+pub said-no : {b : Bool} (n : Numbers) → b ≡ possible n → b ≡ false → possible n ≡ false
+said-no {b} n e h = sym e ∙ h
 
-pub said-yes : {b : Bool} (n : Numbers) → b ≡ possible n → not b ≡ false → possible n ≡ true
-said-yes {b} n e h = sym e ∙ not-false b h
+pub said-yes : {b : Bool} (n : Numbers) → b ≡ possible n → b ≡ true → possible n ≡ true
+said-yes {b} n e h = sym e ∙ h
 
 -- for what was taken in
 module _ (t : Told) (a : Asked) (k : Taking) (w o : List ℕ) where

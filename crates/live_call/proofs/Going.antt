@@ -1,5 +1,5 @@
 -- Taking a piece in: what was taken so far and what is left of it come to the whole. Assumes nothing.
-use mathlib.Core.Path.{◌≡◌, refl, sym, ap, ◌∙◌}
+use mathlib.Core.Path.{◌≡◌, sym, ap, ◌∙◌}
 use mathlib.Core.Bool.{true, false}
 use mathlib.Core.List.{List}
 use Prim.Native.Nat.{ℕ, ◌+◌, ◌-◌, ◌≤◌, ◌<◌}
@@ -11,7 +11,7 @@ use Rattle.frame_stuff_spec.specs.Stuffing.{mark, longest_stretch}
 use Rattle.read_stretch.specs.Stretches.{span}
 use Rattle.live_spec.specs.declared.Numbers.{Numbers}
 use Rattle.live_spec.specs.Taking.{possible, closes, behind_mark, behind_byte, kept, Taken, taken, more, taken_in}
-use Rattle.live_spec.specs.Pieces.{length-kept}
+use Rattle.live_spec.proofs.Pieces.{length-kept}
 use Rattle.live_spec.specs.Steps.{most_bytes}
 use Rattle.live_call.specs.declared.Taking.{Taking}
 use Rattle.live_call.specs.Parts.{taken_by}

@@ -1,16 +1,15 @@
 -- The tests of a link's numbers, branch by branch, and what keeping a byte leaves. Assumes nothing.
-use mathlib.Core.Path.{◌≡◌, refl, sym, ◌∙◌}
-use mathlib.Core.Bool.{Bool, true, false, not, cond}
+use mathlib.Core.Path.{◌≡◌, refl}
+use mathlib.Core.Bool.{Bool, true, false, cond}
 use mathlib.Core.List.{List}
-use Prim.Native.Nat.{ℕ, ◌-◌, ◌≤◌, ◌<◌}
+use Prim.Native.Nat.{ℕ, ◌≤◌, ◌<◌}
 use native.Mathlib.Omega.{arith}
 use lib.Dec.{eqb, ltb, leb}
 use lib.ListN.{set}
-use borrow.Author.Tests.{eq-eqb, ne_eqb, lt-ltb, le-ltb, eqb-true, eqb-false, leb-true, not-true}
+use borrow.Author.Tests.{eq-eqb, ne_eqb, lt-ltb, le-ltb, eqb-true, leb-true}
 use Rattle.base_lists.specs.Never.{never}
 use Rattle.frame_stuff_spec.specs.Stuffing.{longest_stretch}
 use Rattle.live_spec.specs.declared.Numbers.{Numbers}
-use Rattle.live_spec.specs.declared.Ends.{Ends}
 use Rattle.live_spec.specs.declared.Ends.TheVariants as ends-are
 use Rattle.live_spec.specs.Taking.{possible, unfinished, closes, kept}
 use Rattle.live_spec.specs.Ends.{ends_answer}

@@ -14,7 +14,7 @@ use Rattle.frame_spec.specs.Told.{key_length, Told}
 use Rattle.read_stretch.specs.Stretches.{span}
 use Rattle.read_spec.specs.Judged.{number_in, Judged, shape, stuffing, font, work, seal, unlisted, trade, layout, line}
 use Rattle.read_spec.specs.Judging.{judge}
-use Rattle.read_spec.specs.Allowance.{not-work}
+use Rattle.read_spec.proofs.Allowance.{not-work}
 use Rattle.read_spec.specs.Sizes.{Sizes}
 use Rattle.read_nonce.specs.declared.Nonce.{Nonce}
 use Rattle.read_nonce.specs.Nonces.{nonce_answer, nonce_of}
@@ -26,7 +26,6 @@ use Rattle.read_call.specs.Answers.{LINE, outcome_of, sized_told, judged_within,
 use Rattle.read_numbers.specs.declared.Report.{Report}
 use Rattle.read_numbers.specs.Reports.{report_of}
 use Rattle.live_spec.specs.Steps.{judged_in, no_nonce, nonce_in}
-use Rattle.live_call.specs.declared.Read.{Read}
 use Rattle.live_call.specs.Parts.{read_of}
 
 -- the nonce that is given for an answer, with the bytes of the stretch

@@ -1,5 +1,7 @@
 // Reading a link that never ends: a step takes a piece in, up to and with the first mark that closes a stretch, and reads that stretch; a last call
 // tells what was cut off at the link's ends. The window is lent, the numbers go in and come back. The promises cite live_spec/specs.
+#![tactic(auto)]
+
 ghost use Rattle.std.specs.Prelude.{◌≡◌, true, cond, ◌+◌, ◌-◌, ◌<◌, ◌≤◌, eqb, length};
 ghost use Rattle.frame_stuff_spec.specs.Stuffing.{longest_stretch};
 ghost use Rattle.line_spec.specs.Lines.{longest};
@@ -37,7 +39,7 @@ const NO_JOB: usize = 0;
 
 // What taking a piece in comes to: the numbers then, how many bytes were taken, and the places of the stretch that was closed, which are one where none
 // was.
-#[derive(Drop)]
+#[derive(Clone, Copy)]
 struct Taking {
     numbers: Numbers,
     took: usize,
@@ -46,7 +48,7 @@ struct Taking {
 }
 
 // What a stretch is found to be, with the edition, the job and the nonce of a line that is given.
-#[derive(Drop)]
+#[derive(Clone, Copy)]
 struct Read {
     answer: read_call::Answer,
     edition: usize,

@@ -1,6 +1,6 @@
 -- What was cut off at the ends of a stream: the bytes before its first mark, all where there is none, and those behind its last, none where there is
 -- none; of a whole stream, and as the numbers of a link tell it. Assumes nothing: these are definitions.
-use Rattle.std.specs.Prelude.{not, cond, List, [], ◌∷◌, ℕ, ◌+◌, ◌-◌, eqb}
+use Rattle.std.specs.Prelude.{not, cond, List, [], ◌∷◌, ℕ, ◌+◌, eqb}
 use Rattle.frame_stuff_spec.specs.Stuffing.{mark}
 use Rattle.live_spec.specs.declared.Numbers.{Numbers}
 use Rattle.live_spec.specs.declared.Ends.{Ends}

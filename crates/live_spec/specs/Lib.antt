@@ -3,5 +3,4 @@ pub mod Steps
 pub mod Ends
 pub mod Marks
 pub mod After
-pub mod Pieces
 pub mod Sample

@@ -1,24 +1,24 @@
 -- What a byte at the end of a stream changes: no stretch is closed, or one is, and what was cut off at the ends. Over any way to judge a stretch's
 -- bytes. Assumes nothing.
-use Rattle.std.specs.Prelude.{◌≡◌, Bool, List, [], ◌∷◌, ◌++◌, ℕ, ◌+◌, ◌-◌, ◌≤◌, ◌<◌, eqb, length, get_or, take, drop}
+use Rattle.std.specs.Prelude.{◌≡◌, Bool, List, [], ◌∷◌, ◌++◌, ℕ, ◌+◌, ◌-◌, ◌≤◌, ◌<◌, eqb, length, get_or, drop}
 use Rattle.std.proofs.Math.Path.{refl}
-use Rattle.std.proofs.Common.{sym, ap, ap₂, subst, ◌∙◌, length-append, length-drop, take_at}
+use Rattle.std.proofs.Common.{sym, subst, ◌∙◌, length-append, length-drop, take_at}
 use Rattle.std.proofs.Math.Bool.{true, false, cond}
 use Rattle.std.proofs.Math.Decide.{dec_lt}
 use native.Mathlib.Omega.{arith}
 use Rattle.std.proofs.Math.ListN.{get_or-append}
 use Rattle.std.proofs.lemmas.List.{drop-append-le}
 use Rattle.std.proofs.Math.Seq.{get_or-append_seam}
-use borrow.Author.Tests.{eq-eqb, ne_eqb, eqb-true, eqb-false}
+use borrow.Author.Tests.{eq-eqb, ne_eqb}
 use Rattle.frame_stuff_spec.specs.Stuffing.{mark}
 use Rattle.read_stretch.specs.Stretches.{span, bytes_at, next_span, next_stretch}
 use Rattle.read_stretch.specs.Meaning.{NoMark, Stretch}
-use Rattle.read_stretch.specs.Places.{Found, stretch-next, next-none}
+use Rattle.read_stretch.proofs.Places.{stretch-next, next-none}
 use Rattle.read_spec.specs.Judged.{Judged}
-use Rattle.read_readings.specs.Readings.{Reading, reading, readings, readings-step}
+use Rattle.read_readings.specs.Readings.{reading, readings, readings-step}
 use Rattle.read_readings.specs.Resync.{Mark}
 use Rattle.read_readings.specs.Reaching.{UpTo, closes, behind, up_to}
-use Rattle.read_readings.specs.Joining.{same_next}
+use Rattle.read_readings.proofs.Joining.{same_next}
 use Rattle.live_spec.specs.declared.Numbers.{Numbers}
 use Rattle.live_spec.specs.declared.Ends.{Ends}
 use Rattle.live_spec.specs.declared.Ends.TheVariants as ends-are

@@ -1,10 +1,12 @@
 // Reading a link that never ends, by definition: numbers and a window of an unfinished stretch's first bytes, what a step over a piece takes in and
 // answers, and what was cut off at the link's ends. There is no code; the calls are in the crate live_call.
+#![tactic(auto)]
+
 use frame_body::NONCE_LENGTH;
 
 // What is counted of a link, all zero before its first byte: the bytes received, whether a mark came (0 or 1), the place of the first mark, and the
 // place of the unfinished stretch's first byte.
-#[derive(Drop)]
+#[derive(Clone, Copy)]
 pub struct Numbers {
     pub received: u64,
     pub marked: u32,
@@ -13,7 +15,7 @@ pub struct Numbers {
 }
 
 // What a step comes to.
-#[derive(Drop)]
+#[derive(Clone, Copy)]
 pub enum Answer {
     // The call is refused, and nothing is taken: numbers that no taking-in gives, key or font digest not of their sizes, a piece that takes the
     // count past 64 bits, line buffer too short.
@@ -29,7 +31,7 @@ pub enum Answer {
 
 // With the numbers behind it, how many bytes of the piece it took, the places of the stretch's first byte and of its closing mark, and the edition,
 // the job and the nonce of a line that is given; all zero unless one is. Where no stretch is closed both places are the bytes received.
-#[derive(Drop)]
+#[derive(Clone, Copy)]
 pub struct Step {
     pub numbers: Numbers,
     pub took: usize,
@@ -42,7 +44,7 @@ pub struct Step {
 }
 
 // What was cut off at the ends of a link.
-#[derive(Drop)]
+#[derive(Clone, Copy)]
 pub enum Ends {
     // Numbers that no taking-in gives.
     Numbers,

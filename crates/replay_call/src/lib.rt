@@ -1,5 +1,7 @@
 // Replay of a press trace (order W11): the press's state by value, one step for each event, the loop over a trace, and the two calls over it. The
 // promises cite replay_spec/specs/Answers.antt; how the state stands for the press, with the stream in the lent buffer, is in specs/Holding.antt.
+#![tactic(auto)]
+
 ghost use Rattle.std.specs.Prelude.{◌≡◌, true, ◌+◌, ◌<◌, ◌≤◌, length, take};
 ghost use Rattle.base_lists.specs.Buffers.{same};
 ghost use Rattle.frame_spec.specs.Told.{told};
@@ -19,7 +21,7 @@ use replay_spec::{Answer, Kind, Replayed, Stood};
 
 // The state: the place reached in the trace, events so far, bytes of the stream in the buffer, the place where the last reading ended, whether a line
 // is given and unprinted, the last line given, with zeros behind it, the first event that differs, and the fault, if any.
-#[derive(Drop)]
+#[derive(Clone, Copy)]
 struct State {
     at: usize,
     event: usize,

@@ -1,16 +1,15 @@
 -- What stands at a place of a trace, test by test, as `event_at` goes. Assumes nothing.
-use mathlib.Core.Path.{◌≡◌, refl, sym, ap, ◌∙◌}
+use mathlib.Core.Path.{◌≡◌, refl, sym, ap}
 use mathlib.Core.Bool.{true, false}
-use mathlib.Core.List.{List, []}
+use mathlib.Core.List.{List}
 use Prim.Native.Nat.{ℕ, ◌+◌, ◌*◌, ◌-◌, ◌≤◌, ◌<◌}
 use native.Mathlib.Omega.{arith}
-use lib.ListN.{length, get_or, drop, length-drop, drop_of_length-le}
+use lib.ListN.{length, get_or, drop, length-drop}
 use lib.Seq.{length-take-le}
 use borrow.Author.Tests.{eq-eqb, le-leb, lt-leb}
-use Rattle.base_fields.specs.Fields.{head_length, high_byte, Front, value, no_field, value_of, front}
+use Rattle.base_fields.specs.Fields.{head_length, high_byte, no_field, front}
 use Rattle.base_fields.specs.Laws.{head_at, front-few}
 use Rattle.replay_spec.specs.declared.Kind.TheVariants.{Bad}
-use Rattle.replay_spec.specs.declared.Event.{Event}
 use Rattle.replay_spec.specs.Events.{kind_of, rule, takes, event, event_of, event_at}
 
 module _ (trace : List ℕ) (at : ℕ) where

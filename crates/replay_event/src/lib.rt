@@ -1,4 +1,6 @@
 // The event at a place of a trace (order W11). The promises cite replay_spec/specs/Events.antt; what a field is stands in base_fields.
+#![tactic(auto)]
+
 ghost use Rattle.std.specs.Prelude.{◌≡◌, ◌+◌, ◌*◌, length};
 ghost use Rattle.base_fields.specs.Fields.{high_byte};
 ghost use Rattle.replay_spec.specs.declared.Kind.TheVariants.{Bad};

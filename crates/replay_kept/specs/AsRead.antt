@@ -9,11 +9,12 @@ use Rattle.read_spec.specs.Ceiling.{all_work}
 use Rattle.read_call.specs.declared.Asked.{Asked}
 use Rattle.read_call.specs.Answers.{longest_stream}
 use Rattle.demand_reading.specs.Promises.{Seen, Run}
-use Rattle.demand_reading.specs.GivenWritten.{told-sized}
+use Rattle.demand_reading.proofs.GivenWritten.{told-sized}
 use Rattle.replay_spec.specs.Press.{Met}
 use Rattle.replay_request.specs.declared.Reached.{Reached}
 use Rattle.replay_request.specs.Requests.{reached_of, requested}
-use Rattle.replay_reading.specs.Requests.{Until, request-as-read}
+use Rattle.replay_reading.specs.Requests.{Until}
+use Rattle.replay_reading.proofs.Requests.{request-as-read}
 use Rattle.replay_kept.specs.Promises.{Requests}
 
 pub call-as-read : (key font : List ℕ) (asked : Asked) (z : Sizes (told key font asked.layout)) → all_work ≤ asked.allowed

@@ -3,8 +3,6 @@ pub mod FromContracts
 pub mod Bytes
 pub mod AsRead
 pub mod Stepping
-pub mod Refused
-pub mod Received
 pub mod Differs
-pub mod Shown
-pub mod InOrder
+pub mod Received
+pub mod Refused

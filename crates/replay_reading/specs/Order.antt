@@ -9,7 +9,8 @@ use Rattle.std.proofs.Math.Seq.{take-append_seam}
 use Rattle.read_stretch.specs.Stretches.{next_span, next_stretch}
 use Rattle.read_spec.specs.Judged.{Judged}
 use Rattle.read_readings.specs.Readings.{Reading, reading, ends, readings, readings-step}
-use Rattle.read_readings.specs.Growing.{last_closing, grown}
+use Rattle.read_readings.specs.Growing.{last_closing}
+use Rattle.read_readings.proofs.Growing.{grown}
 use Rattle.read_call.specs.Answers.{longest_stream}
 use Rattle.replay_spec.specs.declared.Kind.{Kind}
 use Rattle.replay_spec.specs.declared.Kind.TheVariants.{Received, Asked, Printed, Bad}

@@ -6,24 +6,22 @@ use Prim.Native.Nat.{ℕ, ◌≤◌, ◌<◌}
 use native.Mathlib.Omega.{arith}
 use lib.ListN.{length, length-replicate}
 use borrow.Author.Tests.{eqb-false}
-use Rattle.base_lists.specs.Buffers.{over}
 use Rattle.line_spec.specs.Lines.{longest}
 use Rattle.read_stretch.specs.declared.Span.{Span}
-use Rattle.read_stretch.specs.Stretches.{span, next_span, next_stretch}
+use Rattle.read_stretch.specs.Stretches.{next_span, next_stretch}
 use Rattle.read_stretch.specs.Places as places
-use Rattle.read_stretch.specs.Places.{next-found}
+use Rattle.read_stretch.proofs.Places.{next-found}
 use Rattle.frame_spec.specs.Told.{Told}
 use Rattle.read_spec.specs.Judged.{Judged, shape, stuffing, font, work, seal, unlisted, trade, layout, line}
 use Rattle.read_readings.specs.Readings.{ends}
 use Rattle.read_call.specs.declared.Answer.TheVariants as answer-is
-use Rattle.read_call.specs.Answers.{END, LINE, STRETCH-REFUSED, longest_stream, sized_told, Found, call, stretch, judged_within, found, reading_of, buffer}
-use Rattle.demand_reading.specs.Resync.{sized}
-use Rattle.replay_spec.specs.Press.{Given, nothing, gives, given_by, Met, met, or_else, first_line, request}
-use Rattle.replay_spec.specs.Requesting.{request-step}
+use Rattle.read_call.specs.Answers.{END, LINE, STRETCH-REFUSED, longest_stream, sized_told, Found, call, stretch, found, reading_of, buffer}
+use Rattle.demand_reading.proofs.Resync.{sized}
+use Rattle.replay_spec.specs.Press.{nothing, given_by, Met, met, or_else, request}
+use Rattle.replay_spec.proofs.Requesting.{request-step}
 use Rattle.replay_spec.specs.Answers.{all_asked, judging, zeros}
 use Rattle.replay_request.specs.declared.Look.{Look}
-use Rattle.replay_request.specs.declared.Reached.{Reached}
-use Rattle.replay_request.specs.Requests.{look_of, looked, reached, reached_of}
+use Rattle.replay_request.specs.Requests.{look_of, looked, reached_of}
 
 module _ (t : Told) (ed : ℕ) (s : List ℕ) (z : sized_told t ≡ true) (h : length s ≤ longest_stream) where
   abbrev Asks : ℕ → Met

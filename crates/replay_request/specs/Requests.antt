@@ -3,7 +3,7 @@ use Rattle.std.specs.Prelude.{true, false, not, cond, List, ℕ, ltb, length}
 use Rattle.base_lists.specs.Buffers.{over}
 use Rattle.frame_spec.specs.Told.{Told}
 use Rattle.read_call.specs.declared.Reading.{Reading}
-use Rattle.read_call.specs.Answers.{longest_stream, sized_told, Found, found, reading_of, buffer, read_answer, read_out, length_of, outcome_of}
+use Rattle.read_call.specs.Answers.{longest_stream, sized_told, read_answer, read_out, length_of, outcome_of}
 use Rattle.replay_spec.specs.Press.{Given, nothing, gives, Met, met, request}
 use Rattle.replay_spec.specs.Answers.{all_asked, judging, zeros}
 use Rattle.replay_request.specs.declared.Reached.{Reached}

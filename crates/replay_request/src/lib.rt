@@ -1,5 +1,7 @@
 // A request (order W11): read calls from a place of the stream received so far, each from where the one before closed, over refused stretches to the
 // first line. The promises cite specs/Requests.antt and replay_spec/specs/Press.antt.
+#![tactic(auto)]
+
 ghost use Rattle.std.specs.Prelude.{◌≡◌, true, ◌≤◌, length};
 ghost use Rattle.frame_spec.specs.Told.{told};
 ghost use Rattle.read_call.specs.Answers.{longest_stream, sized_told};
@@ -14,7 +16,7 @@ use read_call::{ALL_WORK, Asked, LONGEST_STREAM, read};
 use read_numbers::{LINE, numbers};
 
 // What a request comes to: whether a line is given, the place where its reading ended, and the line's length and bytes, with zeros behind them.
-#[derive(Drop)]
+#[derive(Clone, Copy)]
 pub struct Reached {
     pub found: bool,
     pub place: usize,
@@ -24,7 +26,7 @@ pub struct Reached {
 
 // What one read call tells: the places of the next stretch, which are one where there is none; which of its outcomes it is, and the line where one is
 // given.
-#[derive(Drop)]
+#[derive(Clone, Copy)]
 struct Look {
     first: usize,
     closing: usize,

@@ -3,4 +3,3 @@ pub mod Press
 pub mod Answers
 pub mod Runs
 pub mod Refusals
-pub mod Requesting

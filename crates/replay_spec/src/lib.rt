@@ -1,9 +1,11 @@
 // Replay of a press trace (order W11) by definition: the events of a trace, what each does to the press, and what the calls answer and leave.
 // There is no code; an event is found in the crate replay_event, a request is made in replay_request, the calls are in replay_call.
+#![tactic(auto)]
+
 use frame_body::LONGEST_LINE;
 
 // What an event of a trace is, by its tag: stream bytes received, a line asked for, a line printed; or no event at all.
-#[derive(Drop)]
+#[derive(Clone, Copy)]
 pub enum Kind {
     Received,
     Asked,
@@ -12,7 +14,7 @@ pub enum Kind {
 }
 
 // An event, and where its bytes stand in the trace: from start on, up to end, where the next event begins. A bad one has all that is left.
-#[derive(Drop)]
+#[derive(Clone, Copy)]
 pub struct Event {
     pub kind: Kind,
     pub start: usize,
@@ -20,7 +22,7 @@ pub struct Event {
 }
 
 // What a replay comes to.
-#[derive(Drop)]
+#[derive(Clone, Copy)]
 pub enum Answer {
     Done,
     // Key or font digest not of its size.
@@ -37,7 +39,7 @@ pub enum Answer {
 
 // What `replay` answers: the event at fault, or where there is none the first that differs, 0 where none does; and how many bytes of the stream the
 // buffer holds.
-#[derive(Drop)]
+#[derive(Clone, Copy)]
 pub struct Replayed {
     pub answer: Answer,
     pub event: usize,
@@ -46,7 +48,7 @@ pub struct Replayed {
 
 // What `stood` answers: the line given, its length and its bytes with zeros behind them, and where in the trace the printed bytes stand and how many
 // they are; all zero where no print stood there. And how many bytes of the stream the buffer holds.
-#[derive(Drop)]
+#[derive(Clone, Copy)]
 pub struct Stood {
     pub answer: Answer,
     pub length: usize,

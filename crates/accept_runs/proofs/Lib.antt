@@ -1,0 +1,3 @@
+pub mod Runs
+pub mod YesExactly
+pub mod FirstFault

@@ -1,0 +1,4 @@
+pub mod Added
+pub mod Fresh
+pub mod Growing
+pub mod Lines

@@ -1,0 +1,4 @@
+pub mod Moments
+pub mod Whole
+pub mod AsRead
+pub mod Runs

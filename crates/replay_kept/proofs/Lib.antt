@@ -1,0 +1,5 @@
+pub mod InOrder
+pub mod Shown
+pub mod Differs
+pub mod Received
+pub mod Refused

@@ -1,0 +1,4 @@
+pub mod Given
+pub mod Requests
+pub mod Resync
+pub mod Written
