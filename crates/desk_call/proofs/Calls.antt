@@ -1,6 +1,6 @@
 -- One law for each return of `fill`, `choose` and `desk`: what is known there gives the definition's answer and output. Assumes nothing.
 use mathlib.Core.Path.{◌≡◌, refl, sym, ap, subst, ◌∙◌}
-use mathlib.Core.Bool.{Bool, true, false, not, cond}
+use mathlib.Core.Bool.{Bool, true, false}
 use mathlib.Core.List.{List}
 use Prim.Native.Nat.{ℕ, ◌+◌, ◌≤◌, ◌<◌}
 use native.Mathlib.Omega.{arith}
@@ -18,7 +18,6 @@ use Rattle.index_spec.specs.Cases.{Takes, sized-told, told-sized}
 use Rattle.desk_spec.specs.declared.Answer.{Answer}
 use Rattle.desk_spec.specs.declared.Answer.TheVariants as answer-is
 use Rattle.desk_spec.specs.Desk.{new_stream, fault_from, fitting, out_of, desk_answer, desk_call, desk_out}
-use Rattle.desk_call.specs.declared.Items.{Items}
 use Rattle.desk_call.specs.declared.Items.TheVariants.{Good, Past, NoLine}
 use Rattle.desk_call.specs.Steps.{items_from, frames_at, Starts, Measured}
 use Rattle.desk_call.proofs.Judging.{Whole, says}

@@ -6,14 +6,14 @@ use mathlib.Core.List.{List, [], ◌∷◌, ◌++◌, append_assoc}
 use Prim.Native.Nat.{ℕ, ◌+◌, ◌-◌, ◌≤◌, ◌<◌}
 use native.Mathlib.Omega.{arith}
 use lib.Dec.{eqb, ltb}
-use lib.ListN.{length, get_or, take, drop, length-append, length-take, length-drop, drop_of_length-le}
-use borrow.Author.Tests.{ltb-true, ltb-false, lt-ltb, le-ltb, eqb-false, eq-eqb, ne_eqb}
+use lib.ListN.{length, get_or, drop, length-append, length-take, length-drop, drop_of_length-le}
+use borrow.Author.Tests.{ltb-true, lt-ltb, le-ltb, eqb-false, eq-eqb, ne_eqb}
 use Rattle.base_lists.specs.Walk.{at}
 use Rattle.frame_stuff_spec.specs.Stuffing.{mark}
 use Rattle.read_stretch.specs.declared.Span.{Span}
-use Rattle.read_stretch.specs.Stretches.{span, bytes_at, next_span}
+use Rattle.read_stretch.specs.Stretches.{span, bytes_at}
 use Rattle.read_stretch.specs.Meaning.{Stretch}
-use Rattle.read_stretch.specs.Places.{stretch-next}
+use Rattle.read_stretch.proofs.Places.{stretch-next}
 use Rattle.frame_spec.specs.Told.{Told}
 use Rattle.read_call.specs.Answers.{longest_stream}
 use Rattle.index_spec.specs.Cases.{Takes}
@@ -23,7 +23,7 @@ use Rattle.desk_spec.specs.Desk.{place_of, closing_of, chosen, new_stream, fault
 use Rattle.desk_spec.specs.Chosen.{LineAt, closing-line}
 use Rattle.desk_call.specs.declared.Items.{Items}
 use Rattle.desk_call.specs.declared.Items.TheVariants.{Good, Past, NoLine}
-use Rattle.desk_call.specs.Steps.{lengthened, items_from, closing_at, frame_at, frames_at, Start, Starts, Measured}
+use Rattle.desk_call.specs.Steps.{lengthened, items_from, closing_at, frame_at, frames_at, Starts, Measured}
 
 -- so many items are judged, and none of them is at fault
 pub record Going (t : Told) (editions : ℕ) (s table : List ℕ) (count : ℕ) (list : List ℕ) (total j : ℕ) : Type 0 where

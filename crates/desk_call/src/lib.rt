@@ -1,5 +1,7 @@
 // The rework desk's call (order W14): every item of the list is judged before a byte is written; then the chosen frames are copied, each with marks
 // of its own. The promises cite desk_spec/specs/Desk.antt; the steps between stand in specs/Steps.antt.
+#![tactic(auto)]
+
 ghost use Rattle.std.specs.Prelude.{◌≡◌, ◌+◌, ◌≤◌, ◌<◌, length};
 ghost use Rattle.std.proofs.lemmas.List.Edits.{sets};
 ghost use Rattle.base_lists.specs.Buffers.{over};
@@ -23,7 +25,7 @@ use read_call::LONGEST_STREAM;
 use read_stretch::next_span;
 
 // What the items of a list come to.
-#[derive(Drop)]
+#[derive(Clone, Copy)]
 enum Items {
     // Each chooses a line; the new stream's length, or some length over the longest.
     Good(usize),
@@ -34,7 +36,7 @@ enum Items {
 }
 
 // What the desk reports: the papers' number, the new stream's length, and the item at fault.
-#[derive(Drop)]
+#[derive(Clone, Copy)]
 pub struct Report {
     pub number: u32,
     pub length: usize,

@@ -1,5 +1,7 @@
 // Reading a stream anew where an entry says that a stretch starts (order W14): the table's number is not looked at. The promises cite
 // desk_spec/specs/Desk.antt.
+#![tactic(auto)]
+
 ghost use Rattle.std.specs.Prelude.{◌≡◌};
 ghost use Rattle.frame_spec.specs.Told.{told};
 ghost use Rattle.desk_spec.specs.Desk.{closing_of};

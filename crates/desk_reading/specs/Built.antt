@@ -1,11 +1,11 @@
 -- `built-fault` (order W14): with a table that W10 built from this very stream under the same key, font, editions and layout, an item below the count is
 -- at fault exactly if its entry's number is not 0. From the promises of `update` and `desk` alone. Assumes nothing.
-use Rattle.std.specs.Prelude.{◌≡◌, refl, List, [], ◌∷◌, map, ℕ, zero, suc, ◌+◌, ◌≤◌, ◌<◌, length, get_or, take}
+use Rattle.std.specs.Prelude.{◌≡◌, List, [], ◌∷◌, map, ℕ, zero, suc, ◌<◌, length, get_or}
 use Rattle.std.proofs.Common.{sym, ap, subst, ◌∙◌, not-suc-le-zero, le_of_suc-le-suc, arith, get_or-take}
 use Rattle.line_layout.specs.declared.Layout.{Layout}
 use Rattle.read_stretch.specs.Stretches.{span, bytes_at}
 use Rattle.read_stretch.specs.Meaning.{Stretch}
-use Rattle.read_stretch.specs.Places.{stretch-closing}
+use Rattle.read_stretch.proofs.Places.{stretch-closing}
 use Rattle.frame_spec.specs.Told.{Told, told}
 use Rattle.read_spec.specs.Judged.{Judged, number_in}
 use Rattle.read_readings.specs.Readings.{Reading, readings}
@@ -13,9 +13,8 @@ use Rattle.index_spec.specs.Entries.{entry_place, entry_number, recorded}
 use Rattle.index_spec.specs.Recorded.{recorded-place, recorded-number}
 use Rattle.index_spec.specs.Updating.{judged_all}
 use Rattle.index_reading.specs.Promises.{Built}
-use Rattle.index_reading.specs.Growing.{Current, built-current}
+use Rattle.index_reading.proofs.Growing.{built-current}
 use Rattle.desk_spec.specs.Desk.{place_of}
-use Rattle.desk_spec.specs.Chosen.{LineAt}
 use Rattle.desk_reading.specs.Promises.{ItemLine}
 use Rattle.desk_reading.specs.Lines.{Right, AllRight, all_right, line_at}
 

@@ -14,7 +14,7 @@ use Rattle.index_spec.specs.Entries.{most_entries}
 use Rattle.index_spec.specs.Cases.{Takes, sized-told, told-sized}
 use Rattle.desk_spec.specs.declared.Answer.{Answer}
 use Rattle.desk_spec.specs.declared.Answer.TheVariants as answer-is
-use Rattle.desk_spec.specs.Desk.{place_of, closing_of, new_stream, fault_from, fitting, desk_answer, desk_number, item_of}
+use Rattle.desk_spec.specs.Desk.{place_of, closing_of, new_stream, fault_from, fitting, desk_answer, desk_number}
 use Rattle.desk_spec.specs.Chosen.{LineAt, closing-line, line-closing}
 use Rattle.desk_reading.specs.Promises.{Desks, Done, ItemLine, AllLines}
 

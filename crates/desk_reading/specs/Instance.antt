@@ -1,22 +1,21 @@
 -- That the desk's theorems are not empty: over the stream of W13's instance, with a table whose one entry names the place of its first frame, the desk is
 -- done with that frame asked for. Assumes nothing.
-use Rattle.std.specs.Prelude.{◌≡◌, refl, List, [], ◌∷◌, ℕ, ◌+◌, ◌-◌, ◌≤◌, length, replicate}
-use Rattle.std.proofs.Common.{◌∙◌, arith, length-append}
+use Rattle.std.specs.Prelude.{◌≡◌, refl, List, [], ◌∷◌, ℕ, ◌≤◌, length, replicate}
+use Rattle.std.proofs.Common.{arith, length-append}
 use Rattle.std.proofs.lemmas.List.{length-replicate}
 use Rattle.frame_stuff_spec.specs.Stuffing.{mark}
 use Rattle.line_layout.specs.declared.Layout.TheVariants.{Neither}
 use Rattle.read_spec.specs.Ceiling.{all_work}
-use Rattle.read_call.specs.Answers.{longest_stream}
-use Rattle.demand_reading.specs.Whole.{whole_run}
+use Rattle.demand_reading.proofs.Whole.{whole_run}
 use Rattle.demand_joined.specs.Frames.{line_at}
-use Rattle.demand_joined.specs.Joined.{stream}
-use Rattle.demand_joined.specs.Instance.{key, font, asked, t, frame_one, pairs, sizes, pairs-within, instance-read}
+use Rattle.demand_joined.proofs.Joined.{stream}
+use Rattle.demand_joined.proofs.Instance.{key, font, asked, t, frame_one, pairs, sizes, pairs-within, instance-read}
 use Rattle.index_spec.specs.Cases.{Takes}
 use Rattle.desk_spec.specs.declared.Answer.TheVariants as answer-is
 use Rattle.desk_spec.specs.Desk.{place_of, closing_of, chosen, new_stream, desk_call}
 use Rattle.desk_spec.specs.Chosen.{LineAt, closing-line}
 use Rattle.desk_reading.specs.Promises.{ItemLine}
-use Rattle.desk_reading.specs.Done.{DoneWhen, desk-done, line-closes}
+use Rattle.desk_reading.specs.Done.{desk-done, line-closes}
 use Rattle.desk_reading.specs.Lines.{line-chosen-so}
 use Rattle.desk_reading.specs.Pieces.{stretch-long}
 

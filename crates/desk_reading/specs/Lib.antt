@@ -2,9 +2,7 @@ pub mod Promises
 pub mod Done
 pub mod Lines
 pub mod Pieces
-pub mod Reads
 pub mod FromStream
-pub mod Few
 pub mod Built
 pub mod FromContracts
 pub mod Instance

@@ -1,25 +1,26 @@
 -- `line-chosen` (order W14): where a whole run of `read` over the stream sees a line, an item whose entry names its place chooses it; with
 -- `desk-from-stream` that is exactly where. Every reading of a stream is a stretch with what it is judged to be. Assumes nothing.
-use Rattle.std.specs.Prelude.{◌≡◌, refl, true, false, ℕ, zero, suc, ◌+◌, ◌-◌, ◌≤◌, ◌<◌, length}
+use Rattle.std.specs.Prelude.{◌≡◌, refl, false, ℕ, zero, suc, ◌+◌, ◌-◌, ◌≤◌, ◌<◌, length}
 use Rattle.std.proofs.Common.{sym, ap, subst, ◌∙◌, arith, length-append, eq-eqb}
-use mathlib.Core.List.{List, [], ◌∷◌, ◌++◌, map, head-eq_of_cons-eq, tail-eq_of_cons-eq}
+use mathlib.Core.List.{List, [], ◌∷◌, ◌++◌, head-eq_of_cons-eq, tail-eq_of_cons-eq}
 use Rattle.base_lists.specs.Never.{never}
 use Rattle.base_lists.specs.Below.{Below}
 use Rattle.line_layout.specs.declared.Layout.{Layout}
-use Rattle.read_stretch.specs.Stretches.{span, bytes_at, next_span, next_stretch}
+use Rattle.read_stretch.specs.Stretches.{span, bytes_at, next_span}
 use Rattle.read_stretch.specs.Meaning.{Stretch}
-use Rattle.read_stretch.specs.Places.{Found, Next, nothing, something, next-cases, stretch-next}
+use Rattle.read_stretch.specs.Places.{Found, Next, nothing, something}
+use Rattle.read_stretch.proofs.Places.{next-cases, stretch-next}
 use Rattle.frame_body.specs.Fields.{Own}
 use Rattle.frame_spec.specs.Told.{Told, told}
 use Rattle.read_spec.specs.Judged.{Judged, shape, stuffing, font, work, seal, unlisted, trade, layout, line, number_in}
 use Rattle.read_spec.specs.Ceiling.{all_work}
-use Rattle.read_readings.specs.Readings.{Reading, reading, readings, readings-step}
-use Rattle.read_readings.specs.Joining.{found-step}
+use Rattle.read_readings.specs.Readings.{Reading, readings, readings-step}
+use Rattle.read_readings.proofs.Joining.{found-step}
 use Rattle.read_call.specs.Answers.{judged_within}
 use Rattle.demand_reading.specs.Promises.{Seen}
 use Rattle.demand_reading.specs.Whole.{WholeRun}
 use Rattle.demand_joined.specs.Bytes.{next-bytes}
-use Rattle.demand_joined.specs.Seeing.{seen_of, the_end, seen_to, run-readings}
+use Rattle.demand_joined.specs.Seeing.{seen_of, seen_to, run-readings}
 use Rattle.index_spec.specs.Updating.{judged_all}
 use Rattle.index_spec.specs.Cases.{Takes}
 use Rattle.index_reading.specs.Promises.{asking}

@@ -1,7 +1,7 @@
 -- The new stream as frames joined (order W13): each chosen stretch is a run free of marks, between marks of its own and with no filler. Assumes nothing.
-use Rattle.std.specs.Prelude.{◌≡◌, ℕ, zero, suc, ◌+◌, ◌-◌, ◌≤◌, ◌<◌, length, get_or, take, drop}
+use Rattle.std.specs.Prelude.{◌≡◌, ℕ, zero, suc, ◌+◌, ◌-◌, ◌<◌, length, get_or, drop}
 use Rattle.std.proofs.Math.Path.{refl, ap}
-use Rattle.std.proofs.Common.{sym, ap₂, subst, ◌∙◌, arith, length-take, length-drop, get_or-take, get_or-drop}
+use Rattle.std.proofs.Common.{sym, ap₂, ◌∙◌, arith, length-take, length-drop, get_or-take, get_or-drop}
 use mathlib.Core.List.{List, [], ◌∷◌, ◌++◌, map}
 use Rattle.base_lists.specs.Free.{Free}
 use Rattle.frame_stuff_spec.specs.Stuffing.{mark}
@@ -10,7 +10,7 @@ use Rattle.read_stretch.specs.Meaning.{Stretch}
 use Rattle.frame_spec.specs.Told.{Told}
 use Rattle.read_spec.specs.Judged.{Judged}
 use Rattle.read_readings.specs.Readings.{Reading, reading}
-use Rattle.read_readings.specs.Joined.{Piece, Fit, Fits, joined, filler_read, pieces_read}
+use Rattle.read_readings.specs.Joined.{Piece, joined, filler_read, pieces_read}
 use Rattle.desk_spec.specs.Desk.{chosen, new_stream}
 
 -- a list whose every element is no m

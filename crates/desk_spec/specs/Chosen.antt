@@ -1,17 +1,18 @@
 -- What the reading anew at a place comes to: it closes somewhere exactly if a stretch starts at the place that reads as a line. From what `read`
 -- promises and the laws of stretches alone. Assumes nothing.
-use Rattle.std.specs.Prelude.{◌≡◌, Bool, not, cond, List, [], ◌∷◌, ℕ, ◌-◌, ◌≤◌, ◌<◌}
+use Rattle.std.specs.Prelude.{◌≡◌, Bool, not, cond, List, ℕ, ◌-◌, ◌≤◌, ◌<◌}
 use Rattle.std.proofs.Math.Path.{refl, ap}
-use Rattle.std.proofs.Common.{sym, subst, ◌∙◌, arith}
+use Rattle.std.proofs.Common.{sym, ◌∙◌, arith}
 use Rattle.std.proofs.Math.Bool.{true, false}
 use Rattle.std.proofs.Math.Dec.{eqb, ltb}
 use Rattle.std.proofs.Math.ListN.{length}
-use borrow.Author.Tests.{eqb-true, eqb-false, eq-eqb, ne_eqb, ltb-true, ltb-false, lt-ltb, le-ltb}
+use borrow.Author.Tests.{eqb-true, eqb-false, eq-eqb, ne_eqb, ltb-false, le-ltb}
 use Rattle.line_spec.specs.Lines.{longest}
 use Rattle.read_stretch.specs.declared.Span.{Span}
-use Rattle.read_stretch.specs.Stretches.{span, bytes_at, next_span, next_stretch}
+use Rattle.read_stretch.specs.Stretches.{span, bytes_at, next_span}
 use Rattle.read_stretch.specs.Meaning.{Stretch}
-use Rattle.read_stretch.specs.Places.{Next, nothing, something, next-cases, stretch-next}
+use Rattle.read_stretch.specs.Places.{Next, nothing, something}
+use Rattle.read_stretch.proofs.Places.{next-cases, stretch-next}
 use Rattle.frame_body.specs.Fields.{Own}
 use Rattle.frame_spec.specs.Told.{Told}
 use Rattle.read_spec.specs.Judged.{Judged, shape, stuffing, font, work, seal, unlisted, trade, layout, line}
@@ -19,8 +20,8 @@ use Rattle.read_spec.specs.Sizes.{Sizes}
 use Rattle.read_call.specs.declared.Reading.{Reading}
 use Rattle.read_call.specs.declared.Answer.TheVariants as answer-is
 use Rattle.read_call.specs.Answers.{longest_stream, Found, call, stretch, found, reading_of, answer_of, LINE, outcome_of}
-use Rattle.demand_reading.specs.Resync.{sized}
-use Rattle.demand_reading.specs.GivenWritten.{told-sized, found-next}
+use Rattle.demand_reading.proofs.Resync.{sized}
+use Rattle.demand_reading.proofs.GivenWritten.{told-sized, found-next}
 use Rattle.demand_joined.specs.Bytes.{next-bytes}
 use Rattle.index_spec.specs.Updating.{all_asked, judged_all}
 use Rattle.desk_spec.specs.Desk.{anew, closing_of}

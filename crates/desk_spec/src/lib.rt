@@ -1,8 +1,9 @@
 // The rework desk (order W14) by definition: the stretch that an entry number chooses, the new stream, and what the desk answers. There is no code;
 // the call is in the crate desk_call.
+#![tactic(auto)]
 
 // What the desk answers.
-#[derive(Drop)]
+#[derive(Clone, Copy)]
 pub enum Answer {
     // The new stream's length.
     Done(usize),

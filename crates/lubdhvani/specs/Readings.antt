@@ -1,6 +1,5 @@
 -- What the C calls of the reader take and give as structs: what is told anew, the places of a stretch, and a reading with its outcome, number, places,
 -- length, count, edition and job. Assumes nothing.
-use Rattle.std.specs.Prelude.{ℕ}
 use Rattle.line_layout.specs.Layouts.{layout_of}
 use Rattle.read_stretch.specs.declared.Span as stretch
 use Rattle.read_call.specs.Answers.{answer_number, length_of, calls_of}

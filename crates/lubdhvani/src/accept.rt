@@ -13,7 +13,7 @@ use read_nonce::{Nonce, nonce_of};
 
 // What accepting a stream comes to.
 #[repr(C)]
-#[derive(Drop)]
+#[derive(Clone, Copy)]
 pub struct Accepted {
     pub number: usize,
     pub first: usize,
@@ -33,8 +33,7 @@ fn accepted_of(accepted: accept_spec::Accepted) -> Accepted
 }
 
 // Tells yes, or the first stretch at fault with its number.
-#[unsafe(no_mangle)]
-pub extern "C" fn lubdhvani_accept(
+pub fn lubdhvani_accept(
     stream: &[u8],
     key: &[u8],
     font: &[u8],
@@ -47,8 +46,7 @@ pub extern "C" fn lubdhvani_accept(
 }
 
 // The nonce of a stretch, and whether there is one.
-#[unsafe(no_mangle)]
-pub extern "C" fn lubdhvani_nonce(stretch: &[u8]) -> Nonce
+pub fn lubdhvani_nonce(stretch: &[u8]) -> Nonce
     ensures { result ≡ nonce_answer stretch.now }
 {
     nonce_of(stretch)

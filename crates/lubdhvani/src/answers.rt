@@ -4,7 +4,7 @@ ghost use Rattle.std.specs.Prelude.{◌≡◌};
 
 // A number, and the count of the calls of the permutation.
 #[repr(C)]
-#[derive(Drop)]
+#[derive(Clone, Copy)]
 pub struct Counted {
     pub number: usize,
     pub calls: usize,
@@ -12,7 +12,7 @@ pub struct Counted {
 
 // A number, and the length of what was written or found.
 #[repr(C)]
-#[derive(Drop)]
+#[derive(Clone, Copy)]
 pub struct Measured {
     pub number: usize,
     pub length: usize,

@@ -10,7 +10,7 @@ use bundle_write::Written;
 
 // Where a part of a bundle stands, and how long it is.
 #[repr(C)]
-#[derive(Drop)]
+#[derive(Clone, Copy)]
 pub struct Part {
     pub first: usize,
     pub length: usize,
@@ -47,8 +47,7 @@ fn part_of(part: bundle_write::Part) -> Part
 }
 
 // Writes the bundle of a name and rows.
-#[unsafe(no_mangle)]
-pub extern "C" fn lubdhvani_bundle_write(name: &[u8], rows: &[u8], bundle: &mut [u8]) -> Measured
+pub fn lubdhvani_bundle_write(name: &[u8], rows: &[u8], bundle: &mut [u8]) -> Measured
     ensures value { result ≡ bundled (bundles.write_answer name.now rows.now bundle.old) }
     ensures bundle_after { bundle.new ≡ bundles.write_out name.now rows.now bundle.old }
 {
@@ -56,16 +55,14 @@ pub extern "C" fn lubdhvani_bundle_write(name: &[u8], rows: &[u8], bundle: &mut 
 }
 
 // Judges bytes as a bundle.
-#[unsafe(no_mangle)]
-pub extern "C" fn lubdhvani_bundle_read(bundle: &[u8]) -> Measured
+pub fn lubdhvani_bundle_read(bundle: &[u8]) -> Measured
     ensures { result ≡ judged (judging.read_answer bundle.now) }
 {
     measured_read(bundle_read::read(bundle))
 }
 
 // The font digest of a bundle.
-#[unsafe(no_mangle)]
-pub extern "C" fn lubdhvani_bundle_digest(bundle: &[u8], out: &mut [u8]) -> u32
+pub fn lubdhvani_bundle_digest(bundle: &[u8], out: &mut [u8]) -> u32
     ensures value { result ≡ bundles.digest_number (bundles.digest_answer bundle.now out.old) }
     ensures out_after { out.new ≡ bundles.digest_out bundle.now out.old }
 {
@@ -73,16 +70,14 @@ pub extern "C" fn lubdhvani_bundle_digest(bundle: &[u8], out: &mut [u8]) -> u32
 }
 
 // Where the name of a bundle stands.
-#[unsafe(no_mangle)]
-pub extern "C" fn lubdhvani_bundle_name(bundle: &[u8]) -> Part
+pub fn lubdhvani_bundle_name(bundle: &[u8]) -> Part
     ensures { result ≡ part_out (bundles.name_part bundle.now) }
 {
     part_of(bundle_write::name_part(bundle))
 }
 
 // Where the rows of a character stand in a bundle.
-#[unsafe(no_mangle)]
-pub extern "C" fn lubdhvani_bundle_rows(bundle: &[u8], character: u8) -> Part
+pub fn lubdhvani_bundle_rows(bundle: &[u8], character: u8) -> Part
     ensures { result ≡ part_out (bundles.rows_part bundle.now character) }
 {
     part_of(bundle_write::rows_part(bundle, character))

@@ -22,8 +22,7 @@ fn measured(answer: Converted) -> Measured
 }
 
 // Seals the line of a stretch of edition two anew in edition one.
-#[unsafe(no_mangle)]
-pub extern "C" fn lubdhvani_to_one(
+pub fn lubdhvani_to_one(
     stretch: &[u8],
     key: &[u8],
     font: &[u8],
@@ -40,8 +39,7 @@ pub extern "C" fn lubdhvani_to_one(
 }
 
 // Seals the line of a stretch of edition one anew in edition two, with a job.
-#[unsafe(no_mangle)]
-pub extern "C" fn lubdhvani_to_two(
+pub fn lubdhvani_to_two(
     stretch: &[u8],
     key: &[u8],
     font: &[u8],

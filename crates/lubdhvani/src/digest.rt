@@ -17,8 +17,7 @@ fn counted(answer: Digested) -> Counted
 }
 
 // The digest of a message.
-#[unsafe(no_mangle)]
-pub extern "C" fn lubdhvani_digest(instance: usize, message: &[u8], out: &mut [u8]) -> Counted
+pub fn lubdhvani_digest(instance: usize, message: &[u8], out: &mut [u8]) -> Counted
     ensures value { result ≡ digested (digest_answer instance message.now out.old) }
     ensures out_after { out.new ≡ digest_out instance message.now out.old }
 {

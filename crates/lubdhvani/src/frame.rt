@@ -13,7 +13,7 @@ use line_layout::layout_of;
 
 // A number, the frame's length, and the count of the calls of the permutation.
 #[repr(C)]
-#[derive(Drop)]
+#[derive(Clone, Copy)]
 pub struct Framed {
     pub number: usize,
     pub length: usize,
@@ -32,8 +32,7 @@ fn framed_of(answer: Written) -> Framed
 }
 
 // Writes the frame of a line in edition one.
-#[unsafe(no_mangle)]
-pub extern "C" fn lubdhvani_write(
+pub fn lubdhvani_write(
     key: &[u8],
     nonce: &[u8],
     font: &[u8],
@@ -50,8 +49,7 @@ pub extern "C" fn lubdhvani_write(
 }
 
 // Writes the frame of a line in edition two, with its job.
-#[unsafe(no_mangle)]
-pub extern "C" fn lubdhvani_write_two(
+pub fn lubdhvani_write_two(
     key: &[u8],
     nonce: &[u8],
     font: &[u8],

@@ -17,8 +17,7 @@ fn widened(state: &[u8]) -> [u8; LARGEST]
 }
 
 // So many rounds of the permutation on a state where it stands.
-#[unsafe(no_mangle)]
-pub extern "C" fn lubdhvani_permute(state: &mut [u8], rounds: usize) -> u32
+pub fn lubdhvani_permute(state: &mut [u8], rounds: usize) -> u32
     ensures value { result ≡ permute_number (length state.old) rounds }
     ensures state_after { state.new ≡ permute_state permute state.old rounds }
 {
@@ -34,8 +33,7 @@ pub extern "C" fn lubdhvani_permute(state: &mut [u8], rounds: usize) -> u32
 }
 
 // Their inverse.
-#[unsafe(no_mangle)]
-pub extern "C" fn lubdhvani_unpermute(state: &mut [u8], rounds: usize) -> u32
+pub fn lubdhvani_unpermute(state: &mut [u8], rounds: usize) -> u32
     ensures value { result ≡ permute_number (length state.old) rounds }
     ensures state_after { state.new ≡ permute_state unpermute state.old rounds }
 {

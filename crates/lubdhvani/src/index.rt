@@ -13,7 +13,7 @@ use line_layout::layout_of;
 
 // The number, and the count of the table's entries then.
 #[repr(C)]
-#[derive(Drop)]
+#[derive(Clone, Copy)]
 pub struct Indexed {
     pub number: usize,
     pub count: usize,
@@ -21,7 +21,7 @@ pub struct Indexed {
 
 // Whether there is an entry (1) or none (0, and all else 0), its place and its number.
 #[repr(C)]
-#[derive(Drop)]
+#[derive(Clone, Copy)]
 pub struct Entry {
     pub there: usize,
     pub place: usize,
@@ -30,7 +30,7 @@ pub struct Entry {
 
 // Whether there is a line (1) or none (0, and all else 0), the index of its entry and its place.
 #[repr(C)]
-#[derive(Drop)]
+#[derive(Clone, Copy)]
 pub struct EntryLine {
     pub there: usize,
     pub index: usize,
@@ -68,8 +68,7 @@ fn line_of(line: index_entry::Line) -> EntryLine
 }
 
 // Brings a table of so many entries up to date with the stream.
-#[unsafe(no_mangle)]
-pub extern "C" fn lubdhvani_index_update(
+pub fn lubdhvani_index_update(
     stream: &[u8],
     key: &[u8],
     font: &[u8],
@@ -87,16 +86,14 @@ pub extern "C" fn lubdhvani_index_update(
 }
 
 // The entry at an index of a table of so many entries.
-#[unsafe(no_mangle)]
-pub extern "C" fn lubdhvani_index_entry(table: &[u32], count: usize, index: usize) -> Entry
+pub fn lubdhvani_index_entry(table: &[u32], count: usize, index: usize) -> Entry
     ensures { result ≡ entry_out (entry_at table.now count index) }
 {
     entry_of(index_entry::entry_at(table, count, index))
 }
 
 // The entry of the k-th line of a table of so many entries.
-#[unsafe(no_mangle)]
-pub extern "C" fn lubdhvani_index_line(table: &[u32], count: usize, k: usize) -> EntryLine
+pub fn lubdhvani_index_line(table: &[u32], count: usize, k: usize) -> EntryLine
     ensures { result ≡ line_out (line_at table.now count k) }
 {
     line_of(index_entry::line_at(table, count, k))

@@ -28,8 +28,7 @@ fn counted_open(answer: Opened) -> Counted
 }
 
 // Seals a message at an instance.
-#[unsafe(no_mangle)]
-pub extern "C" fn lubdhvani_seal(
+pub fn lubdhvani_seal(
     instance: usize,
     key: &[u8],
     nonce: &[u8],
@@ -49,8 +48,7 @@ pub extern "C" fn lubdhvani_seal(
 }
 
 // Opens a ciphertext at an instance.
-#[unsafe(no_mangle)]
-pub extern "C" fn lubdhvani_open(
+pub fn lubdhvani_open(
     instance: usize,
     key: &[u8],
     nonce: &[u8],

@@ -1,6 +1,9 @@
-// The C interface: each proved call under its C name, thin, one module for each wing of the library. include/lubdhvani.h is its manual; numbers are
-// document 01's. A call that answers more than a number returns a struct by value whose fields are all of one size, so that it has no padding.
-// The promises cite specs/Answers.antt for those structs, and for what stands in them the definitions of the calls below.
+// The calls of the C interface: each proved call under its C name, thin, one module for each wing of the library. include/lubdhvani.h is its manual;
+// numbers are document 01's. A call that answers more than a number returns a struct by value whose fields are all of one size, so that it has no padding.
+// The static library that C links is the crate lubdhvani_c, which exports these calls. The promises cite specs/Answers.antt for those structs, and for
+// what stands in them the definitions of the calls below.
+#![tactic(auto)]
+
 ghost use Rattle.std.specs.Prelude.{◌≡◌};
 
 pub mod accept;
@@ -22,8 +25,7 @@ pub mod walk;
 pub const VERSION: u32 = 20000;
 
 // The version of the library that is linked.
-#[unsafe(no_mangle)]
-pub extern "C" fn lubdhvani_version() -> u32
+pub fn lubdhvani_version() -> u32
     ensures { result ≡ 20000 }
 {
     VERSION

@@ -12,15 +12,14 @@ use read_numbers::numbers;
 
 // The places of a stretch's first byte and of its closing mark.
 #[repr(C)]
-#[derive(Drop)]
+#[derive(Clone, Copy)]
 pub struct Span {
     pub first: usize,
     pub closing: usize,
 }
 
 // The places of the next stretch.
-#[unsafe(no_mangle)]
-pub extern "C" fn lubdhvani_next_stretch(stream: &[u8], from: usize) -> Span
+pub fn lubdhvani_next_stretch(stream: &[u8], from: usize) -> Span
     ensures { result ≡ span_out (next_span stream.now from) }
 {
     let span = read_stretch::next_span(stream, from);
@@ -32,7 +31,7 @@ pub extern "C" fn lubdhvani_next_stretch(stream: &[u8], from: usize) -> Span
 
 // What a reader is told anew at each call.
 #[repr(C)]
-#[derive(Drop)]
+#[derive(Clone, Copy)]
 pub struct Asked {
     pub editions: usize,
     pub allowed: usize,
@@ -41,7 +40,7 @@ pub struct Asked {
 
 // What a reading comes to.
 #[repr(C)]
-#[derive(Drop)]
+#[derive(Clone, Copy)]
 pub struct Reading {
     pub outcome: usize,
     pub number: usize,
@@ -83,8 +82,7 @@ fn told_anew(asked: Asked) -> read_call::Asked
 }
 
 // Judges the next stretch from a place, and gives out its line.
-#[unsafe(no_mangle)]
-pub extern "C" fn lubdhvani_read(
+pub fn lubdhvani_read(
     stream: &[u8],
     from: usize,
     key: &[u8],

@@ -13,7 +13,7 @@ use replay_call::{replay, replay_number, stood};
 // What a replay comes to: the event at fault, or where there is none the first that differs, 0 where none does; and how many bytes of the stream the
 // buffer holds.
 #[repr(C)]
-#[derive(Drop)]
+#[derive(Clone, Copy)]
 pub struct Replayed {
     pub number: usize,
     pub event: usize,
@@ -25,7 +25,7 @@ const BEHIND_LINE: usize = 7;
 
 // What stood at an event: the line given, where the printed bytes stand in the trace and how many they are. The zeros behind the line leave no padding.
 #[repr(C)]
-#[derive(Drop)]
+#[derive(Clone, Copy)]
 pub struct Stood {
     pub number: usize,
     pub length: usize,
@@ -66,8 +66,7 @@ fn stood_of(found: replay_spec::Stood) -> Stood
 }
 
 // Runs a trace from an empty stream, gathered in the buffer: the first event at fault with its number, else the first whose printed bytes differ.
-#[unsafe(no_mangle)]
-pub extern "C" fn lubdhvani_replay(
+pub fn lubdhvani_replay(
     trace: &[u8],
     key: &[u8],
     font: &[u8],
@@ -84,8 +83,7 @@ pub extern "C" fn lubdhvani_replay(
 }
 
 // The line that was given when an event of a trace printed, and where the printed bytes stand.
-#[unsafe(no_mangle)]
-pub extern "C" fn lubdhvani_stood(
+pub fn lubdhvani_stood(
     trace: &[u8],
     event: usize,
     key: &[u8],

@@ -8,8 +8,7 @@ use running_spec::{Finished, Record};
 use running_steps::{feed_number, finish_count, finish_number, start_number};
 
 // Starts a running digest on a record lent.
-#[unsafe(no_mangle)]
-pub extern "C" fn lubdhvani_start(running: &mut Record, instance: usize) -> u32
+pub fn lubdhvani_start(running: &mut Record, instance: usize) -> u32
     ensures { (result ≡ start_number (start_answer instance)) × (running.new ≡ start_record running.old instance) }
 {
     let answer = running_call::start(running, instance);
@@ -17,8 +16,7 @@ pub extern "C" fn lubdhvani_start(running: &mut Record, instance: usize) -> u32
 }
 
 // Feeds it.
-#[unsafe(no_mangle)]
-pub extern "C" fn lubdhvani_feed(running: &mut Record, bytes: &[u8]) -> u32
+pub fn lubdhvani_feed(running: &mut Record, bytes: &[u8]) -> u32
     ensures { (result ≡ feed_number (feed_answer running.old bytes.now)) ×
         (running.new ≡ feed_record running.old bytes.now) }
 {
@@ -37,8 +35,7 @@ fn counted(answer: Finished) -> Counted
 }
 
 // Finishes it.
-#[unsafe(no_mangle)]
-pub extern "C" fn lubdhvani_finish(running: &mut Record, out: &mut [u8]) -> Counted
+pub fn lubdhvani_finish(running: &mut Record, out: &mut [u8]) -> Counted
     ensures { (result ≡ finished (finish_answer running.old out.old)) ×
         (running.new ≡ finish_record running.old out.old) ×
         (out.new ≡ finish_out running.old out.old) }

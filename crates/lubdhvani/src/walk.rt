@@ -18,7 +18,7 @@ pub struct Walker<'a> {
 }
 
 // What one step comes to: the reading, and the place where the walker then stands.
-#[derive(Drop)]
+#[derive(Clone, Copy)]
 pub struct Step {
     pub reading: Reading,
     pub at: usize,
@@ -46,8 +46,7 @@ fn one_step(
 }
 
 // What the read call answers from the place reached, with the same line buffer; the walker goes to where that reading ends.
-#[unsafe(no_mangle)]
-pub extern "C" fn lubdhvani_next<'s, 'a, 'b, 'c, 'd>(
+pub fn lubdhvani_next<'s, 'a, 'b, 'c, 'd>(
     walker: &'s mut Walker<'a>,
     key: &'b [u8],
     font: &'c [u8],

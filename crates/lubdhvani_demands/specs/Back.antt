@@ -14,7 +14,7 @@ use Rattle.frame_write.specs.declared.Written.TheVariants as written_is
 use Rattle.convert_spec.specs.declared.Converted.TheVariants as converted-is
 use Rattle.convert_spec.specs.Answers.{convert_call}
 use Rattle.demand_reading.specs.Written.{marked}
-use Rattle.demand_reading.specs.GivenWritten.{wrote}
+use Rattle.demand_reading.proofs.GivenWritten.{wrote}
 use Rattle.frame_spec.specs.OneToOne.{between}
 use Rattle.convert_call.specs.Back.{convert-back}
 use Rattle.lubdhvani.specs.Answers.{converted}

@@ -53,7 +53,7 @@ module _ {M : Type 1} {𝓤 : Ura M} (𝓛 : Logic 𝓤) where
       (λ a. split ! $ at_once ! $ check ! (bytes_of x.now a) $
       fsplit ! $ feq_i ! (List Val) vs (v ∷ []) e $ fjoin ! $ fjoin ! $ done !)))
 
-  -- of a call whose first parameter is a `&[u8]`, and of one whose first is a `&mut [u8]`, whatever the others are
+  -- of a call whose first parameter is a `&[u8]`, whatever the others are
   module _ (κ : Lft) (q : Share) (others : Item 𝓤) (Ts : List RattleType) (x : Bor (List ℕ)) (y : Denots Ts) (vs : List Val) (ws : Valss Ts) where
     first-bytes : ent 𝓤 (⋆ 𝓛 ((‵ (flft κ q) ⊛ others) ∷ ‵ (owns (ShrSlice (named 0) κ u8 ∷ Ts) (x, y) (vs, ws)) ∷ []))
         (H.⇛ (guard 𝓤 (Below 256 x.now) (⋆ 𝓛 ((‵ (flft κ q) ⊛ others) ∷ ‵ (owns (ShrSlice (named 0) κ u8 ∷ Ts) (x, y) (vs, ws)) ∷ []))))
@@ -65,6 +65,8 @@ module _ {M : Type 1} {𝓤 : Ura M} (𝓛 : Logic 𝓤) where
         $ learn ! (λ b.
         split ! $ at_once ! $ check ! b $ move ! (0 ∷ 2 ∷ []) $ fjoin ! $ move ! (1 ∷ 2 ∷ []) $ join ! $ done !))
 
+  -- and of one whose first is a `&mut [u8]`
+  module _ (κ : Lft) (q : Share) (others : Item 𝓤) (Ts : List RattleType) (x : MutBor (List ℕ)) (y : Denots Ts) (vs : List Val) (ws : Valss Ts) where
     first-mut-bytes : ent 𝓤 (⋆ 𝓛 ((‵ (flft κ q) ⊛ others) ∷ ‵ (owns (MutSlice (named 0) κ u8 ∷ Ts) (x, y) (vs, ws)) ∷ []))
         (H.⇛ (guard 𝓤 (Below 256 x.now) (⋆ 𝓛 ((‵ (flft κ q) ⊛ others) ∷ ‵ (owns (MutSlice (named 0) κ u8 ∷ Ts) (x, y) (vs, ws)) ∷ []))))
     first-mut-bytes =

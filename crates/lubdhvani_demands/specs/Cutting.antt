@@ -9,7 +9,8 @@ use Rattle.digest_call.specs.declared.Digested.TheVariants as digested-is
 use Rattle.digest_call.specs.Answers.{LONGEST-MESSAGE, digest_answer, digest_out}
 use Rattle.running_spec.specs.Running.{start_number, start_answer, feed_number, feed_answer, finish_answer}
 use Rattle.running_spec.specs.Cutting as cutting
-use Rattle.running_spec.specs.Cutting.{joined, all_done, any-cutting}
+use Rattle.running_spec.specs.Cutting.{joined, all_done}
+use Rattle.running_spec.proofs.Cutting.{any-cutting}
 use Rattle.running_spec.specs.declared.Record.{Record}
 use Rattle.running_spec.specs.declared.Started.{Started}
 use Rattle.running_spec.specs.declared.Started.TheVariants as started-is

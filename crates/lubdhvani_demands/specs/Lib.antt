@@ -5,6 +5,5 @@ pub mod Cipher
 pub mod Cutting
 pub mod Bundles
 pub mod Written
-pub mod Reading
 pub mod Back
 pub mod Bytes

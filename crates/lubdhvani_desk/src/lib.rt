@@ -1,5 +1,8 @@
-// The rework desk's C interface (order W14), a second product beside the library's: the proved call under its C name. include/lubdhvani_desk.h is its
-// manual. The promises cite specs/Reworking.antt for the struct, and for what stands in it desk_spec's definitions.
+// The call of the rework desk's C interface (order W14), a second product beside the library's: the proved call under its C name. include/lubdhvani_desk.h
+// is its manual; the static library that C links is the crate lubdhvani_desk_c, which exports it. The promises cite specs/Reworking.antt for the struct,
+// and for what stands in it desk_spec's definitions.
+#![tactic(auto)]
+
 ghost use Rattle.std.specs.Prelude.{◌≡◌};
 ghost use Rattle.line_layout.specs.Layouts.{layout_of};
 ghost use Rattle.frame_spec.specs.Told.{told};
@@ -11,7 +14,7 @@ use line_layout::layout_of;
 
 // The number, the new stream's length, and the item of the list at fault. Every field has the size of a number of the machine: there is no padding.
 #[repr(C)]
-#[derive(Drop)]
+#[derive(Clone, Copy)]
 pub struct Reworked {
     pub number: usize,
     pub length: usize,
@@ -30,8 +33,7 @@ fn reworked_of(report: Report) -> Reworked
 }
 
 // Writes a new stream with the frames that the list names, by entry numbers of the table from 0 on, in the asked order.
-#[unsafe(no_mangle)]
-pub extern "C" fn lubdhvani_desk_copy(
+pub fn lubdhvani_desk_copy(
     stream: &[u8],
     key: &[u8],
     font: &[u8],

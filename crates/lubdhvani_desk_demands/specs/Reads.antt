@@ -17,12 +17,12 @@ use Rattle.demand_joined.specs.Seeing.{the_end}
 use Rattle.lubdhvani.specs.Readings.{asked_of}
 use Rattle.lubdhvani.specs.declared.read.Asked.{Asked}
 use Rattle.lubdhvani_demands.specs.Promises.{Run}
-use Rattle.lubdhvani_demands.specs.Reading.{c-run}
+use Rattle.lubdhvani_demands.proofs.Reading.{c-run}
 use Rattle.desk_spec.specs.declared.Answer.{Answer}
 use Rattle.desk_spec.specs.Desk.{desk_call, desk_number, length_of}
 use Rattle.desk_reading.specs.Promises.{given_seen, moved_all}
-use Rattle.desk_reading.specs.Reads.{desk-reads}
-use Rattle.desk_reading.specs.FromStream.{AllFrom, desk-from-stream}
+use Rattle.desk_reading.proofs.ReadsLaws.{desk-reads}
+use Rattle.desk_reading.proofs.FromStream.{AllFrom, desk-from-stream}
 use Rattle.lubdhvani_desk.specs.declared.Reworked.{Reworked}
 use Rattle.lubdhvani_desk_demands.specs.Promises.{Copies}
 

@@ -13,7 +13,7 @@ use Rattle.read_spec.specs.Ceiling.{all_work}
 use Rattle.read_call.specs.Answers.{read_answer}
 use Rattle.index_spec.specs.Entries.{entry_place, entry_number}
 use Rattle.index_spec.specs.Updating.{last_place, updated}
-use Rattle.index_reading.specs.Added as below
+use Rattle.index_reading.proofs.Added as below
 use Rattle.lubdhvani.specs.Readings.{asked_of}
 use Rattle.lubdhvani.specs.declared.index.Indexed.{Indexed}
 use Rattle.lubdhvani.specs.declared.read.Asked.{Asked}

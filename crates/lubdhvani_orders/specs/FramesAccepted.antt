@@ -15,7 +15,7 @@ use Rattle.read_spec.specs.Editions.{allows}
 use Rattle.read_call.specs.Answers.{longest_stream}
 use Rattle.demand_joined.specs.Makes.{Makes, done-makes}
 use Rattle.demand_joined.specs.Frames as inner
-use Rattle.demand_joined.specs.Lines.{frames_of}
+use Rattle.demand_joined.proofs.Lines.{frames_of}
 use Rattle.accept_spec.specs.Nonces.{AllDiffer}
 use Rattle.accept_spec.specs.Accepting.{most_stretches, accept_answer}
 use Rattle.accept_runs.specs.FramesAccepted.{frame_nonces, frames-accepted}

@@ -8,7 +8,7 @@ use Rattle.line_layout.specs.Layouts.{layout_of}
 use Rattle.frame_spec.specs.Told.{told}
 use Rattle.read_spec.specs.Ceiling.{all_work}
 use Rattle.index_spec.specs.Updating.{updated}
-use Rattle.index_reading.specs.Fresh.{AsRead, fresh-as-read}
+use Rattle.index_reading.proofs.Fresh.{AsRead, fresh-as-read}
 use Rattle.lubdhvani.specs.declared.index.Indexed.{Indexed}
 use Rattle.lubdhvani.specs.declared.read.Asked.{Asked}
 use Rattle.lubdhvani_orders.specs.Promises.{Updates, WholeRun}

@@ -8,7 +8,7 @@ use Rattle.frame_spec.specs.Told.{Told, told}
 use Rattle.index_spec.specs.Entries.{most_entries}
 use Rattle.index_spec.specs.Updating.{updated}
 use Rattle.index_reading.specs.Promises as below
-use Rattle.index_reading.specs.Growing.{updated-as-fresh, update-again}
+use Rattle.index_reading.proofs.Growing.{updated-as-fresh, update-again}
 use Rattle.lubdhvani.specs.Index.{updated_out}
 use Rattle.lubdhvani.specs.declared.index.Indexed.{Indexed}
 use Rattle.lubdhvani_orders.specs.Promises.{Updates, Built, fresh, grown}

@@ -20,9 +20,9 @@ use Rattle.index_entry.specs.Lookups.{looked_at, entry_is, entry_at, line_at}
 use Rattle.index_entry.specs.Lookups as lookups
 use Rattle.index_reading.specs.Promises.{stretches_seen, entry_seen}
 use Rattle.index_reading.specs.Runs.{run-readings}
-use Rattle.index_reading.specs.Fresh.{AsRead, as_read}
-use Rattle.index_reading.specs.Growing.{built-current}
-use Rattle.index_reading.specs.Lines.{lines_seen, kth-line}
+use Rattle.index_reading.proofs.Fresh.{AsRead, as_read}
+use Rattle.index_reading.proofs.Growing.{built-current}
+use Rattle.index_reading.proofs.Lines.{lines_seen, kth-line}
 use Rattle.lubdhvani.specs.Index.{entry_out, line_out}
 use Rattle.lubdhvani.specs.declared.index.Entry.{Entry}
 use Rattle.lubdhvani.specs.declared.index.EntryLine.{EntryLine}

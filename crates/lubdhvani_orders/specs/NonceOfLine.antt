@@ -11,7 +11,8 @@ use Rattle.read_stretch.specs.Stretches.{span, bytes_at}
 use Rattle.read_spec.specs.Judged.{label}
 use Rattle.read_nonce.specs.declared.Nonce.{Nonce}
 use Rattle.demand_reading.specs.Written.{marked}
-use Rattle.demand_reading.specs.GivenWritten.{Made, written-made}
+use Rattle.demand_reading.specs.GivenWritten.{Made}
+use Rattle.demand_reading.proofs.GivenWritten.{written-made}
 use Rattle.demand_joined.specs.Makes.{Makes, accepted-makes}
 use Rattle.accept_runs.specs.NonceOfLine.{frame-nonce}
 use Rattle.lubdhvani.specs.Readings.{LINE}
@@ -19,7 +20,7 @@ use Rattle.lubdhvani.specs.declared.frame.Framed.{Framed}
 use Rattle.lubdhvani.specs.declared.read.Asked.{Asked}
 use Rattle.lubdhvani.specs.declared.read.Reading.{Reading}
 use Rattle.lubdhvani_demands.specs.Promises.{Writes, Reads}
-use Rattle.lubdhvani_demands.specs.Reading.{c-given-is-written}
+use Rattle.lubdhvani_demands.proofs.Reading.{c-given-is-written}
 use Rattle.lubdhvani_orders.specs.Promises.{Tells}
 use Rattle.lubdhvani_orders.specs.FramesAccepted.{c-makes}
 

@@ -9,12 +9,12 @@ use Rattle.frame_spec.specs.Told.{told}
 use Rattle.read_spec.specs.Sizes.{Sizes}
 use Rattle.read_call.specs.Answers.{longest_stream, read_answer, read_out}
 use Rattle.demand_reading.specs.Promises.{Seen}
-use Rattle.demand_reading.specs.Ending.{run_ends}
+use Rattle.demand_reading.proofs.Ending.{run_ends}
 use Rattle.demand_reading.specs.Whole as inner
 use Rattle.lubdhvani.specs.Readings.{asked_of, reading_out}
 use Rattle.lubdhvani.specs.declared.read.Asked.{Asked}
 use Rattle.lubdhvani_demands.specs.Promises.{seen_from, Run, none, next}
-use Rattle.lubdhvani_demands.specs.Reading.{c-run}
+use Rattle.lubdhvani_demands.proofs.Reading.{c-run}
 use Rattle.lubdhvani_orders.specs.Promises.{WholeRun}
 
 -- as a run of the read calls below

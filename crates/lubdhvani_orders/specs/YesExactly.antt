@@ -11,19 +11,19 @@ use Rattle.read_spec.specs.Ceiling.{all_work}
 use Rattle.read_readings.specs.Readings.{Reading}
 use Rattle.read_call.specs.Answers.{longest_stream}
 use Rattle.demand_reading.specs.Promises.{Seen}
-use Rattle.demand_reading.specs.Whole.{whole-run-single}
+use Rattle.demand_reading.proofs.Whole.{whole-run-single}
 use Rattle.accept_spec.specs.declared.Accepted as below
 use Rattle.accept_spec.specs.declared.Answer.TheVariants as answer-is
 use Rattle.accept_spec.specs.Accepting.{accept_answer, accept_number}
 use Rattle.accept_spec.specs.Exactly.{Cause, refused, repeated, all-good, at-fault}
-use Rattle.accept_spec.specs.Cases.{Case, sizes-wrong, long, many, judged, accept-case}
+use Rattle.accept_spec.proofs.Cases.{Case, sizes-wrong, long, many, judged, accept-case}
 use Rattle.accept_runs.specs.Promises.{stretches_seen, Good}
-use Rattle.accept_runs.specs.YesExactly as inner
+use Rattle.accept_runs.proofs.YesExactly as inner
 use Rattle.lubdhvani.specs.Accepting.{accepted_out}
 use Rattle.lubdhvani.specs.Readings.{asked_of}
 use Rattle.lubdhvani.specs.declared.accept.Accepted.{Accepted}
 use Rattle.lubdhvani.specs.declared.read.Asked.{Asked}
-use Rattle.lubdhvani_demands.specs.Reading.{c-run}
+use Rattle.lubdhvani_demands.proofs.Reading.{c-run}
 use Rattle.lubdhvani_orders.specs.Promises.{Accepts, WholeRun}
 use Rattle.lubdhvani_orders.specs.Whole.{c-whole, c-whole-run}
 

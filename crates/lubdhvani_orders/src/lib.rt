@@ -1,2 +1,3 @@
 // Orders W12 and W10 as theorems over the contracts of the exported calls themselves, in specs/: what C sees of accepting a stream and of an index, number by
 // number and struct by struct. Promises.antt has those contracts on plain lists, FromContracts.antt that they are what the check reads. No code stands here.
+#![tactic(auto)]

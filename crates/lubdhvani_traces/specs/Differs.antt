@@ -10,7 +10,8 @@ use Rattle.replay_spec.specs.Events.{events}
 use Rattle.replay_spec.specs.Press.{start, is_done, run}
 use Rattle.replay_spec.specs.Answers.{judging, replayed, replay_answer, replay_number}
 use Rattle.replay_kept.specs.Stepping.{done-before}
-use Rattle.replay_kept.specs.Differs.{First, differs-exactly, zero-sound}
+use Rattle.replay_kept.proofs.Differs.{First}
+use Rattle.replay_kept.proofs.Differs.{differs-exactly, zero-sound}
 use Rattle.lubdhvani.specs.declared.replay.Replayed.{Replayed}
 use Rattle.lubdhvani_traces.specs.Promises.{Replays}
 

@@ -22,16 +22,16 @@ use Rattle.replay_spec.specs.Events.{events}
 use Rattle.replay_spec.specs.Press.{Given, nothing, gives, start, is_done, run}
 use Rattle.replay_spec.specs.Answers.{judging, zeros, stood_for, stood_answer}
 use Rattle.replay_reading.specs.Order.{line_at, gave}
-use Rattle.replay_reading.specs.Given.{lines_seen}
-use Rattle.replay_reading.specs.Written.{WrittenIn}
-use Rattle.replay_kept.specs.InOrder as kept
-use Rattle.replay_kept.specs.InOrder.{Receipts}
+use Rattle.replay_reading.proofs.Given.{lines_seen}
+use Rattle.replay_reading.proofs.Written.{WrittenIn}
+use Rattle.replay_kept.proofs.InOrder as kept
+use Rattle.replay_kept.proofs.InOrder.{Receipts}
 use Rattle.lubdhvani.specs.Readings.{asked_of}
 use Rattle.lubdhvani.specs.Replaying.{behind_line, stood_as}
 use Rattle.lubdhvani.specs.declared.read.Asked.{Asked}
 use Rattle.lubdhvani.specs.declared.replay.Stood.{Stood}
 use Rattle.lubdhvani_demands.specs.Promises.{Run}
-use Rattle.lubdhvani_demands.specs.Reading.{c-run}
+use Rattle.lubdhvani_demands.proofs.Reading.{c-run}
 use Rattle.lubdhvani_traces.specs.Promises.{Shows}
 use Rattle.lubdhvani_traces.specs.Shown.{line_shown}
 

@@ -12,7 +12,8 @@ use Rattle.replay_spec.specs.Events.{events}
 use Rattle.replay_spec.specs.Press.{is_done}
 use Rattle.replay_spec.specs.Answers.{replay_answer, replay_number}
 use Rattle.replay_kept.specs.Stepping.{received_in}
-use Rattle.replay_kept.specs.Received as kept
+use Rattle.replay_kept.specs.Received as keeping
+use Rattle.replay_kept.proofs.Received as kept
 use Rattle.replay_kept.specs.Received.{before}
 use Rattle.lubdhvani.specs.Replaying.{replayed_out}
 use Rattle.lubdhvani.specs.declared.replay.Replayed.{Replayed}
@@ -28,29 +29,3 @@ pub record Keeps (trace o : List ℕ) (r : Replayed) (o' : List ℕ) : Type 0 wh
   pub holds : take r.received o' ≡ received_in trace (before_fault trace r)
   pub behind : drop r.received o' ≡ drop r.received o
   pub long : length o' ≡ length o
-
--- number 0 is the answer without a fault
-done-is : (a : Answer) → is_done a ≡ eqb (replay_number a) 0
-done-is answer-is.Done = refl
-done-is answer-is.Sizes = refl
-done-is answer-is.NoRoom = refl
-done-is answer-is.Field = refl
-done-is answer-is.NoLine = refl
-done-is answer-is.TooLong = refl
-
-keeps : (trace o : List ℕ) (a : inner.Replayed) (o' : List ℕ) → kept.Keeps trace o a o' → Keeps trace o (replayed_out a) o'
-keeps trace o a o' k =
-    let same : kept.before_fault trace a ≡ before_fault trace (replayed_out a) =
-    ap (λ (b : Bool). cond b (events trace) (take (before a.event) (events trace))) (done-is a.answer) in
-    record {
-      received = k.received ∙ ap (λ (l : List Event). length (received_in trace l)) same;
-      holds = k.holds ∙ ap (received_in trace) same;
-      behind = k.behind;
-      long = k.long;
-    }
-
-pub c-received-kept : (key font : List ℕ) (ed lay : ℕ) (trace o : List ℕ) (r : Replayed) (o' : List ℕ) → Replays key font ed lay trace o r o'
-    → Keeps trace o r o'
-c-received-kept key font ed lay trace o r o' (p, q) =
-    let a = replay_answer (told key font (layout_of lay)) ed trace o in
-    rw p (keeps trace o a o' (kept.received-kept key font ed (layout_of lay) trace o a o' (refl, q)))

@@ -13,7 +13,7 @@ use Rattle.replay_spec.specs.Events.{events, bytes_of}
 use Rattle.replay_spec.specs.Press.{nothing, Press, start, is_done, run}
 use Rattle.replay_spec.specs.Answers.{judging, replay_answer, replay_number}
 use Rattle.replay_kept.specs.Stepping as stepping
-use Rattle.replay_kept.specs.Refused as kept
+use Rattle.replay_kept.proofs.Refused as kept
 use Rattle.replay_kept.specs.Refused.{refusal, has_room}
 use Rattle.lubdhvani.specs.Replaying.{replayed_out}
 use Rattle.lubdhvani.specs.declared.replay.Replayed.{Replayed}

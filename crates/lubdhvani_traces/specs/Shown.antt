@@ -7,7 +7,7 @@ use Rattle.line_layout.specs.Layouts.{layout_of}
 use Rattle.frame_spec.specs.Told.{Told, told}
 use Rattle.read_call.specs.Answers.{longest_stream}
 use Rattle.replay_spec.specs.Answers.{replay_answer, replay_number, stood_answer}
-use Rattle.replay_kept.specs.Shown as kept
+use Rattle.replay_kept.proofs.Shown as kept
 use Rattle.lubdhvani.specs.declared.replay.Replayed.{Replayed}
 use Rattle.lubdhvani.specs.declared.replay.Stood.{Stood}
 use Rattle.lubdhvani_traces.specs.Promises.{Replays, Shows}
