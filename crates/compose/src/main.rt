@@ -2,22 +2,31 @@
 // line. The frames go to standard output; a row that can't be sealed is reported on standard error with document 01's number, and the
 // others are still written. Half an order is none: a last row without its newline is not sealed. Nonces come from the caller; none is made
 // here.
+#![tactic(auto)]
+
 use digest_call::DIGEST;
 use frame_spec::KEY_LENGTH;
-use libc::{STDERR_FILENO, STDIN_FILENO, STDOUT_FILENO};
 use line_layout::Layout;
+use std::io::Read;
+use std::rt::Files;
 use tool_files::Heard;
 use tool_orders::Order;
 
 // The most of a row that is kept: nonce, blank and longest line fit with room to spare, and a longer row keeps a line that is too long.
 const ROW: usize = 128;
 
+// One read of the orders takes so many bytes.
+const CHUNK: usize = 4096;
+
+// The longest font.
+const ROOM: usize = 65536;
+
 // No run makes more reads: standard input then counts as one that can't be read on.
 const MOST_READS: u64 = 0xFFFF_FFFF_FFFF_FFFF;
 
 // A row being gathered: its number, from 1, how much of it is kept, and whether anything of it came; and whether a frame could not be
 // written, after which no more are.
-#[derive(Drop)]
+#[derive(Clone, Copy)]
 pub struct Orders {
     pub number: u64,
     pub length: usize,
@@ -25,73 +34,80 @@ pub struct Orders {
     pub failed: bool,
 }
 
-fn complain(text: &[u8]) {
-    io::write_all(STDERR_FILENO, text);
+fn complain(rt: &impl Eprint, text: &str) {
+    let _ = rt.eprint(text);
 }
 
 // A row named on standard error, and what became of it.
-fn report(row: u64, what: &[u8]) {
-    complain(b"row ");
-    io::print_decimal(STDERR_FILENO, row);
-    complain(what);
+fn report(rt: &impl Eprint, row: u64, what: &str) {
+    complain(rt, "row ");
+    let _ = rt.eprint(row);
+    complain(rt, what);
 }
 
-fn refused(row: u64, number: u32) {
-    report(row, b" refused ");
-    io::print_decimal(STDERR_FILENO, number as u64);
-    complain(b"\n");
+fn refused(rt: &impl Eprint, row: u64, number: u32) {
+    report(rt, row, " refused ");
+    let _ = rt.eprint(number);
+    complain(rt, "\n");
 }
 
 // A frame on standard output; false where it can't be written whole.
-fn send(frame: &[u8], which: u64) -> bool {
-    if io::write_all(STDOUT_FILENO, frame) {
+fn send(rt: &(impl Print + Eprint), frame: &[u8], which: u64) -> bool {
+    if rt.write_all(frame).is_ok() {
         return true;
     }
-    report(which, b" not written, and none behind it\n");
+    report(rt, which, " not written, and none behind it\n");
     false
 }
 
 // One line under its nonce: its frame on standard output, or its refusal on standard error; false where the frame can't be written.
-fn seal_line(line: &[u8], nonce: &[u8], which: u64, key: &[u8], font: &[u8]) -> bool {
+fn seal_line(
+    rt: &(impl Print + Eprint),
+    line: &[u8],
+    nonce: &[u8],
+    which: u64,
+    key: &[u8],
+    font: &[u8],
+) -> bool {
     let mut frame = [0u8; frame_spec::FRAME_ROOM];
     let written = frame_write::write(key, nonce, font, Layout::Neither, line, &mut frame);
     let number = frame_write::write_number(written);
     let length = frame_write::write_length(written);
     if number != 0 {
-        refused(which, number);
+        refused(rt, which, number);
         return true;
     }
     // Never: no frame is longer than its room.
     if length > frame.len() {
         return false;
     }
-    send(&frame[0..length], which)
+    send(rt, &frame[0..length], which)
 }
 
 // One order; false where its frame can't be written.
-fn order(row: &[u8], which: u64, key: &[u8], font: &[u8]) -> bool {
+fn order(rt: &(impl Print + Eprint), row: &[u8], which: u64, key: &[u8], font: &[u8]) -> bool {
     let found = tool_orders::judge_order(row);
     match found {
         Order::Line(from) => {
             let nonce = tool_orders::nonce(row);
-            seal_line(&row[from..], &nonce, which, key, font)
+            seal_line(rt, &row[from..], &nonce, which, key, font)
         }
         Order::NoNonce => {
-            refused(which, tool_orders::order_number(found));
+            refused(rt, which, tool_orders::order_number(found));
             true
         }
     }
 }
 
 // The row that ends here, and the next one begun. The row is never longer than its room.
-fn ended(row: &[u8], o: Orders, key: &[u8], font: &[u8]) -> Orders {
+fn ended(rt: &(impl Print + Eprint), row: &[u8], o: Orders, key: &[u8], font: &[u8]) -> Orders {
     let at = o.length;
     let mut written = false;
     if at <= row.len() {
-        written = order(&row[0..at], o.number, key, font);
+        written = order(rt, &row[0..at], o.number, key, font);
     }
     Orders {
-        number: std::num::wrapping_add_u64(o.number, 1),
+        number: o.number.wrapping_add(1),
         length: 0,
         begun: false,
         failed: !written,
@@ -99,9 +115,16 @@ fn ended(row: &[u8], o: Orders, key: &[u8], font: &[u8]) -> Orders {
 }
 
 // The next byte of the orders: it ends a row, or is kept while there is room for it.
-fn fed(b: u8, row: &mut [u8], o: Orders, key: &[u8], font: &[u8]) -> Orders {
+fn fed(
+    rt: &(impl Print + Eprint),
+    b: u8,
+    row: &mut [u8],
+    o: Orders,
+    key: &[u8],
+    font: &[u8],
+) -> Orders {
     if b == b'\n' {
-        return ended(row, o, key, font);
+        return ended(rt, row, o, key, font);
     }
     let mut length = o.length;
     if length < row.len() {
@@ -116,31 +139,36 @@ fn fed(b: u8, row: &mut [u8], o: Orders, key: &[u8], font: &[u8]) -> Orders {
     }
 }
 
-fn fed_all(bytes: &[u8], row: &mut [u8], o: Orders, key: &[u8], font: &[u8]) -> Orders {
+fn fed_all(
+    rt: &(impl Print + Eprint),
+    bytes: &[u8],
+    row: &mut [u8],
+    o: Orders,
+    key: &[u8],
+    font: &[u8],
+) -> Orders {
     let mut next = o;
-    let mut i = 0;
-    while i < bytes.len() {
-        next = fed(bytes[i], row, next, key, font);
+    for b in bytes {
+        next = fed(rt, *b, row, next, key, font);
         let failed = next.failed;
         if failed {
             return next;
         }
-        i += 1;
     }
     next
 }
 
 // What is left at the end of the orders: half an order is none.
-fn cut_off(o: Orders) {
+fn cut_off(rt: &impl Eprint, o: Orders) {
     let begun = o.begun;
     if begun {
-        report(o.number, b" cut off, not sealed\n");
+        report(rt, o.number, " cut off, not sealed\n");
     }
 }
 
-// All orders of standard input, until its end or until a frame can't be written.
-fn compose(key: &[u8], font: &[u8]) {
-    let mut chunk = io::buffer();
+// All orders that are read, until their end or until a frame can't be written.
+fn compose(rt: &(impl Print + Eprint), input: &mut impl Read, key: &[u8], font: &[u8]) {
+    let mut chunk = [0u8; CHUNK];
     let mut row = [0u8; ROW];
     let mut o = Orders {
         number: 1,
@@ -148,48 +176,50 @@ fn compose(key: &[u8], font: &[u8]) {
         begun: false,
         failed: false,
     };
-    let mut turns = MOST_READS;
-    while turns > 0 {
-        match tool_files::hear(STDIN_FILENO, &mut chunk) {
+    for _ in 0..MOST_READS {
+        match tool_files::hear(input, &mut chunk) {
             Heard::Some(got) => {
-                o = fed_all(&chunk[0..got], &mut row, o, key, font);
+                o = fed_all(rt, &chunk[0..got], &mut row, o, key, font);
                 let failed = o.failed;
                 if failed {
                     return;
                 }
-                turns -= 1;
             }
-            Heard::Again => turns -= 1,
+            Heard::Again => {}
             Heard::End => {
-                cut_off(o);
+                cut_off(rt, o);
                 return;
             }
             Heard::Failed => {
-                complain(b"orders can't be read\n");
+                complain(rt, "orders can't be read\n");
                 return;
             }
         }
     }
-    complain(b"orders can't be read\n");
+    complain(rt, "orders can't be read\n");
 }
 
-fn main() {
-    if os::arg_count() > 1 {
-        complain(b"usage: compose < orders > stream\n");
-        return;
-    }
+// The stream of what the key, the font and the reader have.
+fn compose_files(rt: &(impl Files + Print + Eprint), input: &mut impl Read) {
     let mut key = [0u8; KEY_LENGTH];
     let mut font = [0u8; DIGEST];
-    // Of 65,536 bytes: the longest font.
-    let mut buffer = io::large_buffer();
-    if !tool_key_font::is_key(tool_files::load(b"key.bin", &mut key)) {
-        complain(b"no key\n");
+    let mut buffer = [0u8; ROOM];
+    if !tool_key_font::is_key(tool_files::load(rt, b"key.bin", &mut key)) {
+        complain(rt, "no key\n");
         return;
     }
-    let loaded = tool_files::load(b"font.bin", &mut buffer);
+    let loaded = tool_files::load(rt, b"font.bin", &mut buffer);
     if !tool_key_font::digest_font(loaded, &buffer, &mut font) {
-        complain(b"no font\n");
+        complain(rt, "no font\n");
         return;
     }
-    compose(&key, &font);
+    compose(rt, input, &key, &font);
+}
+
+fn main(rt: HostRuntime) {
+    if tool_files::word_count(&rt) > 1 {
+        complain(&rt, "usage: compose < orders > stream\n");
+        return;
+    }
+    compose_files(&rt, &mut rt.stdin());
 }

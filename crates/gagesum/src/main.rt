@@ -1,8 +1,10 @@
 // The GAGE digest of standard input, read through a small window: `gagesum` for instance 1, `gagesum I` for instance I. Only bytes are moved
 // here; what the word and each read mean is decided by `tool_sums`, and the digest is that of `running_steps`.
+#![tactic(auto)]
+
 use digest_call::DIGEST;
-use libc::{STDERR_FILENO, STDIN_FILENO, STDOUT_FILENO};
 use running_spec::{Finished, Record};
+use std::io::Read;
 use tool_sums::{Named, Sum};
 
 // The window in bytes.
@@ -24,80 +26,78 @@ const NEWLINE: u8 = 0x0A;
 // No run makes more reads: one that is interrupted again and again counts as failed at last.
 const MOST_READS: u64 = 0xFFFF_FFFF_FFFF_FFFF;
 
-fn complain(text: &[u8]) {
-    io::write_all(STDERR_FILENO, text);
+fn complain(rt: &impl Eprint, text: &str) {
+    let _ = rt.eprint(text);
 }
 
-fn usage() {
-    complain(b"usage: gagesum [I] < file (I from 1 to 10)\n");
+fn usage(rt: &impl Eprint) {
+    complain(rt, "usage: gagesum [I] < file (I from 1 to 10)\n");
 }
 
 // The digits of a digest and a newline, written at once.
-fn print(digest: &[u8]) {
+fn print(rt: &(impl Print + Eprint), digest: &[u8]) {
     let mut row = [0u8; ROW];
     base_hex::put_hex(digest, &mut row);
     row[DIGITS] = NEWLINE;
-    if !io::write_all(STDOUT_FILENO, &row) {
-        complain(b"gagesum: not written whole\n");
+    if rt.write_all(&row).is_err() {
+        complain(rt, "gagesum: not written whole\n");
     }
 }
 
 // The digest of what was fed.
-fn give(running: Record) {
+fn give(rt: &(impl Print + Eprint), running: Record) {
     let mut digest = [0u8; DIGEST];
     match running_steps::give(running, &mut digest) {
-        Finished::Done(_) => print(&digest),
+        Finished::Done(_) => print(rt, &digest),
         // Never: the record was started and only fed, and there is room.
-        _ => complain(b"gagesum: no digest\n"),
+        _ => complain(rt, "gagesum: no digest\n"),
     }
 }
 
-fn digest_input(instance: usize) {
+fn digest_input(rt: &(impl Print + Eprint), input: &mut impl Read, instance: usize) {
     let mut window = [0u8; WINDOW];
     let mut running = tool_sums::begin(instance);
-    let mut turns = MOST_READS;
-    while turns > 0 {
-        let heard = tool_files::hear(STDIN_FILENO, &mut window);
+    for _ in 0..MOST_READS {
+        let heard = tool_files::hear(input, &mut window);
         match tool_sums::judge_part(running, heard, &window) {
             Sum::On => {
                 running = tool_sums::take_part(running, heard, &window);
-                turns -= 1;
             }
             Sum::End => {
-                give(running);
+                give(rt, running);
                 return;
             }
             Sum::TooLong => {
-                complain(b"too long\n");
+                complain(rt, "too long\n");
                 return;
             }
             Sum::Unread => {
-                complain(b"can't be read\n");
+                complain(rt, "can't be read\n");
                 return;
             }
         }
     }
-    complain(b"can't be read\n");
+    complain(rt, "can't be read\n");
 }
 
-fn main() {
-    let words = os::arg_count();
+fn main(rt: HostRuntime) {
+    let words = tool_files::word_count(&rt);
     if words < 2 {
-        digest_input(FONT_INSTANCE);
+        digest_input(&rt, &mut rt.stdin(), FONT_INSTANCE);
         return;
     }
     if words > 2 {
-        usage();
+        usage(&rt);
         return;
     }
     let mut word = [0u8; WORD];
-    let n = os::arg(1, &mut word);
+    let n = tool_files::word_at(&rt, 1, &mut word);
     // Never: a word that is longer counts as none.
     if n > WORD {
         return;
     }
     match tool_sums::judge_word(&word[0..n]) {
-        Named::Instance(i) => digest_input(i),
-        Named::Nothing => usage(),
+        Named::Instance(i) => digest_input(&rt, &mut rt.stdin(), i),
+        Named::Nothing => usage(&rt),
     }
 }

@@ -1,12 +1,13 @@
 // Writes known answers in the submission's own format, so that the submitters' files can be compared by one `diff`:
 // `kat hash I` for GAGE instance I, `kat aead I` for InGAGE instance I. Thin over the proved calls.
+#![tactic(auto)]
+
 ghost use Rattle.std.specs.Prelude.{◌≤◌, length};
 
 use base_hex::Digit;
 use digest_call::{DIGEST, Digested};
 use ingage_answers::Sealed;
 use ingage_spec::{Instance, Named};
-use libc::{STDERR_FILENO, STDOUT_FILENO};
 
 // The longest message of a hash file, and the longest text and associated data of an aead file, in bytes.
 const LONGEST_MESSAGE: usize = 1024;
@@ -20,7 +21,7 @@ const SEAL: usize = 16;
 const WORD: usize = 8;
 
 // How an entry ended: written whole, or standard output did not take it, or there is nothing to write for what was asked.
-#[derive(Drop)]
+#[derive(Clone, Copy)]
 pub enum Entry {
     Written,
     Unwritten,
@@ -28,47 +29,47 @@ pub enum Entry {
 }
 
 // Each of these answers false where standard output does not take it whole: a file with a hole in it is no file of known answers.
-fn say(text: &[u8]) -> bool {
-    io::write_all(STDOUT_FILENO, text)
+fn say(rt: &impl Print, text: &[u8]) -> bool {
+    rt.write_all(text).is_ok()
 }
 
-fn complain(text: &[u8]) {
-    io::write_all(STDERR_FILENO, text);
+fn complain(rt: &impl Eprint, text: &str) {
+    let _ = rt.eprint(text);
 }
 
 // Upper-case hexadecimal digits of at most LONGEST_MESSAGE bytes.
-fn hex(value: &[u8]) -> bool {
+fn hex(rt: &impl Print, value: &[u8]) -> bool {
     let mut digits = [0u8; 2 * LONGEST_MESSAGE];
     let n = base_hex::put_hex(value, &mut digits);
     // Never: no more digits are put than there is room for.
     if n > digits.len() {
         return false;
     }
-    say(&digits[0..n])
+    say(rt, &digits[0..n])
 }
 
 // One value: its name, ` = `, and the digits.
-fn row(name: &[u8], value: &[u8]) -> bool {
-    if !say(name) {
+fn row(rt: &impl Print, name: &[u8], value: &[u8]) -> bool {
+    if !say(rt, name) {
         return false;
     }
-    if !say(b" = ") {
+    if !say(rt, b" = ") {
         return false;
     }
-    if !hex(value) {
+    if !hex(rt, value) {
         return false;
     }
-    say(b"\n")
+    say(rt, b"\n")
 }
 
-fn count(n: usize) -> bool {
-    if !say(b"Count = ") {
+fn count(rt: &impl Print, n: usize) -> bool {
+    if !say(rt, b"Count = ") {
         return false;
     }
-    if !io::print_decimal(STDOUT_FILENO, n as u64) {
+    if rt.print(n).is_err() {
         return false;
     }
-    say(b"\n")
+    say(rt, b"\n")
 }
 
 fn written_if(whole: bool) -> Entry {
@@ -86,34 +87,33 @@ fn ramp() -> [u8; LONGEST_MESSAGE] {
 }
 
 // The rows of an entry of a hash file.
-fn hash_rows(number: usize, message: &[u8], digest: &[u8]) -> bool {
-    if !count(number) {
+fn hash_rows(rt: &impl Print, number: usize, message: &[u8], digest: &[u8]) -> bool {
+    if !count(rt, number) {
         return false;
     }
-    if !row(b"Msg", message) {
+    if !row(rt, b"Msg", message) {
         return false;
     }
-    if !row(b"MD", digest) {
+    if !row(rt, b"MD", digest) {
         return false;
     }
-    say(b"\n")
+    say(rt, b"\n")
 }
 
 // One entry of a hash file.
-fn hash_entry(instance: usize, number: usize, message: &[u8]) -> Entry {
+fn hash_entry(rt: &impl Print, instance: usize, number: usize, message: &[u8]) -> Entry {
     let mut out = [0u8; DIGEST];
     match digest_call::digest(instance, message, &mut out) {
-        Digested::Done(_) => written_if(hash_rows(number, message, &out)),
+        Digested::Done(_) => written_if(hash_rows(rt, number, message, &out)),
         _ => Entry::Unknown,
     }
 }
 
-fn hash(instance: usize) -> Entry {
+fn hash(rt: &impl Print, instance: usize) -> Entry {
     let bytes = ramp();
-    let mut n = 0;
-    while n <= LONGEST_MESSAGE {
-        match hash_entry(instance, n + 1, &bytes[0..n]) {
-            Entry::Written => n += 1,
+    for n in 0..LONGEST_MESSAGE + 1 {
+        match hash_entry(rt, instance, n + 1, &bytes[0..n]) {
+            Entry::Written => {}
             Entry::Unwritten => return Entry::Unwritten,
             Entry::Unknown => return Entry::Unknown,
         }
@@ -122,38 +122,46 @@ fn hash(instance: usize) -> Entry {
 }
 
 // What an entry of an aead file seals.
-fn sealed_of(number: usize, key: &[u8], nonce: &[u8], message: &[u8], associated: &[u8]) -> bool {
-    if !count(number) {
+fn sealed_of(
+    rt: &impl Print,
+    number: usize,
+    key: &[u8],
+    nonce: &[u8],
+    message: &[u8],
+    associated: &[u8],
+) -> bool {
+    if !count(rt, number) {
         return false;
     }
-    if !row(b"Key", key) {
+    if !row(rt, b"Key", key) {
         return false;
     }
-    if !row(b"Nonce", nonce) {
+    if !row(rt, b"Nonce", nonce) {
         return false;
     }
-    if !row(b"PT", message) {
+    if !row(rt, b"PT", message) {
         return false;
     }
-    row(b"AD", associated)
+    row(rt, b"AD", associated)
 }
 
 // The seal stands after the ciphertext.
-fn sealed_to(cipher: &[u8], seal: &[u8]) -> bool {
-    if !say(b"CT = ") {
+fn sealed_to(rt: &impl Print, cipher: &[u8], seal: &[u8]) -> bool {
+    if !say(rt, b"CT = ") {
         return false;
     }
-    if !hex(cipher) {
+    if !hex(rt, cipher) {
         return false;
     }
-    if !hex(seal) {
+    if !hex(rt, seal) {
         return false;
     }
-    say(b"\n\n")
+    say(rt, b"\n\n")
 }
 
 // One entry of an aead file, with a buffer as long as its text.
 fn sealed_entry(
+    rt: &impl Print,
     instance: usize,
     number: usize,
     key: &[u8],
@@ -165,10 +173,10 @@ fn sealed_entry(
     let mut seal = [0u8; SEAL];
     match ingage_call::seal(instance, key, nonce, associated, message, out, &mut seal) {
         Sealed::Done(_) => {
-            if !sealed_of(number, key, nonce, message, associated) {
+            if !sealed_of(rt, number, key, nonce, message, associated) {
                 return Entry::Unwritten;
             }
-            written_if(sealed_to(out, &seal))
+            written_if(sealed_to(rt, out, &seal))
         }
         // Never: sizes, lengths and room are right here.
         _ => Entry::Unknown,
@@ -176,6 +184,7 @@ fn sealed_entry(
 }
 
 fn aead_entry(
+    rt: &impl Print,
     instance: usize,
     number: usize,
     key: &[u8],
@@ -190,6 +199,7 @@ fn aead_entry(
         return Entry::Unknown;
     }
     sealed_entry(
+        rt,
         instance,
         number,
         key,
@@ -201,7 +211,14 @@ fn aead_entry(
 }
 
 // One entry: key, nonce, text and associated data are first bytes of the same ones.
-fn counted_entry(instance: usize, z: Instance, bytes: &[u8], p: usize, a: usize) -> Entry
+fn counted_entry(
+    rt: &impl Print,
+    instance: usize,
+    z: Instance,
+    bytes: &[u8],
+    p: usize,
+    a: usize,
+) -> Entry
     requires { (p ≤ 32) × (a ≤ 32) × (32 ≤ length bytes.now) }
 {
     let k = z.key;
@@ -214,6 +231,7 @@ fn counted_entry(instance: usize, z: Instance, bytes: &[u8], p: usize, a: usize)
         return Entry::Unknown;
     }
     aead_entry(
+        rt,
         instance,
         p * (LONGEST_TEXT + 1) + a + 1,
         &bytes[0..k],
@@ -224,13 +242,12 @@ fn counted_entry(instance: usize, z: Instance, bytes: &[u8], p: usize, a: usize)
 }
 
 // The entries of one text, over every length of associated data.
-fn aead_text(instance: usize, z: Instance, bytes: &[u8], p: usize) -> Entry
+fn aead_text(rt: &impl Print, instance: usize, z: Instance, bytes: &[u8], p: usize) -> Entry
     requires { (p ≤ 32) × (32 ≤ length bytes.now) }
 {
-    let mut a = 0;
-    while a <= LONGEST_TEXT {
-        match counted_entry(instance, z, bytes, p, a) {
-            Entry::Written => a += 1,
+    for a in 0..LONGEST_TEXT + 1 {
+        match counted_entry(rt, instance, z, bytes, p, a) {
+            Entry::Written => {}
             Entry::Unwritten => return Entry::Unwritten,
             Entry::Unknown => return Entry::Unknown,
         }
@@ -238,15 +255,14 @@ fn aead_text(instance: usize, z: Instance, bytes: &[u8], p: usize) -> Entry
     Entry::Written
 }
 
-fn aead(instance: usize) -> Entry {
+fn aead(rt: &impl Print, instance: usize) -> Entry {
     let Named::Known(z) = ingage_table::sizes_of(instance) else {
         return Entry::Unknown;
     };
     let bytes = ramp();
-    let mut p = 0;
-    while p <= LONGEST_TEXT {
-        match aead_text(instance, z, &bytes, p) {
-            Entry::Written => p += 1,
+    for p in 0..LONGEST_TEXT + 1 {
+        match aead_text(rt, instance, z, &bytes, p) {
+            Entry::Written => {}
             Entry::Unwritten => return Entry::Unwritten,
             Entry::Unknown => return Entry::Unknown,
         }
@@ -257,9 +273,8 @@ fn aead(instance: usize) -> Entry {
 // A number of one or two digits; 0 where it is none.
 fn number(word: &[u8]) -> usize {
     let mut n: usize = 0;
-    let mut i = 0;
-    while i < word.len() {
-        let Digit::Value(v) = base_hex::value(word[i]) else {
+    for c in word {
+        let Digit::Value(v) = base_hex::value(*c) else {
             return 0;
         };
         if v > 9 {
@@ -269,35 +284,34 @@ fn number(word: &[u8]) -> usize {
             return 0;
         }
         n = n * 10 + v as usize;
-        i += 1;
     }
     n
 }
 
 // What the last entry says of the file.
-fn ended(last: Entry) {
+fn ended(rt: &impl Eprint, last: Entry) {
     match last {
         Entry::Written => {}
-        Entry::Unwritten => complain(b"kat: not written whole\n"),
-        Entry::Unknown => complain(b"kat: no such instance\n"),
+        Entry::Unwritten => complain(rt, "kat: not written whole\n"),
+        Entry::Unknown => complain(rt, "kat: no such instance\n"),
     }
 }
 
-fn answered(kind: &[u8], instance: usize) {
+fn answered(rt: &(impl Print + Eprint), kind: &[u8], instance: usize) {
     if base_lists::compare(kind, b"hash") {
-        ended(hash(instance));
+        ended(rt, hash(rt, instance));
     } else if base_lists::compare(kind, b"aead") {
-        ended(aead(instance));
+        ended(rt, aead(rt, instance));
     } else {
-        complain(b"usage: kat hash I (1 to 10), kat aead I (1 to 6)\n");
+        complain(rt, "usage: kat hash I (1 to 10), kat aead I (1 to 6)\n");
     }
 }
 
-fn main() {
+fn main(rt: HostRuntime) {
     let mut kind = [0u8; WORD];
     let mut which = [0u8; WORD];
-    let k = os::arg(1, &mut kind);
-    let w = os::arg(2, &mut which);
+    let k = tool_files::word_at(&rt, 1, &mut kind);
+    let w = tool_files::word_at(&rt, 2, &mut which);
     // Never: a word that is longer counts as none.
     if k > WORD {
         return;
@@ -305,5 +319,5 @@ fn main() {
     if w > WORD {
         return;
     }
-    answered(&kind[0..k], number(&which[0..w]));
+    answered(&rt, &kind[0..k], number(&which[0..w]));
 }

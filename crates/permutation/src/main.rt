@@ -1,7 +1,9 @@
 // So many rounds of the permutation on a state given in hexadecimal, or their inverse: `permutation SIZE ROUNDS STATE` and
 // `permutation back SIZE ROUNDS STATE`. Only bytes are moved here; what the words mean, and what becomes of them, is decided by `tool_trial`.
+#![tactic(auto)]
+
 use gage_spec::LARGEST;
-use libc::{STDERR_FILENO, STDOUT_FILENO};
+use std::rt::Env;
 use tool_trial::{Outcome, Trial};
 
 // The longest word that is looked at: a longer one counts as empty.
@@ -17,13 +19,14 @@ const THERE: usize = 4;
 
 const BACK: usize = 5;
 
-fn complain(text: &[u8]) {
-    io::write_all(STDERR_FILENO, text);
+fn complain(rt: &impl Eprint, text: &str) {
+    let _ = rt.eprint(text);
 }
 
-fn usage() {
+fn usage(rt: &impl Eprint) {
     complain(
-        b"usage: permutation [back] SIZE ROUNDS STATE (SIZE in bytes, ROUNDS from 1 to 255, STATE in hexadecimal)\n",
+        rt,
+        "usage: permutation [back] SIZE ROUNDS STATE (SIZE in bytes, ROUNDS from 1 to 255, STATE in hexadecimal)\n",
     );
 }
 
@@ -38,47 +41,48 @@ fn row(state: [u8; LARGEST], n: usize) -> [u8; ROW] {
 }
 
 // The first n bytes of a state, written at once.
-fn print(state: [u8; LARGEST], n: usize) {
+fn print(rt: &(impl Print + Eprint), state: [u8; LARGEST], n: usize) {
     let digits = row(state, n);
     // Never: every permitted size is at most the largest.
     if n > LARGEST {
         return;
     }
-    if !io::write_all(STDOUT_FILENO, &digits[0..2 * n + 1]) {
-        complain(b"permutation: not written whole\n");
+    if rt.write_all(&digits[0..2 * n + 1]).is_err() {
+        complain(rt, "permutation: not written whole\n");
     }
 }
 
 // The number of a refusal, and why.
-fn refused(number: u32, why: &[u8]) {
-    complain(b"refused ");
-    io::print_decimal(STDERR_FILENO, number as u64);
-    complain(why);
+fn refused(rt: &impl Eprint, number: u32, why: &str) {
+    complain(rt, "refused ");
+    let _ = rt.eprint(number);
+    complain(rt, why);
 }
 
-fn say(trial: Trial) {
+fn say(rt: &(impl Print + Eprint), trial: Trial) {
     let outcome = trial.outcome;
     let number = tool_trial::outcome_number(outcome);
     let state = trial.state;
     match outcome {
-        Outcome::Done => print(state, trial.size),
-        Outcome::Size => refused(number, b": the size is not permitted\n"),
-        Outcome::Rounds => refused(number, b": the rounds are not 1 to 255\n"),
-        Outcome::NoNumber => usage(),
+        Outcome::Done => print(rt, state, trial.size),
+        Outcome::Size => refused(rt, number, ": the size is not permitted\n"),
+        Outcome::Rounds => refused(rt, number, ": the rounds are not 1 to 255\n"),
+        Outcome::NoNumber => usage(rt),
         Outcome::NoState => complain(
-            b"no state: two hexadecimal digits for each byte of the size\n",
+            rt,
+            "no state: two hexadecimal digits for each byte of the size\n",
         ),
     }
 }
 
 // The trial that the three words at these places ask for.
-fn run(first: usize, second: usize, third: usize, back: bool) {
+fn run(rt: &(impl Env + Print + Eprint), first: usize, second: usize, third: usize, back: bool) {
     let mut size = [0u8; WORD];
     let mut rounds = [0u8; WORD];
     let mut state = [0u8; WORD];
-    let a = os::arg(first, &mut size);
-    let b = os::arg(second, &mut rounds);
-    let c = os::arg(third, &mut state);
+    let a = tool_files::word_at(rt, first, &mut size);
+    let b = tool_files::word_at(rt, second, &mut rounds);
+    let c = tool_files::word_at(rt, third, &mut state);
     // Never: no word is longer than its buffer.
     if a > WORD {
         return;
@@ -90,31 +94,37 @@ fn run(first: usize, second: usize, third: usize, back: bool) {
         return;
     }
     if back {
-        say(tool_trial::back(&size[0..a], &rounds[0..b], &state[0..c]));
+        say(
+            rt,
+            tool_trial::back(&size[0..a], &rounds[0..b], &state[0..c]),
+        );
     } else {
-        say(tool_trial::forth(&size[0..a], &rounds[0..b], &state[0..c]));
+        say(
+            rt,
+            tool_trial::forth(&size[0..a], &rounds[0..b], &state[0..c]),
+        );
     }
 }
 
-fn main() {
-    let words = os::arg_count();
+fn main(rt: HostRuntime) {
+    let words = tool_files::word_count(&rt);
     if words == THERE {
-        run(1, 2, 3, false);
+        run(&rt, 1, 2, 3, false);
         return;
     }
     if words != BACK {
-        usage();
+        usage(&rt);
         return;
     }
     let mut word = [0u8; WORD];
-    let n = os::arg(1, &mut word);
+    let n = tool_files::word_at(&rt, 1, &mut word);
     // Never: no word is longer than its buffer.
     if n > WORD {
         return;
     }
     if tool_trial::is_back(&word[0..n]) {
-        run(2, 3, 4, true);
+        run(&rt, 2, 3, 4, true);
     } else {
-        usage();
+        usage(&rt);
     }
 }

@@ -1,32 +1,41 @@
 // Lists the lines of a link as they come: key.bin, font.bin, then standard input, a device, a pipe or a file, read until it ends. What is said in place of a
 // listing is decided by `tool_loads`, what each row is by `tool_press`, and both are proved; here bytes are moved: each row is written at once, as soon as
 // its mark is there. That each is written once, in order and whole no contract says: it is tested (docs/PROMISES.md, 'Exceptions').
+#![tactic(auto)]
+
 use digest_call::DIGEST;
 use frame_spec::KEY_LENGTH;
 use frame_stuff_spec::LONGEST_STRETCH;
-use libc::{STDERR_FILENO, STDIN_FILENO, STDOUT_FILENO};
+use std::io::Read;
+use std::rt::Files;
 use tool_files::{Heard, Loaded};
 use tool_loads::LONGEST_TEXT;
 use tool_press::Press;
 use tool_row::{Put, ROW_ROOM};
 
+// One read of the link takes so many bytes.
+const CHUNK: usize = 4096;
+
+// The longest font.
+const ROOM: usize = 65536;
+
 // No link gives more reads than bytes are counted.
 const MOST_READS: u64 = 0xFFFF_FFFF_FFFF_FFFF;
 
 // How far the listing is, and whether standard output took it whole so far.
-#[derive(Drop)]
+#[derive(Clone, Copy)]
 struct Written {
     press: Press,
     whole: bool,
 }
 
-fn complain(text: &[u8]) {
-    io::write_all(STDERR_FILENO, text);
+fn complain(rt: &impl Eprint, text: &str) {
+    let _ = rt.eprint(text);
 }
 
 // The first bytes of a buffer, in one write; false where standard output does not take them whole: a listing with a hole in it would be a guess, so it
 // stops there. Nothing is written where there is no row.
-fn say(buffer: &[u8], length: usize) -> bool {
+fn say(rt: &impl Print, buffer: &[u8], length: usize) -> bool {
     if length == 0 {
         return true;
     }
@@ -34,11 +43,12 @@ fn say(buffer: &[u8], length: usize) -> bool {
     if length > buffer.len() {
         return false;
     }
-    io::write_all(STDOUT_FILENO, &buffer[0..length])
+    rt.write_all(&buffer[0..length]).is_ok()
 }
 
 // Every row that a piece closes.
 fn list_piece(
+    rt: &impl Print,
     window: &mut [u8; LONGEST_STRETCH],
     press: Press,
     piece: &[u8],
@@ -53,7 +63,7 @@ fn list_piece(
         let answer = turn.answer;
         let took = turn.took;
         now = turn.press;
-        if !say(&row, tool_press::pressed_length(answer)) {
+        if !say(rt, &row, tool_press::pressed_length(answer)) {
             return Written {
                 press: now,
                 whole: false,
@@ -81,30 +91,31 @@ fn list_piece(
 }
 
 // The last row, whatever ended the run.
-fn list_last(press: Press) {
+fn list_last(rt: &(impl Print + Eprint), press: Press) {
     let mut row = [0u8; ROW_ROOM];
     let put = tool_row::put_last(press.lines, press.refused, &mut row);
     let Put::Row(n) = put else {
         return;
     };
-    if !say(&row, n) {
-        stop_short();
+    if !say(rt, &row, n) {
+        stop_short(rt);
     }
 }
 
 // Standard output takes no more: what was listed has no end.
-fn stop_short() {
-    complain(b"listing not written whole\n");
+fn stop_short(rt: &impl Eprint) {
+    complain(rt, "listing not written whole\n");
 }
 
 // A read failed for good: said behind the last row.
-fn list_failed(press: Press) {
-    list_last(press);
-    complain(b"standard input can't be read on\n");
+fn list_failed(rt: &(impl Print + Eprint), press: Press) {
+    list_last(rt, press);
+    complain(rt, "standard input can't be read on\n");
 }
 
 // The rows of the bytes that a read gave.
 fn list_heard(
+    rt: &impl Print,
     window: &mut [u8; LONGEST_STRETCH],
     press: Press,
     chunk: &[u8],
@@ -119,70 +130,70 @@ fn list_heard(
             whole: false,
         };
     }
-    list_piece(window, press, &chunk[0..n], key, font)
+    list_piece(rt, window, press, &chunk[0..n], key, font)
 }
 
 // Reads until the link ends; a read that fails ends it too, and is said behind the last row.
-fn list(key: &[u8], font: &[u8]) {
+fn list(rt: &(impl Print + Eprint), link: &mut impl Read, key: &[u8], font: &[u8]) {
     let mut window = [0u8; LONGEST_STRETCH];
-    let mut chunk = io::buffer();
+    let mut chunk = [0u8; CHUNK];
     let mut press = tool_press::start();
-    let mut turns = MOST_READS;
-    while turns > 0 {
-        match tool_files::hear(STDIN_FILENO, &mut chunk) {
+    for _ in 0..MOST_READS {
+        match tool_files::hear(link, &mut chunk) {
             Heard::Some(n) => {
-                let written = list_heard(&mut window, press, &chunk, n, key, font);
+                let written = list_heard(rt, &mut window, press, &chunk, n, key, font);
                 press = written.press;
                 let whole = written.whole;
                 if !whole {
-                    stop_short();
+                    stop_short(rt);
                     return;
                 }
-                turns -= 1;
             }
-            Heard::Again => {
-                turns -= 1;
-            }
+            Heard::Again => {}
             Heard::End => {
-                list_last(press);
+                list_last(rt, press);
                 return;
             }
             Heard::Failed => {
-                list_failed(press);
+                list_failed(rt, press);
                 return;
             }
         }
     }
-    list_last(press);
+    list_last(rt, press);
 }
 
 // Whether something is said in place of a listing; it is said.
-fn refused(key: Loaded, font: Loaded) -> bool {
+fn refused(rt: &impl Print, key: Loaded, font: Loaded) -> bool {
     let text = tool_loads::said(key, font, Loaded::Bytes(0));
     let length = text.length;
     if length == 0 {
         return false;
     }
     let bytes: [u8; LONGEST_TEXT] = text.bytes;
-    say(&bytes, length);
+    say(rt, &bytes, length);
     true
 }
 
-fn main() {
-    if os::arg_count() > 1 {
-        complain(b"usage: press < link\n");
-        return;
-    }
+// The listing of what the key, the font and the link have, or what is said in its place.
+fn list_files(rt: &(impl Files + Print + Eprint), link: &mut impl Read) {
     let mut key = [0u8; KEY_LENGTH];
     let mut font = [0u8; DIGEST];
-    // Of 65,536 bytes: the longest font.
-    let mut buffer = io::large_buffer();
-    let key_load = tool_files::load(b"key.bin", &mut key);
-    let font_load = tool_files::load(b"font.bin", &mut buffer);
+    let mut buffer = [0u8; ROOM];
+    let key_load = tool_files::load(rt, b"key.bin", &mut key);
+    let font_load = tool_files::load(rt, b"font.bin", &mut buffer);
     // There is a digest exactly where the font is not refused.
     tool_key_font::digest_font(font_load, &buffer, &mut font);
-    if refused(key_load, font_load) {
+    if refused(rt, key_load, font_load) {
         return;
     }
-    list(&key, &font);
+    list(rt, link, &key, &font);
+}
+
+fn main(rt: HostRuntime) {
+    if tool_files::word_count(&rt) > 1 {
+        complain(&rt, "usage: press < link\n");
+        return;
+    }
+    list_files(&rt, &mut rt.stdin());
 }

@@ -1,9 +1,12 @@
 // Prints the rows that the second program makes of its own streams (tests/second, src/rows/accept.rs): for each case on standard input what accepting its
 // stream gives, or the nonce of its bytes. A case is its head, its name, and the first and the last of its bytes, with one byte again and again between
 // them.
+#![tactic(auto)]
+
 use accept_call::accept_number;
 use line_layout::layout_of;
 use rows_case::{MOST_CASES, cell, number_in, part, say};
+use std::io::Read;
 
 // The head of a case has so many bytes.
 const HEAD: usize = 40;
@@ -12,7 +15,7 @@ const HEAD: usize = 40;
 const NONCE: usize = 1;
 
 // Of a stream: the lengths of key and font digest, the editions and the layout.
-#[derive(Drop)]
+#[derive(Clone, Copy)]
 struct Asked {
     key: usize,
     font: usize,
@@ -30,7 +33,7 @@ fn asked_in(head: &[u8]) -> Asked {
 }
 
 // What accepting gives.
-fn accept_row(asked: Asked, stream: &[u8]) {
+fn accept_row(rt: &impl Print, asked: Asked, stream: &[u8]) {
     let key = rows_case::key();
     let font = rows_case::font();
     let accepted = accept_call::accept(
@@ -41,22 +44,23 @@ fn accept_row(asked: Asked, stream: &[u8]) {
         layout_of(asked.layout),
     );
     let answer = accepted.answer;
-    cell(accept_number(answer) as usize);
-    cell(accepted.first);
-    cell(accepted.closing);
+    cell(rt, accept_number(answer) as usize);
+    cell(rt, accepted.first);
+    cell(rt, accepted.closing);
 }
 
 // The nonce of the bytes.
-fn nonce_row(stretch: &[u8]) {
+fn nonce_row(rt: &impl Print, stretch: &[u8]) {
     let nonce = read_nonce::nonce_of(stretch);
     let bytes = nonce.bytes;
-    cell(nonce.found as usize);
-    rows_case::hex_cell(&bytes);
+    cell(rt, nonce.found as usize);
+    rows_case::hex_cell(rt, &bytes);
 }
 
 // The row of a case behind its name, with a buffer of its bytes' length; false where they can't be read. Numbers 2 to 4 of a head say which bytes.
-fn row(head: &[u8], bytes: &mut [u8]) -> bool {
+fn row(rt: &impl Print, input: &mut impl Read, head: &[u8], bytes: &mut [u8]) -> bool {
     if !rows_case::around_taken(
+        input,
         bytes,
         number_in(head, 2),
         number_in(head, 3),
@@ -65,38 +69,36 @@ fn row(head: &[u8], bytes: &mut [u8]) -> bool {
         return false;
     }
     if number_in(head, 9) == NONCE {
-        nonce_row(bytes);
+        nonce_row(rt, bytes);
     } else {
-        accept_row(asked_in(head), bytes);
+        accept_row(rt, asked_in(head), bytes);
     }
-    say(b"\n");
+    say(rt, b"\n");
     true
 }
 
 // One case from standard input; false where there is none left. Its head begins with the lengths of its name and of its bytes.
-fn one(buffer: &mut [u8]) -> bool {
+fn one(rt: &impl Print, input: &mut impl Read, buffer: &mut [u8]) -> bool {
     let mut head = [0u8; HEAD];
-    if !rows_case::taken(&mut head) {
+    if !rows_case::taken(input, &mut head) {
         return false;
     }
     let n = number_in(&head, 1);
     if n > buffer.len() {
         return false;
     }
-    if !rows_case::name_passed(number_in(&head, 0)) {
+    if !rows_case::name_passed(rt, input, number_in(&head, 0)) {
         return false;
     }
-    row(&head, &mut buffer[0..n])
+    row(rt, input, &head, &mut buffer[0..n])
 }
 
-fn main() {
+fn main(rt: HostRuntime) {
+    let mut input = rt.stdin();
     let mut buffer = rows_case::buffer();
-    let mut left: usize = MOST_CASES;
-    while left > 0 {
-        if one(&mut buffer) {
-            left -= 1;
-        } else {
-            left = 0;
+    for _ in 0..MOST_CASES {
+        if !one(&rt, &mut input, &mut buffer) {
+            return;
         }
     }
 }

@@ -2,7 +2,10 @@
 // case on standard input. A case is its head, its name and two parts: of the writer the bundle's name and the rows, of the other calls the
 // bundle and, for rows, the character. The head has the lengths of those, the room for what comes out, and the call: 0 to write, 1 to
 // read, 2 to digest, 3 for the name, 4 for the rows; four bytes each, the high byte first.
+#![tactic(auto)]
+
 use rows_case::{MOST_CASES, cell, end_in, number_in, part, say};
+use std::io::Read;
 
 // The head of a case has so many bytes; and the longest room that a case has.
 const HEAD: usize = 20;
@@ -22,7 +25,7 @@ const NAMES: usize = 3;
 const ROWS: usize = 4;
 
 // Where the name and the parts of a case end in its bytes, its room and its call.
-#[derive(Drop)]
+#[derive(Clone, Copy)]
 struct Case {
     name: usize,
     one: usize,
@@ -32,37 +35,37 @@ struct Case {
 }
 
 // The row's last cell.
-fn hex(bytes: &[u8]) {
-    rows_case::hex_cell(bytes);
-    say(b"\n");
+fn hex(rt: &impl Print, bytes: &[u8]) {
+    rows_case::hex_cell(rt, bytes);
+    say(rt, b"\n");
 }
 
-fn written(name: &[u8], rows: &[u8], out: &mut [u8]) {
+fn written(rt: &impl Print, name: &[u8], rows: &[u8], out: &mut [u8]) {
     let answer = bundle_write::write(name, rows, out);
-    cell(bundle_write::write_number(answer) as usize);
-    cell(bundle_write::write_length(answer));
-    hex(out);
+    cell(rt, bundle_write::write_number(answer) as usize);
+    cell(rt, bundle_write::write_length(answer));
+    hex(rt, out);
 }
 
-fn read(bundle: &[u8]) {
+fn read(rt: &impl Print, bundle: &[u8]) {
     let answer = bundle_read::read(bundle);
-    cell(bundle_write::read_number(answer) as usize);
-    cell(bundle_write::read_length(answer));
-    hex(b"");
+    cell(rt, bundle_write::read_number(answer) as usize);
+    cell(rt, bundle_write::read_length(answer));
+    hex(rt, b"");
 }
 
-fn digested(bundle: &[u8], out: &mut [u8]) {
+fn digested(rt: &impl Print, bundle: &[u8], out: &mut [u8]) {
     let answer = bundle_write::digest_of(bundle, out);
-    cell(bundle_write::digest_number(answer) as usize);
-    cell(0);
-    hex(out);
+    cell(rt, bundle_write::digest_number(answer) as usize);
+    cell(rt, 0);
+    hex(rt, out);
 }
 
 // Where a part stands, how long it is, and its bytes.
-fn placed(first: usize, bytes: &[u8]) {
-    cell(first);
-    cell(bytes.len());
-    hex(bytes);
+fn placed(rt: &impl Print, first: usize, bytes: &[u8]) {
+    cell(rt, first);
+    cell(rt, bytes.len());
+    hex(rt, bytes);
 }
 
 fn character(bytes: &[u8]) -> u8 {
@@ -72,33 +75,39 @@ fn character(bytes: &[u8]) -> u8 {
     bytes[0]
 }
 
-fn called(call: usize, one: &[u8], two: &[u8], out: &mut [u8]) {
+fn called(rt: &impl Print, call: usize, one: &[u8], two: &[u8], out: &mut [u8]) {
     if call == READS {
-        read(one);
+        read(rt, one);
     } else if call == DIGESTS {
-        digested(one, out);
+        digested(rt, one, out);
     } else if call == NAMES {
-        placed(bundle_write::name_part(one).first, bundle_write::name(one));
+        placed(
+            rt,
+            bundle_write::name_part(one).first,
+            bundle_write::name(one),
+        );
     } else if call == ROWS {
         let c = character(two);
         placed(
+            rt,
             bundle_write::rows_part(one, c).first,
             bundle_write::rows(one, c),
         );
     } else {
-        written(one, two, out);
+        written(rt, one, two, out);
     }
 }
 
 // The row of a case, with a room of the length that it asks for.
-fn case_row(c: Case, all: &[u8]) {
+fn case_row(rt: &impl Print, c: Case, all: &[u8]) {
     let mut out = [BEFORE; LONGEST_ROOM];
     let room = c.room;
     if room > LONGEST_ROOM {
         return;
     }
-    say(part(all, 0, c.name));
+    say(rt, part(all, 0, c.name));
     called(
+        rt,
         c.call,
         part(all, c.name, c.one),
         part(all, c.one, c.two),
@@ -119,27 +128,25 @@ fn case_of(h: &[u8]) -> Case {
 }
 
 // One case from standard input; false where there is none left.
-fn one(buffer: &mut [u8]) -> bool {
+fn one(rt: &impl Print, input: &mut impl Read, buffer: &mut [u8]) -> bool {
     let mut head = [0u8; HEAD];
-    if !rows_case::taken(&mut head) {
+    if !rows_case::taken(input, &mut head) {
         return false;
     }
     let c = case_of(&head);
-    if !rows_case::part_taken(buffer, 0, c.two) {
+    if !rows_case::part_taken(input, buffer, 0, c.two) {
         return false;
     }
-    case_row(c, buffer);
+    case_row(rt, c, buffer);
     true
 }
 
-fn main() {
+fn main(rt: HostRuntime) {
+    let mut input = rt.stdin();
     let mut buffer = rows_case::buffer();
-    let mut left: usize = MOST_CASES;
-    while left > 0 {
-        if one(&mut buffer) {
-            left -= 1;
-        } else {
-            left = 0;
+    for _ in 0..MOST_CASES {
+        if !one(&rt, &mut input, &mut buffer) {
+            return;
         }
     }
 }

@@ -1,6 +1,6 @@
 -- What a case on a standard input says: the numbers of its head, of four bytes each, and the parts of its bytes.
 -- Assumes nothing: these are definitions.
-use Rattle.std.specs.Prelude.{ℕ, ◌+◌, ◌-◌, ◌*◌, ◌/◌, ◌%◌, ◌^◌, Bool, false, cond, List, [], length, replicate, nat_le, nat_lt, slice_index, slice_range}
+use Rattle.std.specs.Prelude.{ℕ, ◌+◌, ◌*◌, ◌/◌, ◌%◌, ◌^◌, Bool, false, cond, List, [], length, replicate, nat_le, nat_lt, slice_index, slice_range}
 use Rattle.base_ramp.specs.Rule.{ramp}
 
 -- four bytes as a number, the high byte first

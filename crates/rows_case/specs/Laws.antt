@@ -1,8 +1,8 @@
 -- The cases of a head's number and of a part, one law for each return. Assumes nothing.
-use Rattle.std.specs.Prelude.{◌≡◌, ℕ, ◌-◌, ◌*◌, ◌/◌, ◌<◌, ◌≤◌, Bool, true, false, leb, List, [], length, take, drop, refl}
+use Rattle.std.specs.Prelude.{◌≡◌, ℕ, ◌-◌, ◌*◌, ◌/◌, ◌<◌, ◌≤◌, List, [], length, take, drop}
 use Rattle.std.proofs.Common.{le-leb, lt-ltb, le-ltb}
 use Rattle.std.proofs.lemmas.Bool.{lt-leb}
-use Rattle.rows_case.specs.Cases.{number_at, number_in, in_order, part_in, part_start}
+use Rattle.rows_case.specs.Cases.{number_at, number_in, part_in, part_start}
 
 pub number_past : (h : List ℕ) (i : ℕ) → length h / 4 ≤ i → 0 ≡ number_in h i
 unfolding number_in

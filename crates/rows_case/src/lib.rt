@@ -1,10 +1,12 @@
 // What the rows' programs share: the cases on standard input, which begin with a head of numbers of four bytes each, the high byte first, and
 // the rows on standard output, cells with a blank before each. What a head says, which bytes a part has, and the rules' key and font digest are
 // promised (specs/Cases.antt); the calls that read and print decide nothing.
+#![tactic(auto)]
+
 ghost use Rattle.std.specs.Prelude.{◌≡◌, ◌+◌, length};
 ghost use Rattle.rows_case.specs.Cases.{four_bytes, number_in, end_in, part_in, part_start, rule_key, rule_font, no_bytes};
 
-use libc::{STDIN_FILENO, STDOUT_FILENO};
+use std::io::Read;
 
 // More cases than any standard input has: where it ends, so do the rows.
 pub const MOST_CASES: usize = 10000;
@@ -91,13 +93,13 @@ pub fn buffer() -> [u8; LONGEST_CASE]
     [0; LONGEST_CASE]
 }
 
-// Fills all of a buffer from standard input; false where there are not that many bytes.
-pub fn taken(buffer: &mut [u8]) -> bool {
-    io::read_full(STDIN_FILENO, buffer) == buffer.len()
+// Fills all of a buffer; false where there are not that many bytes to read.
+pub fn taken(input: &mut impl Read, buffer: &mut [u8]) -> bool {
+    input.read_exact(buffer).is_ok()
 }
 
 // The same over a part of a buffer; false too where it has no such part.
-pub fn part_taken(buffer: &mut [u8], from: usize, length: usize) -> bool {
+pub fn part_taken(input: &mut impl Read, buffer: &mut [u8], from: usize, length: usize) -> bool {
     if from > buffer.len() {
         return false;
     }
@@ -105,51 +107,57 @@ pub fn part_taken(buffer: &mut [u8], from: usize, length: usize) -> bool {
         return false;
     }
     let to = from + length;
-    taken(&mut buffer[from..to])
+    taken(input, &mut buffer[from..to])
 }
 
-// Bytes over the whole of a buffer: the first and the last from standard input, and one byte again and again between them.
-pub fn around_taken(buffer: &mut [u8], first: usize, last: usize, between: usize) -> bool {
-    let behind = std::num::wrapping_sub_usize(buffer.len(), last);
+// Bytes over the whole of a buffer: the first and the last are read, and one byte again and again stands between them.
+pub fn around_taken(
+    input: &mut impl Read,
+    buffer: &mut [u8],
+    first: usize,
+    last: usize,
+    between: usize,
+) -> bool {
+    let behind = buffer.len().wrapping_sub(last);
     base_ramp::fill(buffer, (between % 256) as u8, 0);
-    if !part_taken(buffer, 0, first) {
+    if !part_taken(input, buffer, 0, first) {
         return false;
     }
-    part_taken(buffer, behind, last)
+    part_taken(input, buffer, behind, last)
 }
 
 // Reads a name of so many bytes and prints it; false where it can't be read.
-pub fn name_passed(length: usize) -> bool {
+pub fn name_passed(rt: &impl Print, input: &mut impl Read, length: usize) -> bool {
     let mut name = [0u8; LONGEST_NAME];
-    if !part_taken(&mut name, 0, length) {
+    if !part_taken(input, &mut name, 0, length) {
         return false;
     }
-    say(part(&name, 0, length));
+    say(rt, part(&name, 0, length));
     true
 }
 
-pub fn say(text: &[u8]) {
-    io::write_all(STDOUT_FILENO, text);
+pub fn say(rt: &impl Print, text: &[u8]) {
+    let _ = rt.write_all(text);
 }
 
 // A number in decimal.
-pub fn number(n: usize) {
-    io::print_decimal(STDOUT_FILENO, n as u64);
+pub fn number(rt: &impl Print, n: usize) {
+    let _ = rt.print(n);
 }
 
 // A blank, and a number behind it.
-pub fn cell(n: usize) {
-    say(b" ");
-    number(n);
+pub fn cell(rt: &impl Print, n: usize) {
+    say(rt, b" ");
+    number(rt, n);
 }
 
 // A blank, and bytes in hexadecimal behind it, or - where there are none.
-pub fn hex_cell(bytes: &[u8]) {
+pub fn hex_cell(rt: &impl Print, bytes: &[u8]) {
     let mut digits = [0u8; 2 * MOST_SHOWN];
     let n = base_hex::put_hex(bytes, &mut digits);
-    say(b" ");
+    say(rt, b" ");
     if n == 0 {
-        say(b"-");
+        say(rt, b"-");
     }
-    say(part(&digits, 0, n));
+    say(rt, part(&digits, 0, n));
 }

@@ -1,9 +1,12 @@
 // Prints the rows that the second program makes of its own streams (tests/second, src/rows/desk.rs): for each case on standard input what the desk answers,
 // and the digest of its output. A case is its head, its name, and the first and the last of its stream's bytes, with one byte again and again between
 // them. The table is the stream's own index, with one entry changed where the case says so.
+#![tactic(auto)]
+
 use line_layout::layout_of;
 use read_call::LONGEST_STREAM;
 use rows_case::{MOST_CASES, cell, hex_cell, number_in, part, say};
+use std::io::Read;
 
 // The head of a case has so many bytes; and the longest table and list that a case has.
 const HEAD: usize = 76;
@@ -30,7 +33,7 @@ const INSTANCE: usize = 1;
 const DIGEST_LENGTH: usize = 32;
 
 // The lengths of key and font digest, the editions, the layout and the table's count.
-#[derive(Drop)]
+#[derive(Clone, Copy)]
 struct Told {
     key: usize,
     font: usize,
@@ -50,7 +53,14 @@ fn told_in(head: &[u8]) -> Told {
 }
 
 // What the desk answers, and the digest of its output.
-fn desk_row(told: Told, stream: &[u8], table: &[u32], list: &[u32], out: &mut [u8]) {
+fn desk_row(
+    rt: &impl Print,
+    told: Told,
+    stream: &[u8],
+    table: &[u32],
+    list: &[u32],
+    out: &mut [u8],
+) {
     let key = rows_case::key();
     let font = rows_case::font();
     let mut digest = [0u8; DIGEST_LENGTH];
@@ -67,20 +77,20 @@ fn desk_row(told: Told, stream: &[u8], table: &[u32], list: &[u32], out: &mut [u
     );
     let report = desk_call::desk_report(answer);
     digest_call::digest(INSTANCE, out, &mut digest);
-    cell(report.number as usize);
-    cell(report.length);
-    cell(report.item);
-    hex_cell(&digest);
+    cell(rt, report.number as usize);
+    cell(rt, report.length);
+    cell(rt, report.item);
+    hex_cell(rt, &digest);
 }
 
 // The same with an output of the room that number 18 says.
-fn room_row(head: &[u8], stream: &[u8], table: &[u32], list: &[u32]) {
+fn room_row(rt: &impl Print, head: &[u8], stream: &[u8], table: &[u32], list: &[u32]) {
     let mut out = [PAINT; LONGEST_STREAM];
     let room = number_in(head, 18);
     if room > LONGEST_STREAM {
         return;
     }
-    desk_row(told_in(head), stream, table, list, &mut out[0..room]);
+    desk_row(rt, told_in(head), stream, table, list, &mut out[0..room]);
 }
 
 fn entry_in(head: &[u8], i: usize) -> u32 {
@@ -95,7 +105,7 @@ fn put(table: &mut [u32], at: usize, entry: u32) {
 }
 
 // The same with its list: numbers 13 to 17 say how many items come first and which, how many behind them and which two.
-fn list_row(head: &[u8], stream: &[u8], table: &[u32]) {
+fn list_row(rt: &impl Print, head: &[u8], stream: &[u8], table: &[u32]) {
     let mut list = [entry_in(head, 14); LONGEST_LIST];
     let many = number_in(head, 13);
     let items = std::num::wrapping_add_usize(many, number_in(head, 15));
@@ -108,7 +118,7 @@ fn list_row(head: &[u8], stream: &[u8], table: &[u32]) {
         std::num::wrapping_add_usize(many, 1),
         entry_in(head, 17),
     );
-    room_row(head, stream, table, &list[0..items]);
+    room_row(rt, head, stream, table, &list[0..items]);
 }
 
 // The stream's own index, under the rules' key and font digest.
@@ -127,7 +137,7 @@ fn indexed(stream: &[u8], table: &mut [u32]) {
 }
 
 // The same with that index: number 9 says its length, 11 and 12 which entry is another and what it is then.
-fn table_row(head: &[u8], stream: &[u8]) {
+fn table_row(rt: &impl Print, head: &[u8], stream: &[u8]) {
     let mut table = [0u32; LONGEST_TABLE];
     let entries = number_in(head, 9);
     if entries > LONGEST_TABLE {
@@ -135,12 +145,13 @@ fn table_row(head: &[u8], stream: &[u8]) {
     }
     indexed(stream, &mut table);
     put(&mut table, number_in(head, 11), entry_in(head, 12));
-    list_row(head, stream, &table[0..entries]);
+    list_row(rt, head, stream, &table[0..entries]);
 }
 
 // The row of a case behind its name, with a buffer of its stream's length; false where it can't be read. Numbers 2 to 4 of a head say which bytes.
-fn row(head: &[u8], stream: &mut [u8]) -> bool {
+fn row(rt: &impl Print, input: &mut impl Read, head: &[u8], stream: &mut [u8]) -> bool {
     if !rows_case::around_taken(
+        input,
         stream,
         number_in(head, 2),
         number_in(head, 3),
@@ -148,35 +159,33 @@ fn row(head: &[u8], stream: &mut [u8]) -> bool {
     ) {
         return false;
     }
-    table_row(head, stream);
-    say(b"\n");
+    table_row(rt, head, stream);
+    say(rt, b"\n");
     true
 }
 
 // One case from standard input; false where there is none left. Its head begins with the lengths of its name and of its stream.
-fn one(buffer: &mut [u8]) -> bool {
+fn one(rt: &impl Print, input: &mut impl Read, buffer: &mut [u8]) -> bool {
     let mut head = [0u8; HEAD];
-    if !rows_case::taken(&mut head) {
+    if !rows_case::taken(input, &mut head) {
         return false;
     }
     let n = number_in(&head, 1);
     if n > buffer.len() {
         return false;
     }
-    if !rows_case::name_passed(number_in(&head, 0)) {
+    if !rows_case::name_passed(rt, input, number_in(&head, 0)) {
         return false;
     }
-    row(&head, &mut buffer[0..n])
+    row(rt, input, &head, &mut buffer[0..n])
 }
 
-fn main() {
+fn main(rt: HostRuntime) {
+    let mut input = rt.stdin();
     let mut buffer = rows_case::buffer();
-    let mut left: usize = MOST_CASES;
-    while left > 0 {
-        if one(&mut buffer) {
-            left -= 1;
-        } else {
-            left = 0;
+    for _ in 0..MOST_CASES {
+        if !one(&rt, &mut input, &mut buffer) {
+            return;
         }
     }
 }

@@ -2,9 +2,12 @@
 // table and the count that the call before it left. A case is its head, its name, and the first and the last bytes of its stream, with one byte again and
 // again between them. The calls are 0 to bring up to date, 1 for an entry (its index), 2 for a line (which), 3 to set the table (its length, the count, what
 // each entry holds, and the last below the count).
+#![tactic(auto)]
+
 use index_entry::{number_of, place_of};
 use line_layout::layout_of;
 use rows_case::{MOST_CASES, cell, number_in, part, say};
+use std::io::Read;
 
 // The head of a case has so many bytes; and the longest table that a case has.
 const HEAD: usize = 56;
@@ -22,14 +25,14 @@ const SETS: usize = 3;
 const ENTRIES: usize = 0x1_0000_0000;
 
 // How many entries the table has, and how many of them are recorded.
-#[derive(Drop)]
+#[derive(Clone, Copy)]
 struct Index {
     entries: usize,
     count: usize,
 }
 
 // What bringing up to date is told: the lengths of key and font digest, the editions and the layout.
-#[derive(Drop)]
+#[derive(Clone, Copy)]
 struct Told {
     key: usize,
     font: usize,
@@ -47,31 +50,30 @@ fn told_in(h: &[u8]) -> Told {
 }
 
 // Of an entry that is another than it was its index, place and number.
-fn change(i: usize, entry: u32, before: u32) {
+fn change(rt: &impl Print, i: usize, entry: u32, before: u32) {
     if entry == before {
         return;
     }
-    cell(i);
-    cell(place_of(entry));
-    cell(number_of(entry) as usize);
+    cell(rt, i);
+    cell(rt, place_of(entry));
+    cell(rt, number_of(entry) as usize);
 }
 
 // The same of each entry, which is then kept as it is.
-fn changes(table: &[u32], kept: &mut [u32]) {
-    let mut i = 0;
-    while i < table.len() {
+fn changes(rt: &impl Print, table: &[u32], kept: &mut [u32]) {
+    for i in 0..table.len() {
         if i >= kept.len() {
             return;
         }
         let entry = table[i];
-        change(i, entry, kept[i]);
+        change(rt, i, entry, kept[i]);
         kept[i] = entry;
-        i += 1;
     }
 }
 
 // The number and the new count, and what was changed.
 fn update_row(
+    rt: &impl Print,
     told: Told,
     stream: &[u8],
     count: usize,
@@ -90,32 +92,30 @@ fn update_row(
         count,
     );
     let answer = updated.answer;
-    cell(index_call::update_number(answer) as usize);
-    cell(updated.count);
-    changes(table, kept);
+    cell(rt, index_call::update_number(answer) as usize);
+    cell(rt, updated.count);
+    changes(rt, table, kept);
     updated.count
 }
 
-fn entry_row(table: &[u32], count: usize, index: usize) {
+fn entry_row(rt: &impl Print, table: &[u32], count: usize, index: usize) {
     let entry = index_entry::entry_at(table, count, index);
-    cell(entry.there as usize);
-    cell(entry.place);
-    cell(entry.number as usize);
+    cell(rt, entry.there as usize);
+    cell(rt, entry.place);
+    cell(rt, entry.number as usize);
 }
 
-fn line_row(table: &[u32], count: usize, k: usize) {
+fn line_row(rt: &impl Print, table: &[u32], count: usize, k: usize) {
     let line = index_entry::line_at(table, count, k);
-    cell(line.there as usize);
-    cell(line.index as usize);
-    cell(line.place);
+    cell(rt, line.there as usize);
+    cell(rt, line.index as usize);
+    cell(rt, line.place);
 }
 
 // All entries alike.
 fn fill(table: &mut [u32], entry: u32) {
-    let mut i = 0;
-    while i < table.len() {
+    for i in 0..table.len() {
         table[i] = entry;
-        i += 1;
     }
 }
 
@@ -135,36 +135,44 @@ fn entry_in(h: &[u8], i: usize) -> u32 {
 }
 
 // The table set anew.
-fn set_row(h: &[u8], table: &mut [u32], kept: &mut [u32]) -> Index {
+fn set_row(rt: &impl Print, h: &[u8], table: &mut [u32], kept: &mut [u32]) -> Index {
     let entries = number_in(h, 10);
     let count = number_in(h, 11);
     fill(table, entry_in(h, 12));
     fill(kept, entry_in(h, 12));
     put_last(table, count, entry_in(h, 13));
     put_last(kept, count, entry_in(h, 13));
-    cell(entries);
-    cell(count);
+    cell(rt, entries);
+    cell(rt, count);
     Index { entries, count }
 }
 
-fn called(index: Index, h: &[u8], stream: &[u8], table: &mut [u32], kept: &mut [u32]) -> Index {
+fn called(
+    rt: &impl Print,
+    index: Index,
+    h: &[u8],
+    stream: &[u8],
+    table: &mut [u32],
+    kept: &mut [u32],
+) -> Index {
     let call = number_in(h, 9);
     let entries = index.entries;
     if call == SETS {
-        return set_row(h, table, kept);
+        return set_row(rt, h, table, kept);
     }
     if entries > table.len() {
         return index;
     }
     if call == ENTRY {
-        entry_row(&table[0..entries], index.count, number_in(h, 10));
+        entry_row(rt, &table[0..entries], index.count, number_in(h, 10));
         return index;
     }
     if call == LINE {
-        line_row(&table[0..entries], index.count, number_in(h, 10));
+        line_row(rt, &table[0..entries], index.count, number_in(h, 10));
         return index;
     }
     let count = update_row(
+        rt,
         told_in(h),
         stream,
         index.count,
@@ -175,24 +183,47 @@ fn called(index: Index, h: &[u8], stream: &[u8], table: &mut [u32], kept: &mut [
 }
 
 // The row of a case behind its name, with a buffer of its stream's length.
-fn row(index: Index, h: &[u8], stream: &mut [u8], table: &mut [u32], kept: &mut [u32]) -> Index {
-    rows_case::around_taken(stream, number_in(h, 2), number_in(h, 3), number_in(h, 4));
-    let left = called(index, h, stream, table, kept);
-    say(b"\n");
+fn row(
+    rt: &impl Print,
+    input: &mut impl Read,
+    index: Index,
+    h: &[u8],
+    stream: &mut [u8],
+    table: &mut [u32],
+    kept: &mut [u32],
+) -> Index {
+    rows_case::around_taken(
+        input,
+        stream,
+        number_in(h, 2),
+        number_in(h, 3),
+        number_in(h, 4),
+    );
+    let left = called(rt, index, h, stream, table, kept);
+    say(rt, b"\n");
     left
 }
 
 // A case whose head was read, and what it leaves. Its head begins with the lengths of its name and of its stream.
-fn one(index: Index, h: &[u8], buffer: &mut [u8], table: &mut [u32], kept: &mut [u32]) -> Index {
+fn one(
+    rt: &impl Print,
+    input: &mut impl Read,
+    index: Index,
+    h: &[u8],
+    buffer: &mut [u8],
+    table: &mut [u32],
+    kept: &mut [u32],
+) -> Index {
     let n = number_in(h, 1);
     if n > buffer.len() {
         return index;
     }
-    rows_case::name_passed(number_in(h, 0));
-    row(index, h, &mut buffer[0..n], table, kept)
+    rows_case::name_passed(rt, input, number_in(h, 0));
+    row(rt, input, index, h, &mut buffer[0..n], table, kept)
 }
 
-fn main() {
+fn main(rt: HostRuntime) {
+    let mut input = rt.stdin();
     let mut buffer = rows_case::buffer();
     let mut table = [0u32; LONGEST_TABLE];
     let mut kept = [0u32; LONGEST_TABLE];
@@ -200,14 +231,19 @@ fn main() {
         entries: 0,
         count: 0,
     };
-    let mut left: usize = MOST_CASES;
-    while left > 0 {
+    for _ in 0..MOST_CASES {
         let mut head = [0u8; HEAD];
-        if rows_case::taken(&mut head) {
-            index = one(index, &head, &mut buffer, &mut table, &mut kept);
-            left -= 1;
-        } else {
-            left = 0;
+        if !rows_case::taken(&mut input, &mut head) {
+            return;
         }
+        index = one(
+            &rt,
+            &mut input,
+            index,
+            &head,
+            &mut buffer,
+            &mut table,
+            &mut kept,
+        );
     }
 }

@@ -1,11 +1,14 @@
 // Prints the rows that the second program makes of its own traces (tests/second, src/rows/replay.rs): for each case on standard input what a replay of its
 // trace gives and leaves, or what stood at an event. A case is its head, its name, and the first and the last of its bytes, with one byte again and again
 // between them.
+#![tactic(auto)]
+
 ghost use Rattle.std.specs.Prelude.{◌≡◌, length};
 
 use line_layout::layout_of;
 use replay_call::replay_number;
 use rows_case::{MOST_CASES, cell, hex_cell, number_in, part, say};
+use std::io::Read;
 
 // The head of a case has so many bytes.
 const HEAD: usize = 48;
@@ -24,7 +27,7 @@ const INSTANCE: usize = 10;
 const DIGEST_LENGTH: usize = 32;
 
 // The lengths of key and font digest, the editions, the layout and the event.
-#[derive(Drop)]
+#[derive(Clone, Copy)]
 struct Asked {
     key: usize,
     font: usize,
@@ -51,20 +54,20 @@ fn painted() -> [u8; ROOM]
 }
 
 // What a call left in a buffer: the digest of what was received, and whether all behind it is as it was, 1 or 0.
-fn left(stream: &[u8], received: usize) {
+fn left(rt: &impl Print, stream: &[u8], received: usize) {
     let paint = painted();
     let mut digest = [0u8; DIGEST_LENGTH];
     let n = stream.len();
     digest_call::digest(INSTANCE, part(stream, 0, received), &mut digest);
-    hex_cell(&digest);
+    hex_cell(rt, &digest);
     if base_lists::compare(part(stream, received, n), part(&paint, received, n)) {
-        cell(1);
+        cell(rt, 1);
     } else {
-        cell(0);
+        cell(rt, 0);
     }
 }
 
-fn replay_row(asked: Asked, trace: &[u8], stream: &mut [u8]) {
+fn replay_row(rt: &impl Print, asked: Asked, trace: &[u8], stream: &mut [u8]) {
     let key = rows_case::key();
     let font = rows_case::font();
     let replayed = replay_call::replay(
@@ -76,13 +79,13 @@ fn replay_row(asked: Asked, trace: &[u8], stream: &mut [u8]) {
         stream,
     );
     let answer = replayed.answer;
-    cell(replay_number(answer) as usize);
-    cell(replayed.event);
-    cell(replayed.received);
-    left(stream, replayed.received);
+    cell(rt, replay_number(answer) as usize);
+    cell(rt, replayed.event);
+    cell(rt, replayed.received);
+    left(rt, stream, replayed.received);
 }
 
-fn stood_row(asked: Asked, trace: &[u8], stream: &mut [u8]) {
+fn stood_row(rt: &impl Print, asked: Asked, trace: &[u8], stream: &mut [u8]) {
     let key = rows_case::key();
     let font = rows_case::font();
     let stood = replay_call::stood(
@@ -96,39 +99,40 @@ fn stood_row(asked: Asked, trace: &[u8], stream: &mut [u8]) {
     );
     let answer = stood.answer;
     let line = stood.line;
-    cell(replay_number(answer) as usize);
-    cell(stood.length);
-    cell(stood.place);
-    cell(stood.printed);
-    cell(stood.received);
-    hex_cell(&line);
-    left(stream, stood.received);
+    cell(rt, replay_number(answer) as usize);
+    cell(rt, stood.length);
+    cell(rt, stood.place);
+    cell(rt, stood.printed);
+    cell(rt, stood.received);
+    hex_cell(rt, &line);
+    left(rt, stream, stood.received);
 }
 
 // The cells of a case with its trace and the buffer that it lends. Number 10 of a head says which call.
-fn called(head: &[u8], trace: &[u8], stream: &mut [u8]) {
+fn called(rt: &impl Print, head: &[u8], trace: &[u8], stream: &mut [u8]) {
     if number_in(head, 10) == STOOD {
-        stood_row(asked_in(head), trace, stream);
+        stood_row(rt, asked_in(head), trace, stream);
         return;
     }
-    replay_row(asked_in(head), trace, stream);
+    replay_row(rt, asked_in(head), trace, stream);
 }
 
 // The same with as much of a buffer as number 9 says; false where it has not as much.
-fn lent(head: &[u8], trace: &[u8], buffer: &mut [u8]) -> bool {
+fn lent(rt: &impl Print, head: &[u8], trace: &[u8], buffer: &mut [u8]) -> bool {
     let room = number_in(head, 9);
     if room > buffer.len() {
         return false;
     }
-    called(head, trace, &mut buffer[0..room]);
-    say(b"\n");
+    called(rt, head, trace, &mut buffer[0..room]);
+    say(rt, b"\n");
     true
 }
 
 // The row of a case behind its name, with a buffer of its bytes' length; false where they can't be read. Numbers 2 to 4 of a head say which bytes.
-fn row(head: &[u8], trace: &mut [u8]) -> bool {
+fn row(rt: &impl Print, input: &mut impl Read, head: &[u8], trace: &mut [u8]) -> bool {
     let mut stream = painted();
     if !rows_case::around_taken(
+        input,
         trace,
         number_in(head, 2),
         number_in(head, 3),
@@ -136,33 +140,31 @@ fn row(head: &[u8], trace: &mut [u8]) -> bool {
     ) {
         return false;
     }
-    lent(head, trace, &mut stream)
+    lent(rt, head, trace, &mut stream)
 }
 
 // One case from standard input; false where there is none left. Its head begins with the lengths of its name and of its bytes.
-fn one(buffer: &mut [u8]) -> bool {
+fn one(rt: &impl Print, input: &mut impl Read, buffer: &mut [u8]) -> bool {
     let mut head = [0u8; HEAD];
-    if !rows_case::taken(&mut head) {
+    if !rows_case::taken(input, &mut head) {
         return false;
     }
     let n = number_in(&head, 1);
     if n > buffer.len() {
         return false;
     }
-    if !rows_case::name_passed(number_in(&head, 0)) {
+    if !rows_case::name_passed(rt, input, number_in(&head, 0)) {
         return false;
     }
-    row(&head, &mut buffer[0..n])
+    row(rt, input, &head, &mut buffer[0..n])
 }
 
-fn main() {
+fn main(rt: HostRuntime) {
+    let mut input = rt.stdin();
     let mut buffer = rows_case::buffer();
-    let mut left: usize = MOST_CASES;
-    while left > 0 {
-        if one(&mut buffer) {
-            left -= 1;
-        } else {
-            left = 0;
+    for _ in 0..MOST_CASES {
+        if !one(&rt, &mut input, &mut buffer) {
+            return;
         }
     }
 }

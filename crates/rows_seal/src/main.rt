@@ -2,12 +2,15 @@
 // writing or converting gives for each case on standard input. A case is its head, its name and the call's five parts: key, nonce, associated
 // data (of a frame the font digest), text (or line, or stretch), seal (of a frame the job). The head has the lengths of those, the room for
 // what comes out, which call, the cipher's instance and a frame's layout: four bytes each, the high byte first.
+#![tactic(auto)]
+
 use convert_spec::Converted;
 use digest_call::DIGEST;
 use frame_write::Written;
 use ingage_answers::{Opened, Sealed};
 use line_layout::{Layout, layout_of};
 use rows_case::{MOST_CASES, cell, end_in, hex_cell, number_in, part, say};
+use std::io::Read;
 
 // The head of a case has so many bytes; and the longest room and seal that a case has.
 const HEAD: usize = 40;
@@ -33,7 +36,7 @@ const TO_ONE: usize = 4;
 const TO_TWO: usize = 5;
 
 // Where the name and the parts of a case end in its bytes, its room, its call, its instance and its layout.
-#[derive(Drop)]
+#[derive(Clone, Copy)]
 struct Case {
     name: usize,
     key: usize,
@@ -48,7 +51,7 @@ struct Case {
 }
 
 // The number of a call, the length of a frame, and the count.
-#[derive(Drop)]
+#[derive(Clone, Copy)]
 struct Outcome {
     number: u32,
     length: usize,
@@ -56,14 +59,14 @@ struct Outcome {
 }
 
 // A room, or the digest of one that is too long for a row.
-fn shown(bytes: &[u8]) {
+fn shown(rt: &impl Print, bytes: &[u8]) {
     let mut digest = [0u8; DIGEST];
     if bytes.len() < PRINTED_AS_DIGEST {
-        hex_cell(bytes);
+        hex_cell(rt, bytes);
         return;
     }
     digest_call::digest(1, bytes, &mut digest);
-    hex_cell(&digest);
+    hex_cell(rt, &digest);
 }
 
 fn of_seal(answer: Sealed) -> Outcome {
@@ -157,20 +160,20 @@ fn parted(c: Case, all: &[u8], out: &mut [u8], seal: &mut [u8]) -> Outcome {
     )
 }
 
-fn row(c: Case, all: &[u8], out: &mut [u8], seal: &mut [u8]) {
+fn row(rt: &impl Print, c: Case, all: &[u8], out: &mut [u8], seal: &mut [u8]) {
     base_lists::copy(part(all, c.text, c.seal), seal);
     let t = parted(c, all, out, seal);
-    say(part(all, 0, c.name));
-    cell(t.number as usize);
-    cell(t.length);
-    cell(t.count);
-    shown(out);
-    hex_cell(seal);
-    say(b"\n");
+    say(rt, part(all, 0, c.name));
+    cell(rt, t.number as usize);
+    cell(rt, t.length);
+    cell(rt, t.count);
+    shown(rt, out);
+    hex_cell(rt, seal);
+    say(rt, b"\n");
 }
 
 // The row of a case, with buffers of the lengths that it asks for.
-fn case_row(c: Case, all: &[u8]) {
+fn case_row(rt: &impl Print, c: Case, all: &[u8]) {
     let mut out = [BEFORE; LONGEST_ROOM];
     let mut seal = [0u8; LONGEST_SEAL];
     let n = part(all, c.text, c.seal).len();
@@ -181,7 +184,7 @@ fn case_row(c: Case, all: &[u8]) {
     if n > LONGEST_SEAL {
         return;
     }
-    row(c, all, &mut out[0..room], &mut seal[0..n]);
+    row(rt, c, all, &mut out[0..room], &mut seal[0..n]);
 }
 
 fn case_of(h: &[u8]) -> Case {
@@ -206,27 +209,25 @@ fn case_of(h: &[u8]) -> Case {
 }
 
 // One case from standard input; false where there is none left.
-fn one(buffer: &mut [u8]) -> bool {
+fn one(rt: &impl Print, input: &mut impl Read, buffer: &mut [u8]) -> bool {
     let mut head = [0u8; HEAD];
-    if !rows_case::taken(&mut head) {
+    if !rows_case::taken(input, &mut head) {
         return false;
     }
     let c = case_of(&head);
-    if !rows_case::part_taken(buffer, 0, c.seal) {
+    if !rows_case::part_taken(input, buffer, 0, c.seal) {
         return false;
     }
-    case_row(c, buffer);
+    case_row(rt, c, buffer);
     true
 }
 
-fn main() {
+fn main(rt: HostRuntime) {
+    let mut input = rt.stdin();
     let mut buffer = rows_case::buffer();
-    let mut left: usize = MOST_CASES;
-    while left > 0 {
-        if one(&mut buffer) {
-            left -= 1;
-        } else {
-            left = 0;
+    for _ in 0..MOST_CASES {
+        if !one(&rt, &mut input, &mut buffer) {
+            return;
         }
     }
 }

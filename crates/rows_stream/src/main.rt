@@ -1,11 +1,14 @@
 // Prints the rows that the second program makes of its own streams (tests/second, src/rows/stream.rs): every reading of each case on
 // standard input, good, damaged or at a limit, as a walker reads it from the case's place to the end of its stream. A case is its head, its
 // name, and the first and the last bytes of its stream, with one byte again and again between them.
+#![tactic(auto)]
+
 use line_layout::layout_of;
 use read_call::Asked;
 use read_numbers::{END, Report, numbers};
 use read_walk::Step;
 use rows_case::{LONGEST_CASE, LONGEST_NAME, MOST_CASES, cell, number_in, part, say};
+use std::io::Read;
 
 // The head of a case has so many bytes; and the longest line buffer that a case has.
 const HEAD: usize = 48;
@@ -16,7 +19,7 @@ const LONGEST_LINE: usize = 255;
 const MOST_TURNS: usize = LONGEST_CASE + 1;
 
 // What a reader is told: the place to read from, the lengths of line buffer, key and font digest, the work allowed, the editions and the layout.
-#[derive(Drop)]
+#[derive(Clone, Copy)]
 struct Case {
     place: usize,
     line: usize,
@@ -28,33 +31,34 @@ struct Case {
 }
 
 // The line in square brackets, or a dash where none is given.
-fn shown(line: &[u8], length: usize) {
+fn shown(rt: &impl Print, line: &[u8], length: usize) {
     if length == 0 {
-        say(b" -\n");
+        say(rt, b" -\n");
         return;
     }
-    say(b" [");
-    say(part(line, 0, length));
-    say(b"]\n");
+    say(rt, b" [");
+    say(rt, part(line, 0, length));
+    say(rt, b"]\n");
 }
 
 // The number of an answer; the end of the stream has a word of its own.
-fn number(its: Report) {
+fn number(rt: &impl Print, its: Report) {
     if its.outcome == END {
-        say(b" end");
+        say(rt, b" end");
         return;
     }
-    cell(its.number as usize);
+    cell(rt, its.number as usize);
 }
 
 // The next stretch itself: where its first byte stands, and its length.
-fn span(stream: &[u8], from: usize) {
-    cell(read_stretch::next_span(stream, from).first);
-    cell(read_stretch::next_stretch(stream, from).len());
+fn span(rt: &impl Print, stream: &[u8], from: usize) {
+    cell(rt, read_stretch::next_span(stream, from).first);
+    cell(rt, read_stretch::next_stretch(stream, from).len());
 }
 
 // One step of a walker and its row.
 fn row(
+    rt: &impl Print,
     name: &[u8],
     stream: &[u8],
     from: usize,
@@ -67,23 +71,24 @@ fn row(
     let reading = step.reading;
     let answer = reading.answer;
     let its = numbers(answer);
-    say(name);
-    cell(from);
-    span(stream, from);
-    cell(reading.first);
-    cell(reading.closing);
-    number(its);
-    cell(its.length);
-    cell(its.calls);
-    cell(reading.edition);
-    cell(reading.job);
-    shown(line, its.length);
+    say(rt, name);
+    cell(rt, from);
+    span(rt, stream, from);
+    cell(rt, reading.first);
+    cell(rt, reading.closing);
+    number(rt, its);
+    cell(rt, its.length);
+    cell(rt, its.calls);
+    cell(rt, reading.edition);
+    cell(rt, reading.job);
+    shown(rt, line, its.length);
     step
 }
 
 // All readings of a case, each from where the walker stands after the one before. The two places of a stretch differ; those of the end, and
 // of a call that is refused, do not: nothing is read after these.
 fn case_rows(
+    rt: &impl Print,
     name: &[u8],
     stream: &[u8],
     place: usize,
@@ -93,21 +98,18 @@ fn case_rows(
     line: &mut [u8],
 ) {
     let mut from = place;
-    let mut turns = MOST_TURNS;
-    while turns > 0 {
-        let step = row(name, stream, from, key, font, asked, line);
+    for _ in 0..MOST_TURNS {
+        let step = row(rt, name, stream, from, key, font, asked, line);
         let reading = step.reading;
         from = step.at;
-        if reading.first < from {
-            turns -= 1;
-        } else {
-            turns = 0;
+        if reading.first >= from {
+            return;
         }
     }
 }
 
 // The readings with the rules' key and font digest, and a line buffer of the length that the case asks for.
-fn told_rows(c: Case, name: &[u8], stream: &[u8]) {
+fn told_rows(rt: &impl Print, c: Case, name: &[u8], stream: &[u8]) {
     let key = rows_case::key();
     let font = rows_case::font();
     let mut line = [0u8; LONGEST_LINE];
@@ -116,6 +118,7 @@ fn told_rows(c: Case, name: &[u8], stream: &[u8]) {
         return;
     }
     case_rows(
+        rt,
         name,
         stream,
         c.place,
@@ -144,40 +147,44 @@ fn case_of(h: &[u8]) -> Case {
 
 // The case with its name and a buffer of its stream's length; false where either cannot be read. A head begins with the lengths of the name, of
 // the stream, of its first and of its last bytes, and the byte between them.
-fn named(h: &[u8], stream: &mut [u8]) -> bool {
+fn named(rt: &impl Print, input: &mut impl Read, h: &[u8], stream: &mut [u8]) -> bool {
     let mut name = [0u8; LONGEST_NAME];
     let n = number_in(h, 0);
-    if !rows_case::part_taken(&mut name, 0, n) {
+    if !rows_case::part_taken(input, &mut name, 0, n) {
         return false;
     }
-    if !rows_case::around_taken(stream, number_in(h, 2), number_in(h, 3), number_in(h, 4)) {
+    if !rows_case::around_taken(
+        input,
+        stream,
+        number_in(h, 2),
+        number_in(h, 3),
+        number_in(h, 4),
+    ) {
         return false;
     }
-    told_rows(case_of(h), part(&name, 0, n), stream);
+    told_rows(rt, case_of(h), part(&name, 0, n), stream);
     true
 }
 
 // One case from standard input; false where there is none left.
-fn one(buffer: &mut [u8]) -> bool {
+fn one(rt: &impl Print, input: &mut impl Read, buffer: &mut [u8]) -> bool {
     let mut head = [0u8; HEAD];
-    if !rows_case::taken(&mut head) {
+    if !rows_case::taken(input, &mut head) {
         return false;
     }
     let n = number_in(&head, 1);
     if n > buffer.len() {
         return false;
     }
-    named(&head, &mut buffer[0..n])
+    named(rt, input, &head, &mut buffer[0..n])
 }
 
-fn main() {
+fn main(rt: HostRuntime) {
+    let mut input = rt.stdin();
     let mut buffer = rows_case::buffer();
-    let mut left: usize = MOST_CASES;
-    while left > 0 {
-        if one(&mut buffer) {
-            left -= 1;
-        } else {
-            left = 0;
+    for _ in 0..MOST_CASES {
+        if !one(&rt, &mut input, &mut buffer) {
+            return;
         }
     }
 }

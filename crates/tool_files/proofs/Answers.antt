@@ -1,24 +1,20 @@
 -- What a tested answer of a read is by definition, and what becomes of a load after it. Assumes nothing.
-use mathlib.Core.Path.{◌≡◌, refl, sym, ap, subst, ◌∙◌}
+use mathlib.Core.Path.{◌≡◌, refl, sym, ap, subst}
 use mathlib.Core.Bool.{Bool, true, false, cond}
-use mathlib.Core.List.{List, ◌++◌}
-use Prim.Native.Nat.{ℕ, ◌+◌, ◌-◌, ◌≤◌, ◌<◌}
+use Prim.Native.Nat.{ℕ, ◌+◌, ◌≤◌, ◌<◌}
 use native.Mathlib.Omega.{arith}
-use lib.Dec.{T, eqb, leb}
+use lib.Dec.{T, eqb}
 use lib.IntN.{ℤ, pos, negsuc, nat_abs}
-use lib.ListN.{length, take, drop}
 use lib.Signed.{lt_z, non_neg}
-use borrow.Author.Tests.{ltb-true, ltb-false, leb-true, leb-false, le-leb, lt-leb, eq-eqb, ne_eqb}
+use borrow.Author.Tests.{ltb-true, ltb-false, le-leb, lt-leb, eq-eqb, ne_eqb}
 use mir.Syntax.{w64}
 use mir.Val.{to_z, of_z, SFits}
 use mir.Facts.{to_z-of_z}
-use Rattle.libc.specs.Io.{Moved}
 use Rattle.tool_files.specs.Loading.{heard_of, stepped, held_in, HeardIn}
 use Rattle.tool_files.specs.declared.Heard.{Heard}
 use Rattle.tool_files.specs.declared.Heard.TheVariants as heard
 use Rattle.tool_files.specs.declared.Loaded.{Loaded}
 use Rattle.tool_files.specs.declared.Loaded.TheVariants.{Bytes, Long, Failed}
-use Rattle.tool_files.specs.declared.Step.{Step}
 use Rattle.tool_files.specs.declared.Step.TheVariants.{On, Ended}
 
 -- a number above 0, as the machine tests it
@@ -41,22 +37,30 @@ unfolding heard_of
 ended (pos n) i e f = let h = ltb-false 0 n e in rw (eq-eqb n 0 (omega (arith, h))) refl
 ended (negsuc n) i e f = absurd (subst T f tt)
 
--- what is heard of an answer is within the buffer of the read
-heard-in : (z : ℤ) (i : Bool) (room : ℕ) → Moved room z → HeardIn (heard_of z i) room
+-- the answer as the machine reads it back is the answer
+pub read_back : (z : ℤ) (i : Bool) → SFits w64 z → heard_of (to_z w64 (of_z w64 z)) i ≡ heard_of z i
+read_back z i f = ap (λ (y : ℤ). heard_of y i) (to_z-of_z f)
+
+-- what is heard of a count that is within the buffer of the read
+heard-count : (n room : ℕ) → n ≤ room → HeardIn (heard_of (pos n) false) room
 unfolding heard_of
-heard-in (pos n) i room h = go (eqb n 0)
+heard-count n room h = go (eqb n 0)
   where
     go : (t : Bool) → HeardIn (cond t heard.End (heard.Some n)) room
     go true = tt
     go false = h
-heard-in (negsuc n) true room h = tt
-heard-in (negsuc n) false room h = tt
 
--- and so where the answer is handed on as the machine reads it back, and the buffer keeps its length
-pub heard-by : (z : ℤ) (i : Bool) (room room' : ℕ) (h : Heard) → SFits w64 z → h ≡ heard_of (to_z w64 (of_z w64 z)) i → Moved room z → room' ≡ room
-    → HeardIn h room'
-heard-by z i room room' h f e m l =
-    subst (λ (x : Heard). HeardIn x room') (sym (e ∙ ap (λ (y : ℤ). heard_of y i) (to_z-of_z f))) (heard-in z i room' (subst (λ (n : ℕ). Moved n z) (sym l) m))
+-- what is heard of an error
+heard_error : (n : ℕ) (i : Bool) (room : ℕ) → HeardIn (heard_of (negsuc n) i) room
+unfolding heard_of
+heard_error n true room = tt
+heard_error n false room = tt
+
+pub count-within : (n room : ℕ) (h : Heard) → h ≡ heard_of (pos n) false → n ≤ room → HeardIn h room
+count-within n room h e m = subst (λ (x : Heard). HeardIn x room) (sym e) (heard-count n room m)
+
+pub error_within : (n : ℕ) (i : Bool) (room : ℕ) (h : Heard) → h ≡ heard_of (negsuc n) i → HeardIn h room
+error_within n i room h e = subst (λ (x : Heard). HeardIn x room) (sym e) (heard_error n i room)
 
 -- after a read: the buffer is full and more came; bytes that fit
 pub too_long : (done room n : ℕ) (h : Heard) → h ≡ heard.Some n → room < done + n → Ended Long ≡ stepped done room h

@@ -15,7 +15,7 @@ use Rattle.tool_files.specs.Loading.{stepped, HeardIn, LoadedIn}
 use Rattle.tool_files.specs.declared.Heard.{Heard}
 use Rattle.tool_files.specs.declared.Heard.TheVariants as heard
 use Rattle.tool_files.specs.declared.Loaded.{Loaded}
-use Rattle.tool_files.specs.declared.Loaded.TheVariants.{Bytes, Long, Failed}
+use Rattle.tool_files.specs.declared.Loaded.TheVariants.{Long, Failed}
 use Rattle.tool_files.specs.declared.Step.{Step}
 use Rattle.tool_files.specs.declared.Step.TheVariants.{On, Ended}
 

@@ -1,15 +1,25 @@
-// Whole files into lent buffers, for the programs. Two calls decide: `judge_read` what one answer of the system's read is, `after_read` what
-// becomes of a load; `held` says what of a load stands in a buffer. `hear`, `take_in` and `load` only move bytes, and hand every answer on.
-// What a file holds no contract can say. The promises cite specs/Loading.antt.
+// Whole files into lent buffers, and the words that a program was started with, for the programs. Two calls decide: `judge_read` what one
+// answer of the system's read is, `after_read` what becomes of a load; `held` says what of a load stands in a buffer. `hear`, `take_in` and
+// `load` only move bytes, and hand every answer on. What a file or a word holds no contract can say. The promises cite specs/Loading.antt.
+#![tactic(auto)]
+
 ghost use Rattle.std.specs.Prelude.{◌≡◌, ◌+◌, ◌≤◌, length};
 ghost use Rattle.std.proofs.lemmas.List.Edits.{sets};
 ghost use Rattle.tool_files.specs.Loading.{heard_of, stepped, held_in, HeardIn, LoadedIn};
 
+use std::env::{Env, FillError};
+use std::io::{ErrorKind, Read};
+use std::rt::Files;
+use std::{fs, str};
+
 // No load makes more reads: one that is interrupted again and again counts as failed at last.
 const MOST_READS: u64 = 0xFFFF_FFFF_FFFF_FFFF;
 
+// A load reads so many bytes at once.
+const CHUNK: usize = 4096;
+
 // What one read says.
-#[derive(Drop)]
+#[derive(Clone, Copy)]
 pub enum Heard {
     // So many bytes, at least one.
     Some(usize),
@@ -22,7 +32,7 @@ pub enum Heard {
 }
 
 // How a load ended.
-#[derive(Drop)]
+#[derive(Clone, Copy)]
 pub enum Loaded {
     // So many bytes, and no more.
     Bytes(usize),
@@ -33,7 +43,7 @@ pub enum Loaded {
 }
 
 // What becomes of a load after a read.
-#[derive(Drop)]
+#[derive(Clone, Copy)]
 pub enum Step {
     // It goes on with so many bytes.
     On(usize),
@@ -92,12 +102,14 @@ pub fn held(loaded: Loaded, room: usize) -> Loaded
     }
 }
 
-// One read of an open file, at the start of chunk, and what it says.
-pub fn hear(fd: i32, chunk: &mut [u8]) -> Heard
+// One read, at the start of chunk, and what it says.
+pub fn hear<R: Read>(reader: &mut R, chunk: &mut [u8]) -> Heard
     ensures { HeardIn result (length chunk.new) }
 {
-    let got = libc::read(fd, chunk);
-    judge_read(got, os::errno() == libc::EINTR)
+    match reader.read(chunk) {
+        Ok(n) => judge_read(n as isize, false),
+        Err(e) => judge_read(-1, e.kind() == ErrorKind::Interrupted),
+    }
 }
 
 // A part of the file behind the bytes that buf has of it so far.
@@ -108,15 +120,14 @@ fn put(part: &[u8], buf: &mut [u8], done: usize)
     base_lists::copy(part, &mut buf[done..]);
 }
 
-// What is left to read of an open file, at the start of buf.
-pub fn take_in(fd: i32, buf: &mut [u8]) -> Loaded
+// What is left to read, at the start of buf.
+pub fn take_in<R: Read>(reader: &mut R, buf: &mut [u8]) -> Loaded
     ensures { LoadedIn result buf.old buf.new }
 {
-    let mut chunk = io::buffer();
+    let mut chunk = [0u8; CHUNK];
     let mut done = 0;
-    let mut turns = MOST_READS;
-    while turns > 0 {
-        let heard = hear(fd, &mut chunk);
+    for _ in 0..MOST_READS {
+        let heard = hear(reader, &mut chunk);
         match after_read(done, buf.len(), heard) {
             Step::On(n) => {
                 let more = n - done;
@@ -125,20 +136,49 @@ pub fn take_in(fd: i32, buf: &mut [u8]) -> Loaded
             }
             Step::Ended(loaded) => return loaded,
         }
-        turns -= 1;
     }
     Loaded::Failed
 }
 
-// The file at a path, at the start of buf.
-pub fn load(path: &[u8], buf: &mut [u8]) -> Loaded
+// The file at a path, at the start of buf. A path that is no text names none.
+pub fn load<F: Files>(files: &F, path: &[u8], buf: &mut [u8]) -> Loaded
     ensures { LoadedIn result buf.old buf.new }
 {
-    let fd = os::open_read(path);
-    if fd < 0 {
+    let Ok(name) = str::from_utf8(path) else {
         return Loaded::Failed;
+    };
+    match fs::open(files, name) {
+        Ok(mut file) => take_in(&mut file, buf),
+        Err(_) => Loaded::Failed,
     }
-    let loaded = take_in(fd, buf);
-    libc::close(fd);
-    loaded
+}
+
+// Whether the program was started with a word at place i; its own name is word 0.
+fn has_word<E: Env>(env: &E, i: usize) -> bool {
+    let mut none = [0u8; 1];
+    match env.arg(i, &mut none) {
+        Ok(_) => true,
+        Err(FillError::TooLong) => true,
+        Err(FillError::NotPresent) => false,
+    }
+}
+
+// How many words the program was started with, its own name among them.
+pub fn word_count<E: Env>(env: &E) -> usize {
+    for i in 0..usize::MAX {
+        if !has_word(env, i) {
+            return i;
+        }
+    }
+    usize::MAX
+}
+
+// The word at place i, at the start of word, and its length: 0 where there is none, or where it is longer than there is room for.
+pub fn word_at<E: Env>(env: &E, i: usize, word: &mut [u8]) -> usize
+    ensures { result ≤ length word.new }
+{
+    match env.arg(i, word) {
+        Ok(n) => n,
+        Err(_) => 0,
+    }
 }

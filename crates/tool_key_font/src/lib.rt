@@ -1,5 +1,7 @@
 // What a program makes of the key and the font that it was told, from what was loaded of them: how the load ended, how many bytes, and
 // the buffer. Nothing here touches the system; `tool_files` loads. The promises cite specs/Told.antt.
+#![tactic(auto)]
+
 ghost use Rattle.std.specs.Prelude.{◌≡◌};
 ghost use Rattle.tool_key_font.specs.Told.{is_key, is_font, font_out};
 

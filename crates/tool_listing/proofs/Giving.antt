@@ -1,5 +1,5 @@
 -- What each return of `count`, `give` and `next_row` gives. Assumes nothing.
-use Rattle.std.proofs.Common.{◌≡◌, ℕ, ◌+◌, ◌-◌, ◌<◌, ◌≤◌, Bool, true, false, cond, List, length, take, drop, replicate, sym, refl, ap, ◌∙◌, ap₂, arith, length-append, le-ltb, lt-ltb, eq-eqb, ne_eqb}
+use Rattle.std.proofs.Common.{◌≡◌, ℕ, ◌-◌, ◌<◌, ◌≤◌, Bool, true, false, cond, List, length, take, drop, replicate, sym, refl, ap, ◌∙◌, ap₂, arith, length-append, le-ltb, lt-ltb, eq-eqb, ne_eqb}
 use lib.ListN.{length-replicate}
 use borrow.Author.Tests.{eqb-false}
 use Rattle.base_lists.specs.Buffers.{over}
@@ -15,9 +15,9 @@ use Rattle.read_call.specs.declared.Answer.TheVariants as answer-is
 use Rattle.read_call.specs.Answers.{longest_stream, sized_told, Found, call, stretch, found, reading_of}
 use Rattle.read_call.specs.Answers.{buffer, answer_of, line_over, answer_number, length_of, read_answer, read_out}
 use Rattle.demand_reading.specs.Promises.{Seen}
-use Rattle.demand_reading.specs.Resync.{seen_at, sized}
-use Rattle.demand_reading.specs.GivenWritten.{told-sized}
-use Rattle.tool_row.specs.Rows.{row_text, last_row_text, row_room}
+use Rattle.demand_reading.proofs.Resync.{seen_at, sized}
+use Rattle.demand_reading.proofs.GivenWritten.{told-sized}
+use Rattle.tool_row.specs.Rows.{last_row_text, row_room}
 use Rattle.tool_row.specs.Answers.{put_answer, put_out, row_answer, row_out}
 use Rattle.tool_row.specs.Done.{put-done, row_done}
 use Rattle.tool_row.specs.declared.Put.{Put}

@@ -1,3 +1,4 @@
 pub mod Giving
 pub mod Single
 pub mod Contracts
+pub mod Runs

@@ -5,7 +5,7 @@ use Rattle.read_stretch.specs.Stretches.{next_span}
 use Rattle.frame_spec.specs.Told.{Told}
 use Rattle.read_readings.specs.Readings.{ends}
 use Rattle.read_call.specs.Answers.{longest_stream}
-use Rattle.demand_reading.specs.GivenWritten.{told-sized}
+use Rattle.demand_reading.proofs.GivenWritten.{told-sized}
 use Rattle.tool_row.specs.Rows.{row_room, last_row_text}
 use Rattle.tool_listing.specs.Steps.{refusal, row_given, ended_at, next_reading, reading_given, next_given, given, Ready}
 use Rattle.tool_listing.specs.declared.Cursor.{Cursor}

@@ -10,9 +10,9 @@ use Rattle.std.proofs.lemmas.Bool.{eqb-false}
 use Rattle.base_lists.specs.Buffers.{over}
 use Rattle.base_lists.specs.Over.{take-over}
 use Rattle.base_lists.specs.Never.{never}
-use Rattle.read_stretch.specs.declared.Span.{Span}
 use Rattle.read_stretch.specs.Stretches.{next_span, next_stretch}
-use Rattle.read_stretch.specs.Places.{Found, next-found}
+use Rattle.read_stretch.specs.Places.{Found}
+use Rattle.read_stretch.proofs.Places.{next-found}
 use Rattle.line_layout.specs.declared.Layout.{Layout}
 use Rattle.frame_spec.specs.Told.{told}
 use Rattle.read_spec.specs.Judged.{Judged}

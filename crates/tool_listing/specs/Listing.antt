@@ -1,6 +1,6 @@
 -- The listing of a stream (document 01, 'The listing program'), over its readings: one row for each, in order, then `lines L refused F`, L counting the rows
 -- with number 0 and F the others. Assumes nothing: these are definitions.
-use Rattle.std.specs.Prelude.{ℕ, suc, Bool, cond, not, List, [], ◌∷◌, ◌++◌, map, ◌==◌}
+use Rattle.std.specs.Prelude.{ℕ, suc, cond, List, [], ◌∷◌, ◌++◌, map, ◌==◌}
 use Rattle.line_layout.specs.declared.Layout.{Layout}
 use Rattle.frame_spec.specs.Told.{Told}
 use Rattle.read_spec.specs.Judged.{Judged, number_in, line_in}

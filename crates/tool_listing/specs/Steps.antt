@@ -1,6 +1,6 @@
 -- What one call gives from a cursor: document 01's refusals of a call in its order (2, 3, 4, 10), one line each, then nothing more behind the last row, the
 -- last row at the end of the stream, or the row of the next stretch. Assumes nothing: these are definitions.
-use Rattle.std.specs.Prelude.{◌≡◌, ℕ, ◌+◌, ◌%◌, ◌^◌, ◌≤◌, Bool, true, false, cond, not, List, [], length, ◌==◌, nat_lt}
+use Rattle.std.specs.Prelude.{ℕ, ◌+◌, ◌%◌, ◌^◌, ◌≤◌, Bool, true, false, cond, not, List, [], length, ◌==◌, nat_lt}
 use Rattle.read_stretch.specs.Stretches.{next_span, next_stretch}
 use Rattle.frame_spec.specs.Told.{Told}
 use Rattle.read_spec.specs.Sizes.{Sizes}

@@ -9,7 +9,7 @@ use Rattle.read_spec.specs.Judged.{Judged}
 use Rattle.read_spec.specs.Judging.{judge}
 use Rattle.read_spec.specs.Sizes.{Sizes}
 use Rattle.read_spec.specs.Ceiling.{all_work}
-use Rattle.read_spec.specs.Allowance.{all-allowed}
+use Rattle.read_spec.proofs.Allowance.{all-allowed}
 use Rattle.read_readings.specs.Readings.{Reading, reading, ends, readings, readings-step}
 use Rattle.read_call.specs.Answers.{judged_within}
 use Rattle.tool_listing.specs.Listing.{listing_of, judged_for, listing}

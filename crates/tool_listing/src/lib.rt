@@ -1,5 +1,7 @@
 // The listing of a stream, row by row (document 01, 'The listing program'): from a cursor by value to the next row, in a lent buffer, and the next cursor.
 // What the whole listing is stands in specs/Listing.antt, what one call gives in specs/Steps.antt; that the rows join to the listing in specs/Joining.antt.
+#![tactic(auto)]
+
 ghost use Rattle.std.specs.Prelude.{◌≡◌, ◌≤◌, false, length};
 ghost use Rattle.base_lists.specs.Buffers.{over};
 ghost use Rattle.line_layout.specs.declared.Layout.TheVariants as layouts;
@@ -22,7 +24,7 @@ const GIVEN: u32 = 0;
 
 // How far a listing is: the place that the next reading starts from, how many rows had a line and how many a refusal (modulo 2^64), and whether the last
 // row was given.
-#[derive(Drop)]
+#[derive(Clone, Copy)]
 pub struct Cursor {
     pub place: usize,
     pub lines: u64,
@@ -31,7 +33,7 @@ pub struct Cursor {
 }
 
 // What a call comes to.
-#[derive(Drop)]
+#[derive(Clone, Copy)]
 pub enum Listed {
     // The call is refused: key or font digest not of their sizes, stream too long, no room for every row, place beyond the end.
     Sizes,
@@ -45,7 +47,7 @@ pub enum Listed {
 }
 
 // What a call comes to, and the cursor for the next one; where no row is given it is the one handed in.
-#[derive(Drop)]
+#[derive(Clone, Copy)]
 pub struct Step {
     pub answer: Listed,
     pub cursor: Cursor,

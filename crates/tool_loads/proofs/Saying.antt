@@ -1,6 +1,6 @@
 -- Each return of `said` gives what the definition says; a text by value. Assumes nothing.
-use mathlib.Core.Path.{◌≡◌, refl, sym, ap, ◌∙◌}
-use mathlib.Core.Bool.{Bool, true, false, not}
+use mathlib.Core.Path.{◌≡◌, sym, ap, ◌∙◌}
+use mathlib.Core.Bool.{Bool, true, false}
 use mathlib.Core.List.{List, []}
 use Prim.Native.Nat.{ℕ, ◌≤◌, ◌<◌}
 use native.Mathlib.Omega.{arith}
@@ -25,28 +25,28 @@ text-is w h b e =
     text_with x = record { length = length w; bytes = x }
 
 module _ (key font stream : Loaded) where
-  pub no_key_lem : {a : Bool} → a ≡ is_key key → not a ≡ true → {r : Text} → r ≡ text_of no_key → r ≡ text_of (said_for key font stream)
+  pub no_key_lem : {a : Bool} → a ≡ is_key key → a ≡ false → {r : Text} → r ≡ text_of no_key → r ≡ text_of (said_for key font stream)
   unfolding said_for
-  no_key_lem p q e = rw (ap not (sym p) ∙ q) e
+  no_key_lem p q e = rw (sym p ∙ q) e
 
-  module _ {a : Bool} (p : a ≡ is_key key) (q : not a ≡ false) where
-    pub no-font : {b : Bool} → b ≡ font_loaded font → not b ≡ true → {r : Text} → r ≡ text_of no_font → r ≡ text_of (said_for key font stream)
+  module _ {a : Bool} (p : a ≡ is_key key) (q : a ≡ true) where
+    pub no-font : {b : Bool} → b ≡ font_loaded font → b ≡ false → {r : Text} → r ≡ text_of no_font → r ≡ text_of (said_for key font stream)
     unfolding said_for
-    no-font s u e = rw (ap not (sym p) ∙ q, ap not (sym s) ∙ u) e
+    no-font s u e = rw (sym p ∙ q, sym s ∙ u) e
 
-    module _ {b : Bool} (s : b ≡ font_loaded font) (u : not b ≡ false) where
+    module _ {b : Bool} (s : b ≡ font_loaded font) (u : b ≡ true) where
       pub over-long : {n : ℕ} → stream ≡ Bytes n → longest_stream < n → {r : Text} → r ≡ text_of too_long → r ≡ text_of (said_for key font stream)
       unfolding said_for
-      over-long {n} v h e = rw (ap not (sym p) ∙ q, ap not (sym s) ∙ u, v, lt-ltb longest_stream n h) e
+      over-long {n} v h e = rw (sym p ∙ q, sym s ∙ u, v, lt-ltb longest_stream n h) e
 
       pub all_there : {n : ℕ} → stream ≡ Bytes n → n ≤ longest_stream → {r : Text} → r ≡ text_of [] → r ≡ text_of (said_for key font stream)
       unfolding said_for
-      all_there {n} v h e = rw (ap not (sym p) ∙ q, ap not (sym s) ∙ u, v, le-ltb longest_stream n h) e
+      all_there {n} v h e = rw (sym p ∙ q, sym s ∙ u, v, le-ltb longest_stream n h) e
 
       pub more-than-held : stream ≡ Long → {r : Text} → r ≡ text_of too_long → r ≡ text_of (said_for key font stream)
       unfolding said_for
-      more-than-held v e = rw (ap not (sym p) ∙ q, ap not (sym s) ∙ u, v) e
+      more-than-held v e = rw (sym p ∙ q, sym s ∙ u, v) e
 
       pub unreadable : stream ≡ Failed → {r : Text} → r ≡ text_of no_stream → r ≡ text_of (said_for key font stream)
       unfolding said_for
-      unreadable v e = rw (ap not (sym p) ∙ q, ap not (sym s) ∙ u, v) e
+      unreadable v e = rw (sym p ∙ q, sym s ∙ u, v) e

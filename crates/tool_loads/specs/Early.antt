@@ -1,6 +1,6 @@
 -- Nothing of the stream is asked where key or font are not right: what is said of them before the stream is read, with a stream of no bytes, is what is said
 -- whatever the stream's load comes to. Assumes nothing.
-use Rattle.std.specs.Prelude.{◌≡◌, refl, Bool, true, false, not, cond, List, [], ℕ}
+use Rattle.std.specs.Prelude.{◌≡◌, refl, Bool, true, false, not, cond, []}
 use Rattle.tool_files.specs.declared.Loaded.{Loaded}
 use Rattle.tool_files.specs.declared.Loaded.TheVariants.{Bytes}
 use Rattle.tool_key_font.specs.Told.{is_key}

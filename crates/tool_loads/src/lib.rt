@@ -1,5 +1,7 @@
 // What `lines` says in place of a listing (document 01, 'The listing program'), by how the loads of key, font and stream ended. Nothing here touches the
 // system. The promise cites specs/Said.antt; that a font has its digest exactly where it is none of what is said stands in specs/Fonts.antt.
+#![tactic(auto)]
+
 ghost use Rattle.std.specs.Prelude.{◌≡◌, [], ◌≤◌, length};
 ghost use Rattle.tool_loads.specs.Said.{longest_text, font_loaded, text_of, said_for};
 
@@ -11,7 +13,7 @@ use tool_files::Loaded;
 pub const LONGEST_TEXT: usize = 10;
 
 // A text in the first bytes, zeros behind it; of length 0 where nothing is said.
-#[derive(Drop)]
+#[derive(Clone, Copy)]
 pub struct Text {
     pub length: usize,
     pub bytes: [u8; LONGEST_TEXT],

@@ -1,5 +1,7 @@
 // What a row of orders is, for `compose`: the nonce as hexadecimal digits, a blank, the line. `judge_order` says whether a row is an order
 // and where its line begins, `nonce` what nonce its digits are. The promises cite specs/Orders.antt.
+#![tactic(auto)]
+
 ghost use Rattle.std.specs.Prelude.{◌≡◌};
 ghost use Rattle.tool_orders.specs.Orders.{blank_at, order_of, nonce_of, order_number};
 
@@ -11,7 +13,7 @@ const BLANK: u8 = 0x20;
 pub const NONCE_DIGITS: usize = 2 * NONCE_LENGTH;
 
 // What a row is.
-#[derive(Drop)]
+#[derive(Clone, Copy)]
 pub enum Order {
     // An order, whose line begins at this place of the row; a row that ends with its nonce has an empty line.
     Line(usize),

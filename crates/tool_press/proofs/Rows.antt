@@ -1,6 +1,5 @@
 -- What each return of `count`, `row_for` and `press_row` gives. Assumes nothing.
 use Rattle.std.proofs.Common.{◌≡◌, ℕ, ◌+◌, ◌-◌, ◌<◌, ◌≤◌, Bool, true, false, cond, not, ltb, List, [], length, take, drop, sym, refl, ap, ◌∙◌, subst, ap₂, arith, length-append, length-take-le, le-ltb, lt-ltb, eq-eqb, ne_eqb}
-use lib.ListN.{length-replicate}
 use Rattle.base_lists.specs.Buffers.{over}
 use Rattle.line_spec.specs.Lines.{longest}
 use Rattle.line_layout.specs.declared.Layout.TheVariants.{Neither}
@@ -9,7 +8,7 @@ use Rattle.read_spec.specs.Editions.{one_alone}
 use Rattle.read_spec.specs.Judged.{Judged, shape, stuffing, font, work, seal, unlisted, trade, layout, line}
 use Rattle.read_call.specs.declared.Answer as read_answer
 use Rattle.read_call.specs.declared.Asked.{Asked}
-use Rattle.read_call.specs.Answers.{sized_told, answer_of, line_over, answer_number, length_of}
+use Rattle.read_call.specs.Answers.{sized_told, answer_number, length_of}
 use Rattle.frame_spec.specs.Told.{Told}
 use Rattle.tool_row.specs.Rows.{row_text, row_room}
 use Rattle.tool_row.specs.Answers.{row_answer, row_out}

@@ -1,5 +1,7 @@
 // The rows of a link, each as its stretch is closed: a step over a piece, and the row of what it reads in a lent buffer, counted as `lines` counts: lines
 // of edition one, under no layout, all the work allowed. The promises cite specs/Pressing.antt.
+#![tactic(auto)]
+
 ghost use Rattle.std.specs.Prelude.{◌≡◌, ◌≤◌, length};
 ghost use Rattle.base_lists.specs.Buffers.{over};
 ghost use Rattle.line_spec.specs.Lines.{longest};
@@ -21,7 +23,7 @@ use tool_row::{Put, ROW_ROOM, put_row};
 const GIVEN: u32 = 0;
 
 // How far the listing of a link is: its numbers, how many rows had a line and how many a refusal (modulo 2^64).
-#[derive(Drop)]
+#[derive(Clone, Copy)]
 pub struct Press {
     pub numbers: Numbers,
     pub lines: u64,
@@ -29,7 +31,7 @@ pub struct Press {
 }
 
 // What a call comes to.
-#[derive(Drop)]
+#[derive(Clone, Copy)]
 pub enum Pressed {
     // The call is refused, and nothing is taken: as a step's, no room for every row.
     Numbers,
@@ -43,7 +45,7 @@ pub enum Pressed {
 }
 
 // That, how many bytes of the piece were taken, and how far the listing is then.
-#[derive(Drop)]
+#[derive(Clone, Copy)]
 pub struct Turn {
     pub press: Press,
     pub took: usize,

@@ -3,7 +3,7 @@
 use Rattle.std.specs.Prelude.{cond, List, ℕ, ltb, length}
 use Rattle.base_lists.specs.Buffers.{over}
 use Rattle.line_spec.specs.Lines.{longest}
-use Rattle.tool_row.specs.Rows.{row_room, row_text, last_row_text}
+use Rattle.tool_row.specs.Rows.{row_room, row_text}
 use Rattle.tool_row.specs.declared.Put.{Put}
 use Rattle.tool_row.specs.declared.Put.TheVariants.{TooLong, NoRoom, Row}
 

@@ -1,6 +1,6 @@
 -- The decimal text of every number of 64 bits is of that number: read digit by digit it gives the number again. Assumes nothing.
-use Rattle.std.specs.Prelude.{◌≡◌, refl, Bool, true, false, cond, List, [], ◌∷◌, ◌++◌, ℕ, zero, suc, ◌+◌, ◌-◌, ◌*◌, ◌/◌, ◌%◌, ◌^◌, ◌≤◌, ◌<◌, ltb}
-use Rattle.std.proofs.Common.{sym, ap, ◌∙◌, pow-suc, arith, ltb-true}
+use Rattle.std.specs.Prelude.{◌≡◌, refl, Bool, true, false, cond, List, [], ◌∷◌, ◌++◌, ℕ, zero, suc, ◌+◌, ◌-◌, ◌*◌, ◌/◌, ◌%◌, ◌^◌, ◌<◌, ltb}
+use Rattle.std.proofs.Common.{◌∙◌, pow-suc, arith}
 use Rattle.tool_row.specs.Rows.{zero_digit, digits_in, most_digits, decimal}
 
 -- the number that digits are, behind the digits of v

@@ -1,5 +1,7 @@
 // Rows of a listing (document 01, 'The listing program') written into a lent buffer: the row of a place, a number and a line, and the last row. Nothing here
 // knows of a stream, so that whoever lists readings writes the same rows. The promises cite specs/Rows.antt and specs/Answers.antt.
+#![tactic(auto)]
+
 ghost use Rattle.std.specs.Prelude.{◌≡◌, [], ◌∷◌, ◌+◌, ◌≤◌, length};
 ghost use Rattle.std.proofs.lemmas.List.Edits.{sets};
 ghost use Rattle.line_spec.specs.Lines.{longest};
@@ -25,7 +27,7 @@ const ZERO_DIGIT: u8 = 0x30;
 const GIVEN: u32 = 0;
 
 // What writing a row comes to.
-#[derive(Drop)]
+#[derive(Clone, Copy)]
 pub enum Put {
     // A line that is longer than lines are.
     TooLong,

@@ -1,5 +1,7 @@
 // What `gagesum` makes of its word and of what it reads: which instance a word names, and what becomes of a running digest after a read.
 // Nothing here touches the system; `tool_files` reads. The promises cite specs/Sums.antt.
+#![tactic(auto)]
+
 ghost use Rattle.std.specs.Prelude.{◌≡◌};
 ghost use Rattle.running_spec.specs.Running.{start_record};
 ghost use Rattle.tool_sums.specs.Sums.{blank, named_by, sum_of, part_answer, part_record};
@@ -20,14 +22,14 @@ const ZERO: u8 = 0x30;
 const TEN: usize = 10;
 
 // What a word is taken for.
-#[derive(Drop)]
+#[derive(Clone, Copy)]
 pub enum Named {
     Instance(usize),
     Nothing,
 }
 
 // What becomes of a digest after a read: it goes on, the input ends, it is too long, or it can't be read.
-#[derive(Drop)]
+#[derive(Clone, Copy)]
 pub enum Sum {
     On,
     End,

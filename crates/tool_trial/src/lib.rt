@@ -1,5 +1,7 @@
 // What `permutation` makes of its words: a size and a count of rounds in decimal, a state in hexadecimal, and what becomes of it. Nothing here
 // touches the system. The promises cite specs/Trial.antt.
+#![tactic(auto)]
+
 ghost use Rattle.std.specs.Prelude.{◌≡◌, ◌≤◌};
 ghost use Rattle.gage_spec.specs.Permutation.{permute, unpermute};
 ghost use Rattle.tool_trial.specs.Trial.{LARGE, is_back, grown, number_in, state_in, is_state, told, refusal, tried, outcome_number};
@@ -15,14 +17,14 @@ const NINE: u8 = 0x39;
 const LARGE: usize = 1000;
 
 // What a word is as a number.
-#[derive(Drop)]
+#[derive(Clone, Copy)]
 pub enum Number {
     Is(usize),
     Not,
 }
 
 // What becomes of a trial: done, or refused with document 01's 1 or order W9's 18; size or rounds no number, the state not of the size.
-#[derive(Drop)]
+#[derive(Clone, Copy)]
 pub enum Outcome {
     Done,
     Size,
@@ -32,7 +34,7 @@ pub enum Outcome {
 }
 
 // With done the size and, in its first bytes, the new state; else nothing.
-#[derive(Drop)]
+#[derive(Clone, Copy)]
 pub struct Trial {
     pub outcome: Outcome,
     pub size: usize,

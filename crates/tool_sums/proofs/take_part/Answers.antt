@@ -1,0 +1,25 @@
+-- `take_part` meets its promise, answer by answer. Assumes nothing.
+use Rattle.tool_sums.specs.Sums.{part_record}
+use Rattle.tool_sums.proofs.Parts.{past-record, fed-record}
+use Rattle.tool_sums.proofs.take_part.Goals as goal
+
+pub returns-then-n-window : goal.returns-then-n-window
+returns-then-n-window c = past-record c.args.running c.args.heard
+    c.args.window.now _ c.in-Some.is c.if-n-window.true
+
+pub returns-else-n-window : goal.returns-else-n-window
+returns-else-n-window c = fed-record c.args.running
+    c.args.heard c.args.window.now _
+    c.in-Some.is c.if-n-window.false c.after_feed.ensures
+
+pub returns-in-Again : goal.returns-in-Again
+unfolding part_record
+returns-in-Again c = rw c.in-Again.is
+
+pub returns-in-End : goal.returns-in-End
+unfolding part_record
+returns-in-End c = rw c.in-End.is
+
+pub returns-in-Failed : goal.returns-in-Failed
+unfolding part_record
+returns-in-Failed c = rw c.in-Failed.is
