@@ -34,7 +34,7 @@
  *    and when the program starts, prints what was used and fails over these figures.
  *    Reading takes the most for a damaged stretch of the greatest length, which is measured byte by byte in calls of its own.
  *
- * Link with target/staticlib/liblubdhvani.a, which `rt staticlib lubdhvani` makes.
+ * Link with target/staticlib/liblubdhvani.a, which tests/archives makes.
  */
 #ifndef LUBDHVANI_H
 #define LUBDHVANI_H

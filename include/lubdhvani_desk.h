@@ -8,7 +8,7 @@
  * It has no state of its own, so that calls on different buffers may run at the same time, and runs in LUBDHVANI_DESK_STACK bytes of stack on x86-64, which
  * is measured, not proved: tests/stack/run. The key and the states that it works with are not wiped from the stack.
  *
- * Link with target/staticlib/liblubdhvani_desk.a, which `rt staticlib lubdhvani_desk` makes: alone, or beside liblubdhvani.a in either order. No symbol
+ * Link with target/staticlib/liblubdhvani_desk.a, which tests/archives makes: alone, or beside liblubdhvani.a in either order. No symbol
  * stands in both.
  */
 #ifndef LUBDHVANI_DESK_H
