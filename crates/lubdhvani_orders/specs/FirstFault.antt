@@ -14,6 +14,7 @@ use Rattle.accept_spec.specs.declared.Accepted as below
 use Rattle.accept_spec.specs.Nonces.{AllDiffer}
 use Rattle.accept_spec.specs.Accepting.{accept_answer}
 use Rattle.accept_runs.specs.Promises.{stretches_seen, nonce_seen, LinesSeen}
+use Rattle.accept_runs.proofs.FirstFault as proved
 use Rattle.accept_runs.specs.FirstFault as inner
 use Rattle.accept_runs.specs.FirstFault.{NamesOne, Because}
 use Rattle.lubdhvani.specs.Accepting.{accepted_out}
@@ -60,7 +61,7 @@ module _ (key font : List ℕ) (asked : Asked) (enough : all_work ≤ asked.allo
   c-first-fault r p n =
       let t = told key font (layout_of asked.layout) in
       let a = accept_answer t asked.editions s in
-      let f = inner.first-fault key font (asked_of asked) enough s bytes a refl (subst NamesOne (ap (λ (x : Accepted). x.number) p) n) in
+      let f = proved.first-fault key font (asked_of asked) enough s bytes a refl (subst NamesOne (ap (λ (x : Accepted). x.number) p) n) in
       rw p (record {
         sizes = f.sizes;
         short = f.short;

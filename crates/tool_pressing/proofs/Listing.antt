@@ -26,7 +26,7 @@ use Rattle.tool_press.specs.declared.Turn.{Turn}
 use Rattle.tool_press.specs.Pressing.{start_press}
 use Rattle.tool_pressing.specs.Turns.{Presses, written, Turned}
 use Rattle.tool_pressing.proofs.Turns.{turned}
-use Rattle.tool_pressing.specs.Listing.{Run, over-all, rest, turn, Sofar}
+use Rattle.tool_pressing.specs.Listing.{Run, over-all, rest, turn}
 
 -- counting, row behind row
 zeros-both : (x y : List ℕ) → zeros_in (x ++ y) ≡ zeros_in x + zeros_in y
@@ -61,6 +61,13 @@ joined-both : (x y : List (List ℕ)) → joined (x ++ y) ≡ joined x ++ joined
 unfolding joined
 joined-both [] y = refl
 joined-both (r ∷ x) y = ap (λ (l : List ℕ). r ++ l) (joined-both x y) ∙ sym (append_assoc r (joined x) (joined y))
+
+-- after the bytes s this is how far the listing is, and g was read of them: at most one reading for a byte
+record Sofar (key digest : List ℕ) (s : List ℕ) (c : Press) (w : List ℕ) (g : List Reading) : Type 0 where
+  after : After (its (told key digest Neither) (all_asked one_alone Neither)) s c.numbers w g
+  lines_are : c.lines ≡ zeros_in (map row_number g)
+  refused-are : c.refused ≡ others_in (map row_number g)
+  few : length g ≤ length s
 
 module _ (key digest : List ℕ) (z : Sizes (told key digest Neither)) where
   abbrev new : Press → List ℕ → List ℕ → List Reading

@@ -32,7 +32,71 @@ use Rattle.live_spec.proofs.Pieces.{its, new_of}
 use Rattle.tool_press.specs.declared.Press.{Press}
 use Rattle.tool_press.specs.declared.Turn.{Turn}
 use Rattle.tool_press.specs.Pressing.{press_at, counted, row_of, rowed, own, pressed, press_window, press_row, pressed_length}
-use Rattle.tool_pressing.specs.Turns.{Presses, written, Turned, by-found}
+use Rattle.tool_pressing.specs.Turns.{Presses, written, Turned}
+
+-- one more, below 2^64
+small : (n : ℕ) → n < most_bytes → one_more n ≡ n + 1
+small n h = mod-eq_of_lt (omega arith)
+
+number_is : (j : Judged) → read-answers.answer_number (answer_of j) ≡ number_in j
+number_is shape = refl
+number_is stuffing = refl
+number_is font = refl
+number_is work = refl
+number_is (seal n) = refl
+number_is (unlisted n) = refl
+number_is (trade n) = refl
+number_is (layout n) = refl
+number_is (line frame l n) = refl
+
+line-is : (j : Judged) (l : List ℕ) → take (length_of (answer_of j)) (line_over j l) ≡ line_in j
+line-is shape l = refl
+line-is stuffing l = refl
+line-is font l = refl
+line-is work l = refl
+line-is (seal n) l = refl
+line-is (unlisted n) l = refl
+line-is (trade n) l = refl
+line-is (layout n) l = refl
+line-is (line frame x n) l = take-over x l (length x) refl
+
+-- the counts of one row more
+one-counted : (c : Press) (n : Numbers) (r : Reading) → c.lines < most_bytes → c.refused < most_bytes
+    → counted c n (row_number r) ≡ press_at n (c.lines + zeros_in (row_number r ∷ [])) (c.refused + others_in (row_number r ∷ []))
+unfolding counted zeros_in others_in
+one-counted c n r a b = go (eqb (row_number r) 0)
+  where
+    go : (x : Bool) → cond x (press_at n (one_more c.lines) c.refused) (press_at n c.lines (one_more c.refused))
+        ≡ press_at n (c.lines + cond x 1 0) (c.refused + cond x 0 1)
+    go true = let z : c.refused ≡ c.refused + 0 = omega arith in ap₂ (press_at n) (small c.lines a) z
+    go false = let z : c.lines ≡ c.lines + 0 = omega arith in ap₂ (press_at n) z (small c.refused b)
+
+module _ (c : Press) (w o l : List ℕ) (k : Taken) (j : Judged) (a : c.lines < most_bytes) (b : c.refused < most_bytes) where
+  abbrev either : Bool → Found
+  either x = cond x (waits k) (closed k j)
+
+  abbrev new : Bool → List Reading
+  new x = cond x [] (reading k.place j ∷ [])
+
+  abbrev row : List ℕ
+  row = row_text k.place.first (read-answers.answer_number (answer_of j)) (take (length_of (answer_of j)) (line_over j l))
+
+  row_is : row ≡ reading_row (reading k.place j)
+  row_is = ap₂ (row_text k.place.first) (number_is j) (line-is j l)
+
+  by-found : (x : Bool) → Turned c k (new x) (rowed c (step_of c.numbers (either x)) (line_of l (either x))) (window_of w (either x))
+      (over (row_of (step_of c.numbers (either x)) (line_of l (either x))) o)
+  unfolding zeros_in others_in joined
+  by-found true =
+      let z : c.lines ≡ c.lines + 0 = omega arith in
+      let y : c.refused ≡ c.refused + 0 = omega arith in
+      record { press-is = ap₂ (press_at k.behind) z y; took-is = refl; window-is = refl; rows_are = refl }
+  by-found false = record {
+    press-is = ap (counted c k.behind) (number_is j) ∙ one-counted c k.behind (reading k.place j) a b;
+    took-is = refl;
+    window-is = refl;
+    rows_are = take-over row o (length row) refl ∙ row_is ∙ sym (append-nil (reading_row (reading k.place j)));
+  }
 
 module _ (key digest : List ℕ) (z : Sizes (told key digest Neither)) where
   abbrev pub t : Told

@@ -33,10 +33,3 @@ pub data Run (key digest : List ℕ) : Press → List ℕ → List (List ℕ) �
   turn : {c d : Press} {w : List ℕ} {ps : List (List ℕ)} {out : List ℕ} (p o : List ℕ) (r : Turn) (w' o' : List ℕ)
       → 0 < length p → row_room ≤ length o → Presses key digest c w p o r w' o'
       → Run key digest r.press w' (drop r.took p ∷ ps) out d → Run key digest c w (p ∷ ps) (written r o' ++ out) d
-
--- after the bytes s this is how far the listing is, and g was read of them: at most one reading for a byte
-pub record Sofar (key digest : List ℕ) (s : List ℕ) (c : Press) (w : List ℕ) (g : List Reading) : Type 0 where
-  after : After (its (told key digest Neither) (all_asked one_alone Neither)) s c.numbers w g
-  lines_are : c.lines ≡ zeros_in (map row_number g)
-  refused-are : c.refused ≡ others_in (map row_number g)
-  few : length g ≤ length s
