@@ -1,7 +1,7 @@
--- Counting the stretches of a stream: what is counted and what is left are all of them. Assumes nothing.
+-- Whether a stretch is left of a stream from a place on. Assumes nothing.
 use mathlib.Core.Path.{◌≡◌, ap, ◌∙◌}
 use mathlib.Core.List.{List, [], ◌∷◌}
-use Prim.Native.Nat.{ℕ, ◌+◌, ◌-◌, ◌≤◌, ◌<◌}
+use Prim.Native.Nat.{ℕ, ◌≤◌, ◌<◌}
 use native.Mathlib.Omega.{arith}
 use lib.ListN.{length}
 use borrow.Author.Tests.{eq-eqb}
@@ -9,10 +9,9 @@ use Rattle.read_stretch.specs.declared.Span.{Span}
 use Rattle.read_stretch.specs.Stretches.{next_span, next_stretch}
 use Rattle.read_stretch.specs.Places.{Found}
 use Rattle.read_stretch.proofs.Places.{next-found, next-none}
-use Rattle.read_spec.specs.Judged.{Judged, shape}
+use Rattle.read_spec.specs.Judged.{Judged}
 use Rattle.read_readings.specs.Readings.{reading, readings, readings-step}
 use Rattle.read_readings.proofs.Joining.{found-step}
-use Rattle.accept_spec.specs.Accepting.{stretches_in}
 
 module _ (judge : List ℕ → Judged) (s : List ℕ) (at : ℕ) where
   -- equal places: nothing is left
@@ -35,35 +34,3 @@ module _ (judge : List ℕ → Judged) (s : List ℕ) (at : ℕ) where
   -- where something is left, the places differ
   pub some_left : (n : ℕ) → length (readings judge s at) ≡ n → 0 < n → (p : Span) → p ≡ next_span s at → p.first ≡ p.closing → ⊥
   some_left n l h p e q = omega (arith, l, h, ap length (none_left p e q))
-
--- n stretches are counted up to a place
-pub record Counting (s : List ℕ) (n at : ℕ) : Type 0 where
-  pub few : n ≤ at
-  pub inside : at ≤ length s
-  pub all : n + length (readings (λ (b : List ℕ). shape) s at) ≡ stretches_in s
-
-module _ {s : List ℕ} where
-  pub counting-none : Counting s 0 0
-  counting-none = record { few = omega arith; inside = omega arith; all = omega arith }
-
-  module _ {n at : ℕ} (c : Counting s n at) where
-    -- nothing is left
-    pub counted-all : (p : Span) → p ≡ next_span s at → p.first ≡ p.closing → n ≡ stretches_in s
-    counted-all p e q = omega (arith, c.all, ap length (none_left (λ (b : List ℕ). shape) s at p e q))
-
-    pub counted-end : length s ≤ at → n ≡ stretches_in s
-    counted-end h = omega (arith, c.all, ap length (none-behind (λ (b : List ℕ). shape) s at h))
-
-    module _ (p : Span) (e : p ≡ next_span s at) (d : p.first ≡ p.closing → ⊥) where
-      found : Found s at p
-      found = (one_left (λ (b : List ℕ). shape) s at p e d).0
-
-      pub counting-less : length s - p.closing < length s - at
-      counting-less = omega (arith, found.later, found.stretch.some, found.stretch.ends)
-
-      pub counting_more : Counting s (n + 1) p.closing
-      counting_more = record {
-        few = omega (arith, c.few, found.later, found.stretch.some);
-        inside = omega (arith, found.stretch.ends);
-        all = omega (arith, c.all, ap length (one_left (λ (b : List ℕ). shape) s at p e d).1);
-      }

@@ -1,5 +1,6 @@
 -- Judging the stretches of a stream one after the other: what has been judged so far are lines whose nonces are kept, and what is left decides.
 -- Assumes nothing.
+use Rattle.std.specs.Prelude.{Err}
 use mathlib.Core.Path.{◌≡◌, refl, sym, ap, ap₂, ◌∙◌}
 use mathlib.Core.Bool.{Bool, true, false}
 use mathlib.Core.List.{List, [], ◌∷◌, ◌++◌}
@@ -15,7 +16,7 @@ use Rattle.read_spec.specs.Judged.{Judged, number_in}
 use Rattle.read_readings.specs.Readings.{Reading, reading, readings}
 use Rattle.read_nonce.specs.Nonces.{nonce_of}
 use Rattle.read_nonce.specs.Sizes.{nonce-twelve}
-use Rattle.accept_spec.specs.declared.Answer.TheVariants as answer-is
+use Rattle.accept_spec.specs.declared.AcceptFault.TheVariants as answer-is
 use Rattle.accept_spec.specs.Nonces.{met}
 use Rattle.accept_spec.specs.Accepting.{most_stretches, at, yes, accept_from, stretches_in}
 use Rattle.accept_spec.specs.Readings.{counted}
@@ -79,7 +80,7 @@ module _ {judge : List ℕ → Judged} {s : List ℕ} {all : ℕ} {highs lows : 
     now-left = g.left ∙ ap (accept_from s g.seen) next-is
 
     module _ (number : ℕ) (number_is : number ≡ number_in (judge (bytes_at s p))) where
-      pub going-refused : (number ≡ 0 → ⊥) → at p (answer-is.Refused number) ≡ accept_from s [] (readings judge s 0)
+      pub going-refused : (number ≡ 0 → ⊥) → at p (Err (answer-is.Refused number)) ≡ accept_from s [] (readings judge s 0)
       unfolding accept_from this
       going-refused d = sym (now-left ∙ rw (← number_is, ne_eqb number 0 d))
 
@@ -91,7 +92,7 @@ module _ {judge : List ℕ → Judged} {s : List ℕ} {all : ℕ} {highs lows : 
             ∙ kept-met highs lows (nonce_of (bytes_at s p)) (nonce-twelve (bytes_at s p) (below-take 256 (p.closing - p.first) _
             (below-drop 256 p.first s bytes))) g.kept
 
-        pub going-repeated : r ≡ true → at p answer-is.Repeated ≡ accept_from s [] (readings judge s 0)
+        pub going-repeated : r ≡ true → at p (Err answer-is.Repeated) ≡ accept_from s [] (readings judge s 0)
         unfolding accept_from this
         going-repeated t = sym (now-left ∙ rw (← number_is, eq-eqb number 0 line, ← met-is, t))
 

@@ -1,5 +1,6 @@
 -- With all the work allowed, the number that `judge` gives is that of what the stretch is found to be; and the tests of the call in their order.
 -- Assumes nothing.
+use Rattle.std.specs.Prelude.{Err}
 use mathlib.Core.Path.{◌≡◌, refl, ap, ◌∙◌}
 use mathlib.Core.Bool.{true}
 use mathlib.Core.List.{List, []}
@@ -20,7 +21,7 @@ use Rattle.read_spec.specs.Sizes.{Sizes}
 use Rattle.read_call.specs.declared.Verdict.{Verdict}
 use Rattle.read_call.specs.Answers.{longest_stream, sized_told, answer_of, verdict_of, judged_within, judge_answer}
 use Rattle.read_call.specs.Answers as answers
-use Rattle.accept_spec.specs.declared.Answer.TheVariants as answer-is
+use Rattle.accept_spec.specs.declared.AcceptFault.TheVariants as answer-is
 use Rattle.accept_spec.specs.Accepting.{most_stretches, refused, stretches_in, read_all, accept_from, accept_answer}
 
 answer-number : (j : Judged) → answers.answer_number (answer_of j) ≡ number_in j
@@ -51,22 +52,22 @@ module _ (key font : List ℕ) (lay : Layout) (ed : ℕ) (s : List ℕ) where
   abbrev t : Told
   t = told key font lay
 
-  pub bad-key : (length key ≡ key_length → ⊥) → refused answer-is.Sizes ≡ accept_answer t ed s
+  pub bad-key : (length key ≡ key_length → ⊥) → refused (Err answer-is.Sizes) ≡ accept_answer t ed s
   unfolding accept_answer sized_told
   bad-key k = rw (ne_eqb (length key) key_length k)
 
   module _ (k : length key ≡ key_length) where
-    pub bad-font : (length font ≡ digest_length → ⊥) → refused answer-is.Sizes ≡ accept_answer t ed s
+    pub bad-font : (length font ≡ digest_length → ⊥) → refused (Err answer-is.Sizes) ≡ accept_answer t ed s
     unfolding accept_answer sized_told
     bad-font d = rw (eq-eqb (length key) key_length k, ne_eqb (length font) digest_length d)
 
     module _ (d : length font ≡ digest_length) where
-      pub too_long : longest_stream < length s → refused answer-is.TooLong ≡ accept_answer t ed s
+      pub too_long : longest_stream < length s → refused (Err answer-is.TooLong) ≡ accept_answer t ed s
       unfolding accept_answer
       too_long h = rw (sized-true t k d, lt-ltb longest_stream (length s) h)
 
       module _ (h : length s ≤ longest_stream) where
-        pub too_many : most_stretches < stretches_in s → refused answer-is.TooMany ≡ accept_answer t ed s
+        pub too_many : most_stretches < stretches_in s → refused (Err answer-is.TooMany) ≡ accept_answer t ed s
         unfolding accept_answer
         too_many m = rw (sized-true t k d, le-ltb longest_stream (length s) h, lt-ltb most_stretches (stretches_in s) m)
 

@@ -12,9 +12,10 @@ ghost use Rattle.accept_nonces.specs.Words.{words_of};
 ghost use Rattle.accept_spec.specs.Accepting.{most_stretches, refused, stretches_in, read_all, accept_from, accept_answer, accept_number};
 
 use accept_nonces::{Words, met, words_of};
-use accept_spec::{Accepted, Answer};
+use accept_spec::{AcceptFault, Accepted};
 use frame_body::{DIGEST_LENGTH, LONGEST_LINE};
 use frame_spec::KEY_LENGTH;
+use index_count::stretches_from;
 use line_layout::Layout;
 use read_call::{ALL_WORK, Asked, LONGEST_STREAM, judge};
 use read_nonce::nonce_of;
@@ -25,7 +26,7 @@ use read_stretch::next_span;
 pub const MOST_STRETCHES: usize = 512;
 
 // The call is refused.
-fn refused_with(answer: Answer) -> Accepted
+fn refused_with(answer: Result<(), AcceptFault>) -> Accepted
     ensures { result ≡ refused answer }
 {
     Accepted {
@@ -33,24 +34,6 @@ fn refused_with(answer: Answer) -> Accepted
         closing: 0,
         answer,
     }
-}
-
-// How many stretches a stream has. None is judged.
-fn count(stream: &[u8]) -> usize
-    ensures { result ≡ stretches_in stream.now }
-{
-    let mut n = 0;
-    let mut at = 0;
-    while at < stream.len() {
-        let span = next_span(stream, at);
-        let closing = span.closing;
-        if span.first == closing {
-            return n;
-        }
-        n += 1;
-        at = closing;
-    }
-    n
 }
 
 // The reader's number of a stretch, with all the work allowed: 0 for a line.
@@ -94,15 +77,14 @@ fn accept_all(
     let mut highs = [0u64; MOST_STRETCHES];
     let mut lows = [0u32; MOST_STRETCHES];
     let mut at = 0;
-    let mut n = 0;
-    while n < counted {
+    for n in 0..counted {
         let span = next_span(stream, at);
         let first = span.first;
         let closing = span.closing;
         let stretch = &stream[first..closing];
         let number = number_in(stretch, key, font, editions, layout);
         if number != 0 {
-            let answer = Answer::Refused(number);
+            let answer = Err(AcceptFault::Refused(number));
             return Accepted {
                 first,
                 closing,
@@ -111,7 +93,7 @@ fn accept_all(
         }
         let words = words_in(stretch);
         if met(&highs, &lows, n, words.high, words.low) {
-            let answer = Answer::Repeated;
+            let answer = Err(AcceptFault::Repeated);
             return Accepted {
                 first,
                 closing,
@@ -120,11 +102,10 @@ fn accept_all(
         }
         highs[n] = words.high;
         lows[n] = words.low;
-        n += 1;
         at = closing;
     }
     let end = stream.len();
-    let answer = Answer::Yes;
+    let answer = Ok(());
     Accepted {
         first: end,
         closing: end,
@@ -137,31 +118,31 @@ pub fn accept(stream: &[u8], key: &[u8], font: &[u8], editions: usize, layout: L
     ensures { result ≡ accept_answer (told key.now font.now layout) editions stream.now }
 {
     if key.len() != KEY_LENGTH {
-        return refused_with(Answer::Sizes);
+        return refused_with(Err(AcceptFault::Sizes));
     }
     if font.len() != DIGEST_LENGTH {
-        return refused_with(Answer::Sizes);
+        return refused_with(Err(AcceptFault::Sizes));
     }
     if stream.len() > LONGEST_STREAM {
-        return refused_with(Answer::TooLong);
+        return refused_with(Err(AcceptFault::TooLong));
     }
-    let counted = count(stream);
+    let counted = stretches_from(stream, 0);
     if counted > MOST_STRETCHES {
-        return refused_with(Answer::TooMany);
+        return refused_with(Err(AcceptFault::TooMany));
     }
     accept_all(stream, counted, key, font, editions, layout)
 }
 
 // The number of what accepting answers.
-pub fn accept_number(answer: Answer) -> u32
+pub fn accept_number(answer: Result<(), AcceptFault>) -> u32
     ensures { result ≡ accept_number answer }
 {
     match answer {
-        Answer::Yes => 0,
-        Answer::Sizes => 2,
-        Answer::TooLong => 3,
-        Answer::TooMany => 19,
-        Answer::Refused(number) => number,
-        Answer::Repeated => 22,
+        Ok(()) => 0,
+        Err(AcceptFault::Sizes) => 2,
+        Err(AcceptFault::TooLong) => 3,
+        Err(AcceptFault::TooMany) => 19,
+        Err(AcceptFault::Refused(number)) => number,
+        Err(AcceptFault::Repeated) => 22,
     }
 }

@@ -1,7 +1,7 @@
 -- `yes-exactly` (order W12), from the promises alone: yes if and only if key and font digest have their sizes, the stream is within 65,536 bytes and 512
 -- stretches, every stretch that a whole run of `read` sees reads as a line, and no two of them have one nonce. That the stream is bytes is a premise, which
 -- a call meets by its type. Assumes nothing.
-use Rattle.std.specs.Prelude.{◌≡◌, List, map, ℕ, ◌≤◌, length}
+use Rattle.std.specs.Prelude.{◌≡◌, List, map, ℕ, ◌≤◌, length, Ok}
 use Rattle.std.proofs.Common.{sym, ap, subst, ◌∙◌, arith}
 use Rattle.std.proofs.lemmas.List.{length-map}
 use Rattle.base_lists.specs.Below.{Below}
@@ -15,7 +15,6 @@ use Rattle.demand_reading.specs.Whole.{WholeRun}
 use Rattle.demand_reading.proofs.Whole.{whole_run}
 use Rattle.demand_joined.specs.Seeing.{seen_of}
 use Rattle.accept_spec.specs.declared.Accepted.{Accepted}
-use Rattle.accept_spec.specs.declared.Answer.TheVariants as answer-is
 use Rattle.accept_spec.specs.Nonces.{AllDiffer}
 use Rattle.accept_spec.specs.Accepting.{most_stretches, yes, read_all, accept_answer, accept_number}
 use Rattle.accept_spec.specs.Exactly.{Lines, nonces_of, Cause, refused, repeated, all-good, at-fault}
@@ -30,7 +29,7 @@ pub record Acceptable (key font : List ℕ) (asked : Asked) (s : List ℕ) : Typ
   pub good : (w : WholeRun key font asked s) → Good s (stretches_seen w.seen)
 
 -- no fault is a yes
-faulty : (s : List ℕ) {x : List (List ℕ)} {r : Reading} {a : Accepted} → Cause s x r a → a.answer ≡ answer-is.Yes → ⊥
+faulty : (s : List ℕ) {x : List (List ℕ)} {r : Reading} {a : Accepted} → Cause s x r a → a.answer ≡ Ok tt → ⊥
 faulty s (refused n) e = n (ap accept_number e)
 faulty s (repeated l o) e = omega (arith, ap accept_number e)
 
@@ -49,7 +48,7 @@ module _ (key font : List ℕ) (asked : Asked) (enough : all_work ≤ asked.allo
     differ = subst AllDiffer (sym (nonces-seen s rs)) d;
   })
 
-  only_yes : (a : Accepted) → Case t asked.editions s a → a.answer ≡ answer-is.Yes → Acceptable key font asked s
+  only_yes : (a : Accepted) → Case t asked.editions s a → a.answer ≡ Ok tt → Acceptable key font asked s
   only_yes _ sizes-wrong e = absurd (omega (arith, ap accept_number e))
   only_yes _ long e = absurd (omega (arith, ap accept_number e))
   only_yes _ many e = absurd (omega (arith, ap accept_number e))
@@ -64,7 +63,7 @@ module _ (key font : List ℕ) (asked : Asked) (enough : all_work ≤ asked.allo
       (subst AllDiffer (nonces-seen s rs) g.differ)
 
   pub yes-exactly : (r : Accepted) → Accepts key font asked.editions asked.layout s r
-      → (r.answer ≡ answer-is.Yes → Acceptable key font asked s) × (Acceptable key font asked s → r ≡ yes s)
+      → (r.answer ≡ Ok tt → Acceptable key font asked s) × (Acceptable key font asked s → r ≡ yes s)
   yes-exactly r p = (
     λ e. only_yes (accept_answer t asked.editions s) (accept-case t asked.editions s) (ap (λ (a : Accepted). a.answer) (sym p) ∙ e),
     λ a. p ∙ yes-then a,

@@ -1,5 +1,5 @@
 -- What a call can answer, case by case in its order: 2, 3, 19, then what the stretches come to. Assumes nothing.
-use Rattle.std.specs.Prelude.{◌≡◌, Bool, not, cond, ℕ, ◌≤◌, length}
+use Rattle.std.specs.Prelude.{◌≡◌, Bool, not, cond, ℕ, ◌≤◌, length, Err}
 use Rattle.std.proofs.Math.Path.{refl}
 use Rattle.std.proofs.Math.Bool.{true, false}
 use mathlib.Core.List.{List, []}
@@ -12,7 +12,7 @@ use Rattle.read_spec.specs.Sizes.{Sizes}
 use Rattle.read_spec.specs.Judging.{judge}
 use Rattle.read_call.specs.Answers.{longest_stream, sized_told}
 use Rattle.accept_spec.specs.declared.Accepted.{Accepted}
-use Rattle.accept_spec.specs.declared.Answer.TheVariants as answer-is
+use Rattle.accept_spec.specs.declared.AcceptFault.TheVariants as answer-is
 use Rattle.accept_spec.specs.Nonces.{AllDiffer}
 use Rattle.accept_spec.specs.Accepting.{most_stretches, refused, yes, stretches_in, read_all, accept_from, accept_answer}
 use Rattle.accept_spec.specs.Exactly.{Lines, nonces_of, Outcome, outcome, good-yes}
@@ -20,9 +20,9 @@ use Rattle.accept_spec.specs.Readings.{counted}
 
 module _ (t : Told) (ed : ℕ) (s : List ℕ) where
   pub data Case : Accepted → Type 0 where
-    sizes-wrong : Case (refused answer-is.Sizes)
-    long : Case (refused answer-is.TooLong)
-    many : Case (refused answer-is.TooMany)
+    sizes-wrong : Case (refused (Err answer-is.Sizes))
+    long : Case (refused (Err answer-is.TooLong))
+    many : Case (refused (Err answer-is.TooMany))
     judged : Sizes t → length s ≤ longest_stream → length (read_all t ed s) ≤ most_stretches → {a : Accepted} → Outcome s [] (read_all t ed s) a → Case a
 
   pub accept-case : Case (accept_answer t ed s)
@@ -33,9 +33,9 @@ module _ (t : Told) (ed : ℕ) (s : List ℕ) where
     where
       go : (a : Bool) → eqb (length t.key) key_length ≡ a → (b : Bool) → eqb (length t.font) digest_length ≡ b
           → (c : Bool) → ltb longest_stream (length s) ≡ c → (d : Bool) → ltb most_stretches (stretches_in s) ≡ d
-          → Case (cond (not (cond a b false)) (refused answer-is.Sizes)
-          (cond c (refused answer-is.TooLong)
-          (cond d (refused answer-is.TooMany)
+          → Case (cond (not (cond a b false)) (refused (Err answer-is.Sizes))
+          (cond c (refused (Err answer-is.TooLong))
+          (cond d (refused (Err answer-is.TooMany))
           (accept_from s [] (read_all t ed s)))))
       go false w b x c y d z = sizes-wrong
       go true w false x c y d z = sizes-wrong

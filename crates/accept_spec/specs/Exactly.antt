@@ -1,13 +1,13 @@
 -- When a stream gets yes, and what the first stretch at fault is, over the readings of the stream. Assumes nothing.
-use Rattle.std.specs.Prelude.{◌≡◌, Bool, true, false, not, cond, ℕ, eqb}
+use Rattle.std.specs.Prelude.{◌≡◌, Bool, true, false, not, cond, ℕ, eqb, Err}
 use Rattle.std.proofs.Math.Path.{refl, subst}
 use Rattle.std.proofs.Common.{sym, ap, ◌∙◌, arith, eqb-true, eq-eqb}
 use mathlib.Core.List.{List, [], ◌∷◌, ◌++◌, map, append_assoc, append-nil}
 use Rattle.std.proofs.lemmas.Bool.{eqb-false}
 use Rattle.read_spec.specs.Judged.{number_in}
 use Rattle.read_readings.specs.Readings.{Reading}
-use Rattle.accept_spec.specs.declared.Answer.{Answer}
-use Rattle.accept_spec.specs.declared.Answer.TheVariants as answer-is
+use Rattle.accept_spec.specs.declared.AcceptFault.{AcceptFault}
+use Rattle.accept_spec.specs.declared.AcceptFault.TheVariants as answer-is
 use Rattle.accept_spec.specs.declared.Accepted.{Accepted}
 use Rattle.accept_spec.specs.Nonces.{met, Occurs, AllDiffer, met-occurs, met-differs, differs-met, all-last, all_first, all-behind}
 use Rattle.accept_spec.specs.Accepting.{at, nonce_at, yes, accept_from}
@@ -24,8 +24,8 @@ module _ (s : List ℕ) where
 
   -- why a stretch is the one at fault, behind lines with these nonces
   pub data Cause (before : List (List ℕ)) (r : Reading) : Accepted → Type 0 where
-    refused : (number_in r.judged ≡ 0 → ⊥) → Cause before r (at r.place (answer-is.Refused (number_in r.judged)))
-    repeated : number_in r.judged ≡ 0 → Occurs (nonce_at s r) before → Cause before r (at r.place answer-is.Repeated)
+    refused : (number_in r.judged ≡ 0 → ⊥) → Cause before r (at r.place (Err (answer-is.Refused (number_in r.judged))))
+    repeated : number_in r.judged ≡ 0 → Occurs (nonce_at s r) before → Cause before r (at r.place (Err answer-is.Repeated))
 
   -- the first stretch at fault: all before it read as lines, with nonces that differ
   pub record Fault (seen : List (List ℕ)) (rs : List Reading) (a : Accepted) : Type 0 where
@@ -83,7 +83,7 @@ module _ (s : List ℕ) where
       go : (t : Bool) → eqb (number_in r.judged) 0 ≡ t → (u : Bool) → met seen (nonce_at s r) ≡ u
           → (met seen (nonce_at s r) ≡ false → Outcome (seen ++ (nonce_at s r ∷ [])) rs (accept_from s (seen ++ (nonce_at s r ∷ [])) rs))
           → Outcome seen (r ∷ rs)
-          (cond (not t) (at r.place (answer-is.Refused (number_in r.judged))) (cond u (at r.place answer-is.Repeated)
+          (cond (not t) (at r.place (Err (answer-is.Refused (number_in r.judged)))) (cond u (at r.place (Err answer-is.Repeated))
           (accept_from s (seen ++ (nonce_at s r ∷ [])) rs)))
       go false e u q on = here (refused (eqb-false (number_in r.judged) 0 e))
       go true e true q on = here (repeated (eqb-true (number_in r.judged) 0 e) (met-occurs seen (nonce_at s r) q))

@@ -2,11 +2,9 @@
 // the crate accept_call.
 #![tactic(auto)]
 
-// What accepting a stream comes to.
+// Why a stream is not accepted: not each stretch reads as a line, or a nonce occurs in two of them.
 #[derive(Clone, Copy)]
-pub enum Answer {
-    // Each stretch reads as a line and no nonce occurs in two of them.
-    Yes,
+pub enum AcceptFault {
     // The call is refused: key or font digest not of its size, stream too long, over 512 stretches.
     Sizes,
     TooLong,
@@ -23,5 +21,5 @@ pub enum Answer {
 pub struct Accepted {
     pub first: usize,
     pub closing: usize,
-    pub answer: Answer,
+    pub answer: Result<(), AcceptFault>,
 }

@@ -1,34 +1,39 @@
--- A field's bytes stored one behind the other, as `lay` goes. Assumes nothing.
-use mathlib.Core.Path.{◌≡◌, ◌∙◌}
-use mathlib.Core.List.{List}
-use Prim.Native.Nat.{ℕ, suc, ◌+◌, ◌-◌, ◌/◌, ◌%◌, ◌≤◌}
+-- A field's bytes stored one behind the other, as `lay` goes: its head, and then its value. Assumes nothing.
+use mathlib.Core.Path.{◌≡◌, refl, ap, sym}
+use mathlib.Core.List.{List, [], ◌∷◌}
+use Prim.Native.Nat.{ℕ, ◌+◌, ◌-◌, ◌*◌, ◌/◌, ◌%◌, ◌≤◌, ◌<◌}
 use native.Mathlib.Omega.{arith}
-use lib.ListN.{length, set, take, drop, length-set, length-take, length-drop}
-use lib.Seq.{sets}
+use lib.ListN.{length}
+use Rattle.std.proofs.Common.{append_assoc, drop-drop}
+use Rattle.std.proofs.lemmas.List.Edits.{sets, sets-eq}
+use lib.Seq.{length-sets}
 use borrow.Rule.Slice.PartMut.{put_mid}
-use Rattle.base_lists.specs.Buffers.{copied}
-use Rattle.base_lists.specs.Over.{copied_all, over-part}
 use Rattle.base_fields.specs.Fields.{head_length, high_byte, field}
 use Rattle.base_fields.specs.Laws.{length-field}
+use Rattle.base_fields.specs.Laying.{sets_more}
 
--- a value copied to the part of a buffer that begins at a place
-behind : (p : List ℕ) (at : ℕ) (v w : List ℕ) → at + length v ≤ length p → w ≡ copied v (take (length p - at) (drop at p))
-    → put_mid at (length p - at) p w ≡ sets p at v
-behind p at v w h e =
-    rw (e, copied_all v (take (length p - at) (drop at p)) (rw length-take (omega (arith, length-drop at p)))) (over-part at v p h)
+-- bytes put over a part of a buffer that is as long
+part : (p : List ℕ) (at k : ℕ) (w : List ℕ) → k ≡ length w → at + length w ≤ length p → put_mid at k p w ≡ sets p at w
+part p at k w e h = rw (e, drop-drop (length w) at p, ← append_assoc) (sym (sets-eq w p at h))
 
-module _ (o : List ℕ) (at tag : ℕ) (v : List ℕ) (room : at + length (field tag v) ≤ length o) where
-  -- the buffer with tag and length stored
-  abbrev pub headed : List ℕ
-  headed = set (set (set o at tag) (at + 1) (length v / high_byte)) (at + 2) (length v % high_byte)
+-- the buffer keeps its length
+pub part-length : (p : List ℕ) (at k : ℕ) (w : List ℕ) → k ≡ length w → at + length w ≤ length p → length (put_mid at k p w) ≡ length p
+part-length p at k w e h = rw (part p at k w e h, length-sets)
 
-  -- and with the value copied behind them
-  pub put_one : (w : List ℕ) → w ≡ copied v (take (length headed - (at + head_length)) (drop (at + head_length) headed))
-      → put_mid (at + head_length) (length headed - (at + head_length)) headed w ≡ sets o at (field tag v)
-  unfolding field
-  put_one w e =
-      let l : at + head_length + length v ≤ length headed = simp length-set (omega (arith, length-field tag v)) in
-      let one : at + 1 ≡ suc at = omega arith in
-      let two : at + 2 ≡ suc (suc at) = omega arith in
-      let three : at + head_length ≡ suc (suc (suc at)) = omega arith in
-      behind headed (at + head_length) v w l e ∙ rw (one, two, three)
+-- the head, and the value behind it
+pub put_one : (o : List ℕ) (at tag : ℕ) (v w x : List ℕ) → at + length (field tag v) ≤ length o → length v < high_byte * high_byte
+    → w ≡ tag ∷ length v / high_byte % high_byte ∷ length v % high_byte ∷ [] → x ≡ v
+    → put_mid (at + head_length) (at + head_length + length v - (at + head_length)) (put_mid at (at + head_length - at) o w) x ≡ sets o at (field tag v)
+unfolding field
+put_one o at tag v w x room short e f =
+    let whole : length (field tag v) ≡ head_length + length v = length-field tag v in
+    let n : length w ≡ head_length = ap length e in
+    let high : length v / high_byte % high_byte ≡ length v / high_byte = omega arith in
+    rw (
+      part o at (at + head_length - at) w (omega arith) (omega arith),
+      f,
+      part (sets o at w) (at + head_length) (at + head_length + length v - (at + head_length)) v (omega arith) (rw length-sets (omega arith)),
+      e,
+      high,
+    )
+    (sets_more (tag ∷ length v / high_byte ∷ length v % high_byte ∷ []) v o at (at + head_length) refl)

@@ -19,12 +19,12 @@ fn lay(out: &mut [u8], at: usize, tag: u8, value: &[u8]) -> usize
     ensures value { result ≡ at + length (field tag value.now) }
     ensures out_after { out.new ≡ sets out.old at (field tag value.now) }
 {
-    out[at] = tag;
-    out[at + 1] = (value.len() / HIGH_BYTE) as u8;
-    out[at + 2] = (value.len() % HIGH_BYTE) as u8;
+    let [high, low] = (value.len() as u16).to_be_bytes();
     let start = at + HEAD_LENGTH;
-    base_lists::copy(value, &mut out[start..]);
-    start + value.len()
+    let end = start + value.len();
+    out[at..start].copy_from_slice(&[tag, high, low]);
+    out[start..end].copy_from_slice(value);
+    end
 }
 
 // Writes the field at a place of out, and gives the place behind it. Where out has no room for it there, or the value is longer than two
@@ -33,14 +33,8 @@ pub fn put_field(out: &mut [u8], at: usize, tag: u8, value: &[u8]) -> usize
     ensures value { result ≡ field_end out.old at tag value.now }
     ensures out_after { out.new ≡ field_out out.old at tag value.now }
 {
-    if value.len() >= HIGH_BYTE * HIGH_BYTE {
-        return at;
-    }
     let whole = HEAD_LENGTH + value.len();
-    if out.len() < whole {
-        return at;
-    }
-    if out.len() - whole < at {
+    if value.len() >= HIGH_BYTE * HIGH_BYTE || out.len() < whole || out.len() - whole < at {
         return at;
     }
     lay(out, at, tag, value)

@@ -1,11 +1,11 @@
 -- The promises of `put_hex`, `last_digit`, `value`, `all_digits` and `digit_at`, as the check reads them (`Post`), admit a single answer. Assumes nothing.
+use Rattle.std.specs.Prelude.{Option}
 use mathlib.Core.Path.{◌≡◌, sym, ◌∙◌}
 use mathlib.Core.Bool.{Bool}
 use Prim.Native.Nat.{ℕ}
 use contract.Lifetimes.{Lfts}
 use denote.Triple.Clauses.{AtExit}
 use borrow.Fn.Kinds.{Dens, ended_of}
-use Rattle.base_hex.specs.declared.Digit.{Digit}
 use Rattle.base_hex.proofs.put_hex.Kinds as put-kinds
 use Rattle.base_hex.proofs.put_hex.Reads as put_reads
 use Rattle.base_hex.proofs.last_digit.Kinds as last-kinds
@@ -25,7 +25,7 @@ pub last-digit-single : (κs : Lfts 0) (a : Dens κs last-kinds.ps) (r r' : ℕ)
     → last-reads.Post κs a r x → last-reads.Post κs a r' x' → r ≡ r'
 last-digit-single κs a r r' x x' p q = p ∙ sym q
 
-pub value-single : (κs : Lfts 0) (a : Dens κs value-kinds.ps) (r r' : Digit) (x x' : AtExit (ended_of 0 value-kinds.ps value-kinds.r) κs)
+pub value-single : (κs : Lfts 0) (a : Dens κs value-kinds.ps) (r r' : Option ℕ) (x x' : AtExit (ended_of 0 value-kinds.ps value-kinds.r) κs)
     → value-reads.Post κs a r x → value-reads.Post κs a r' x' → r ≡ r'
 value-single κs a r r' x x' p q = p ∙ sym q
 

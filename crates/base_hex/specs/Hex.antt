@@ -1,8 +1,7 @@
 -- Hexadecimal text: the digits of bytes, and the bytes of digits. Assumes nothing: these are definitions.
+use Rattle.std.specs.Prelude.{Some, None, Option}
 use Rattle.std.specs.Prelude.{ℕ, zero, suc, ◌+◌, ◌-◌, ◌*◌, ◌/◌, ◌%◌, Bool, true, false, cond, ◌&&◌, List, [], ◌∷◌, ltb, leb, length, get_or, take}
 use Rattle.base_lists.specs.Buffers.{over}
-use Rattle.base_hex.specs.declared.Digit.{Digit}
-use Rattle.base_hex.specs.declared.Digit.TheVariants.{Value, Not}
 
 -- 0 to 9 and A to F
 abbrev pub digit : ℕ → ℕ
@@ -26,25 +25,25 @@ hex_out s o = over (hex_of (fitting s o)) o
 abbrev pub between : ℕ → ℕ → ℕ → Bool
 between a c b = leb a c && leb c b
 
-unfoldable pub value_of : ℕ → Digit
+unfoldable pub value_of : ℕ → Option ℕ
 value_of c =
-    cond (between 0x30 c 0x39) (Value (c - 0x30))
-    (cond (between 0x41 c 0x46) (Value (c - 0x37))
-    (cond (between 0x61 c 0x66) (Value (c - 0x57)) Not))
+    cond (between 0x30 c 0x39) (Some (c - 0x30))
+    (cond (between 0x41 c 0x46) (Some (c - 0x37))
+    (cond (between 0x61 c 0x66) (Some (c - 0x57)) None))
 
 -- text of digits alone
-abbrev pub is_digit : Digit → Bool
-is_digit (Value v) = true
-is_digit Not = false
+abbrev pub is_digit : Option ℕ → Bool
+is_digit (Some v) = true
+is_digit None = false
 
 unfoldable pub all_digits : List ℕ → Bool
 all_digits [] = true
 all_digits (b ∷ s) = cond (is_digit (value_of b)) (all_digits s) false
 
 -- the value of the digit at a place
-abbrev pub digit_of : Digit → ℕ
-digit_of (Value v) = v
-digit_of Not = 0
+abbrev pub digit_of : Option ℕ → ℕ
+digit_of (Some v) = v
+digit_of None = 0
 
 unfoldable pub digit_at : List ℕ → ℕ → ℕ
 digit_at s at = digit_of (value_of (get_or s at 0))

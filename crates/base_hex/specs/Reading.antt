@@ -1,5 +1,5 @@
 -- Laws of digits that are read: tested one by one, the value of each, and the bytes that they are. Assumes nothing.
-use Rattle.std.specs.Prelude.{◌≡◌, Bool, true, cond, ◌&&◌, List, ℕ, zero, suc, ◌+◌, ◌-◌, ◌≤◌, ◌<◌, T, leb, length, drop, get_or}
+use Rattle.std.specs.Prelude.{◌≡◌, Bool, true, cond, ◌&&◌, List, ℕ, zero, suc, ◌+◌, ◌-◌, ◌≤◌, ◌<◌, T, leb, length, drop, get_or, Some, None, Option}
 use Rattle.std.proofs.Math.Path.{refl, sym}
 use Rattle.std.proofs.Common.{ap, subst, ◌∙◌, not-suc-le-zero, le_of_suc-le-suc, arith, drop_of_length-le, ext_get_or, leb-true}
 use Rattle.std.proofs.Math.Bool.{false}
@@ -7,8 +7,6 @@ use Rattle.std.proofs.Math.ListN.{get_or-eq_default}
 use Rattle.base_lists.specs.Walk.{at}
 use Rattle.base_lists.specs.Upto.{Upto}
 use Rattle.base_hex.specs.Hex.{value_of, between, is_digit, all_digits, digit_of, digit_at, byte_at, bytes_from}
-use Rattle.base_hex.specs.declared.Digit.{Digit}
-use Rattle.base_hex.specs.declared.Digit.TheVariants.{Value, Not}
 
 -- digits are tested from place i on
 pub record Tested (text : List ℕ) (i : ℕ) : Type 0 where
@@ -19,13 +17,13 @@ pub tested-none : (text : List ℕ) → Tested text 0
 tested-none text = record { within = omega arith; left = refl }
 
 module _ {text : List ℕ} {i : ℕ} (w : Tested text i) where
-  pub tested-more : i < length text → (d : Digit) → d ≡ value_of (get_or text i 0) → is_digit d ≡ true → Tested text (i + 1)
+  pub tested-more : i < length text → (d : Option ℕ) → d ≡ value_of (get_or text i 0) → is_digit d ≡ true → Tested text (i + 1)
   unfolding all_digits
   tested-more h d e f =
       let z : all_digits (drop i text) ≡ all_digits (drop (i + 1) text) = rw (at text i h, ← e, f) refl in
       record { within = omega arith; left = w.left ∙ z }
 
-  pub tested-not : i < length text → (d : Digit) → d ≡ value_of (get_or text i 0) → is_digit d ≡ false → false ≡ all_digits text
+  pub tested-not : i < length text → (d : Option ℕ) → d ≡ value_of (get_or text i 0) → is_digit d ≡ false → false ≡ all_digits text
   unfolding all_digits
   tested-not h d e f =
       let z : all_digits (drop i text) ≡ false = rw (at text i h, ← e, f) refl in
@@ -49,14 +47,14 @@ unfolding value_of
 digit-below c = go (between 0x30 c 0x39) refl (between 0x41 c 0x46) refl (between 0x61 c 0x66) refl
   where
     go : (t : Bool) → between 0x30 c 0x39 ≡ t → (u : Bool) → between 0x41 c 0x46 ≡ u → (v : Bool) → between 0x61 c 0x66 ≡ v
-        → digit_of (cond t (Value (c - 0x30)) (cond u (Value (c - 0x37)) (cond v (Value (c - 0x57)) Not))) < 16
+        → digit_of (cond t (Some (c - 0x30)) (cond u (Some (c - 0x37)) (cond v (Some (c - 0x57)) None))) < 16
     go true p u q v r = let b = between-both 0x30 c 0x39 p in omega (arith, b.0, b.1)
     go false p true q v r = let b = between-both 0x41 c 0x46 q in omega (arith, b.0, b.1)
     go false p false q true r = let b = between-both 0x61 c 0x66 r in omega (arith, b.0, b.1)
     go false p false q false r = omega arith
 
 -- the digit at a place, and past the row's end
-pub digit-known : (row : List ℕ) (i : ℕ) (d x : Digit) → d ≡ value_of (get_or row i 0) → d ≡ x → (digit_of x ≡ digit_at row i) × (digit_of x < 16)
+pub digit-known : (row : List ℕ) (i : ℕ) (d x : Option ℕ) → d ≡ value_of (get_or row i 0) → d ≡ x → (digit_of x ≡ digit_at row i) × (digit_of x < 16)
 unfolding digit_at
 digit-known row i d x e f = let q : x ≡ value_of (get_or row i 0) = sym f ∙ e in (ap digit_of q, rw q (digit-below (get_or row i 0)))
 

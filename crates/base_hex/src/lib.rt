@@ -5,13 +5,6 @@
 ghost use Rattle.std.specs.Prelude.{◌≡◌, ◌%◌, ◌<◌};
 ghost use Rattle.base_hex.specs.Hex.{digit, hex_length, hex_out, value_of, all_digits, digit_at};
 
-// What a character is as a hexadecimal digit.
-#[derive(Clone, Copy)]
-pub enum Digit {
-    Value(u8),
-    Not,
-}
-
 // The upper-case digit of a number below 16.
 fn digit_of(n: u8) -> u8
     requires { n < 16 }
@@ -32,28 +25,24 @@ pub fn put_hex(bytes: &[u8], out: &mut [u8]) -> usize
     ensures value { result ≡ hex_length bytes.now out.old }
     ensures out_after { out.new ≡ hex_out bytes.now out.old }
 {
-    let mut i = 0;
-    while i < bytes.len() {
-        if i >= out.len() / 2 {
-            return 2 * i;
-        }
-        let b = bytes[i];
-        out[2 * i] = digit_of(b / 16);
-        out[2 * i + 1] = digit_of(b % 16);
-        i += 1;
+    let fit = bytes.len().min(out.len() / 2);
+    for i in 0..fit {
+        out[2 * i] = digit_of(bytes[i] / 16);
+        out[2 * i + 1] = digit_of(bytes[i] % 16);
     }
-    2 * i
+    2 * fit
 }
 
 // The value of a hexadecimal digit of either case.
-pub fn value(c: u8) -> Digit
+#[tactic(auto, using(std::proofs::lemmas::Bool::Decides::nat_tests), unfolding(crate::specs::Hex::value_of))]
+pub fn value(c: u8) -> Option<u8>
     ensures { result ≡ value_of c }
 {
     match c {
-        0x30..=0x39 => Digit::Value(c - 0x30),
-        0x41..=0x46 => Digit::Value(c - 0x37),
-        0x61..=0x66 => Digit::Value(c - 0x57),
-        _ => Digit::Not,
+        0x30..=0x39 => Some(c - 0x30),
+        0x41..=0x46 => Some(c - 0x37),
+        0x61..=0x66 => Some(c - 0x57),
+        _ => None,
     }
 }
 
@@ -61,28 +50,20 @@ pub fn value(c: u8) -> Digit
 pub fn all_digits(digits: &[u8]) -> bool
     ensures { result ≡ all_digits digits.now }
 {
-    let mut i = 0;
-    while i < digits.len() {
-        let digit = value(digits[i]);
-        let Digit::Value(_) = digit else {
-            return false;
-        };
-        i += 1;
-    }
-    true
+    digits.iter().all(|c| matches!(value(*c), Some(_)))
 }
 
 // The value of the digit at a place; 0 where there is none.
+#[tactic(auto, using(std::proofs::lemmas::Bool::Decides::nat_tests), unfolding(crate::specs::Hex::digit_at, crate::specs::Hex::value_of))]
 pub fn digit_at(digits: &[u8], at: usize) -> u8
     ensures value { result ≡ digit_at digits.now at }
     ensures upper_bound { result < 16 }
 {
-    if at >= digits.len() {
+    let Some(c) = digits.get(at) else {
         return 0;
-    }
-    let digit = value(digits[at]);
-    match digit {
-        Digit::Value(v) => v,
-        Digit::Not => 0,
+    };
+    match value(*c) {
+        Some(v) => v,
+        None => 0,
     }
 }

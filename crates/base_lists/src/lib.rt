@@ -9,28 +9,16 @@ ghost use Rattle.base_lists.specs.Buffers.{copied, cleared, same};
 pub fn copy(src: &[u8], out: &mut [u8])
     ensures { out.new ≡ copied src.now out.old }
 {
-    let mut i = 0;
-    while i < src.len() {
-        if i >= out.len() {
-            return;
-        }
-        out[i] = src[i];
-        i += 1;
-    }
+    let n = src.len().min(out.len());
+    out[..n].copy_from_slice(&src[..n]);
 }
 
 // Clears the first n bytes of out, or all of them where it has fewer; the rest stays.
 pub fn clear(out: &mut [u8], n: usize)
     ensures { out.new ≡ cleared n out.old }
 {
-    let mut i = 0;
-    while i < out.len() {
-        if i >= n {
-            return;
-        }
-        out[i] = 0;
-        i += 1;
-    }
+    let end = n.min(out.len());
+    out[..end].fill(0);
 }
 
 // Whether a and b, of one length, differ nowhere; every byte is looked at.
@@ -39,13 +27,9 @@ fn same_bytes(a: &[u8], b: &[u8]) -> bool
     ensures { result ≡ same a.now b.now }
 {
     let mut equal = true;
-    let mut k = 0;
-    while k < a.len() {
-        if a[k] == b[k] {
-            k += 1;
-        } else {
+    for (x, y) in a.iter().zip(b) {
+        if x != y {
             equal = false;
-            k += 1;
         }
     }
     equal
@@ -55,8 +39,5 @@ fn same_bytes(a: &[u8], b: &[u8]) -> bool
 pub fn compare(a: &[u8], b: &[u8]) -> bool
     ensures { result ≡ same a.now b.now }
 {
-    if a.len() != b.len() {
-        return false;
-    }
-    same_bytes(a, b)
+    a.len() == b.len() && same_bytes(a, b)
 }

@@ -9,10 +9,8 @@ pub fn fill(out: &mut [u8], start: u8, step: u8)
     ensures { out.new ≡ ramp start step (length out.old) }
 {
     let mut x = start;
-    let mut i = 0;
-    while i < out.len() {
-        out[i] = x;
-        x = std::num::wrapping_add_u8(x, step);
-        i += 1;
+    for b in out.iter_mut() {
+        *b = x;
+        x = x.wrapping_add(step);
     }
 }

@@ -7,7 +7,7 @@ use bundle_draw::LONGEST_DRAWING;
 use bundle_write::BUNDLE_ROOM;
 use digest_call::DIGEST;
 use std::io::Read;
-use tool_files::Loaded;
+use tool_files::LoadFault;
 
 // The longest word that is looked at.
 const WORD: usize = 8;
@@ -113,9 +113,9 @@ fn known(word: &[u8]) -> bool {
 fn on_input(rt: &(impl Print + Eprint), input: &mut impl Read, word: &[u8], buffer: &mut [u8]) {
     let loaded = tool_files::take_in(input, buffer);
     match tool_files::held(loaded, buffer.len()) {
-        Loaded::Bytes(n) => asked(rt, word, &buffer[0..n]),
-        Loaded::Long => asked(rt, word, buffer),
-        Loaded::Failed => complain(rt, "bundle: input can't be read\n"),
+        Ok(n) => asked(rt, word, &buffer[0..n]),
+        Err(LoadFault::Long) => asked(rt, word, buffer),
+        Err(LoadFault::Failed) => complain(rt, "bundle: input can't be read\n"),
     }
 }
 

@@ -1,21 +1,13 @@
--- Each place of a line counts something, behind it no dot is printed, and each character ends at most one row. Assumes nothing.
+-- Behind a line no dot is printed, and each character ends at most one row. Assumes nothing.
 use mathlib.Core.Path.{◌≡◌}
 use mathlib.Core.Bool.{Bool, true, false, cond}
-use Prim.Native.Nat.{ℕ, ◌+◌, ◌≤◌, ◌<◌}
+use Prim.Native.Nat.{ℕ, ◌+◌, ◌≤◌}
 use native.Mathlib.Nat.{div-zero}
 use native.Mathlib.Omega.{arith}
-use lib.Dec.{eqb, ltb, ltb→lt}
+use lib.Dec.{eqb}
 use lib.ListN.{get_or, get_or-eq_default}
-use Rattle.base_lists.specs.Table.{at}
 use Rattle.bundle_dots.specs.Lines.{newline, unprinted, weights, line_length, dot_of}
 use Rattle.bundle_dots.specs.Faults.{next_row}
-
-some : ℕ → ℕ → Bool
-some m w = ltb 0 w
-
-pub weight-some : (m : ℕ) → m < line_length → 0 < get_or weights m 0
-unfolding some
-weight-some m h = ltb→lt 0 (get_or weights m 0) (at some weights tt m h)
 
 -- behind the line no place counts anything
 pub no-dot : (r m : ℕ) → line_length ≤ m → dot_of r (get_or weights m 0) ≡ unprinted

@@ -23,34 +23,26 @@ const LINE_END: usize = LINE - 1;
 const WEIGHTS: [u8; LINE] = [1, 1, 64, 32, 16, 8, 4, 2, 1, 1];
 
 // The dot of a row that counts w.
+#[tactic(auto, unfolding(crate::specs::Lines::dot_of))]
 fn dot(r: u8, w: u8) -> u8
     requires { 0 < w }
     ensures { result ≡ dot_of r w }
 {
-    if r / w % 2 == 1 {
-        return PRINTED;
-    }
-    UNPRINTED
+    if r / w % 2 == 1 { PRINTED } else { UNPRINTED }
 }
 
 // Place m of the line of the row r of the character c; behind the line no dot is printed.
+#[tactic(auto, unfolding(crate::specs::Lines::line_char))]
 pub fn line_char(c: u8, r: u8, m: usize) -> u8
     ensures { result ≡ line_char c r m }
 {
-    let weights = WEIGHTS;
-    if m == 0 {
-        return c;
+    match m {
+        0 => c,
+        1 => BLANK,
+        2..LINE_END => dot(r, WEIGHTS[m]),
+        LINE_END => NEWLINE,
+        _ => UNPRINTED,
     }
-    if m == 1 {
-        return BLANK;
-    }
-    if m == LINE_END {
-        return NEWLINE;
-    }
-    if m >= LINE {
-        return UNPRINTED;
-    }
-    dot(r, weights[m])
 }
 
 // The row behind a character; no slice is so long that rows could not be counted.
@@ -58,10 +50,7 @@ fn next_row(row: usize, c: u8) -> usize
     requires { row < 9223372036854775808 }
     ensures { result ≡ next_row row c }
 {
-    if c == NEWLINE {
-        return row + 1;
-    }
-    row
+    if c == NEWLINE { row + 1 } else { row }
 }
 
 // The first row of a text, from 1, that is not as in a drawing; 0 where the text is that drawing.
@@ -69,19 +58,11 @@ pub fn fault_row(drawing: &[u8], text: &[u8]) -> usize
     ensures { result ≡ fault (λ i. get_or drawing.now i 0) (length drawing.now) 0 1 text.now }
 {
     let mut row: usize = 1;
-    let mut i = 0;
-    while i < drawing.len() {
-        if i >= text.len() {
+    for (i, c) in drawing.iter().enumerate() {
+        if i >= text.len() || text[i] != *c {
             return row;
         }
-        if text[i] != drawing[i] {
-            return row;
-        }
-        row = next_row(row, text[i]);
-        i += 1;
+        row = next_row(row, *c);
     }
-    if i < text.len() {
-        return row;
-    }
-    0
+    if drawing.len() < text.len() { row } else { 0 }
 }

@@ -1,11 +1,12 @@
 -- The promises of `show` and `make` and of their numbers, as the check reads them (`Post`), admit a single answer. Assumes nothing.
+use Rattle.std.specs.Prelude.{Result}
 use mathlib.Core.Path.{◌≡◌, sym, ◌∙◌}
 use Prim.Native.Nat.{ℕ}
 use contract.Lifetimes.{Lfts}
 use denote.Triple.Clauses.{AtExit}
 use borrow.Fn.Kinds.{Dens, ended_of}
-use Rattle.bundle_draw.specs.declared.Shown.{Shown}
-use Rattle.bundle_draw.specs.declared.Made.{Made}
+use Rattle.bundle_draw.specs.declared.ShowRefusal.{ShowRefusal}
+use Rattle.bundle_draw.specs.declared.DrawingFault.{DrawingFault}
 use Rattle.bundle_draw.proofs.show.Kinds as show-kinds
 use Rattle.bundle_draw.proofs.show.Reads as show-reads
 use Rattle.bundle_draw.proofs.make.Kinds as make-kinds
@@ -21,11 +22,11 @@ use Rattle.bundle_draw.proofs.make_length.Reads as make-length-reads
 use Rattle.bundle_draw.proofs.make_row.Kinds as make-row-kinds
 use Rattle.bundle_draw.proofs.make_row.Reads as make-row-reads
 
-pub show-single : (κs : Lfts 2) (a : Dens κs show-kinds.ps) (r r' : Shown) (x x' : AtExit (ended_of 2 show-kinds.ps show-kinds.r) κs)
+pub show-single : (κs : Lfts 2) (a : Dens κs show-kinds.ps) (r r' : Result ℕ ShowRefusal) (x x' : AtExit (ended_of 2 show-kinds.ps show-kinds.r) κs)
     → show-reads.Post κs a r x → show-reads.Post κs a r' x' → (r ≡ r') × (x.1.0.now ≡ x'.1.0.now)
 show-single κs a r r' x x' p q = (p.0 ∙ sym q.0, p.1 ∙ sym q.1)
 
-pub make-single : (κs : Lfts 2) (a : Dens κs make-kinds.ps) (r r' : Made) (x x' : AtExit (ended_of 2 make-kinds.ps make-kinds.r) κs)
+pub make-single : (κs : Lfts 2) (a : Dens κs make-kinds.ps) (r r' : Result ℕ DrawingFault) (x x' : AtExit (ended_of 2 make-kinds.ps make-kinds.r) κs)
     → make-reads.Post κs a r x → make-reads.Post κs a r' x' → (r ≡ r') × (x.1.0.now ≡ x'.1.0.now)
 make-single κs a r r' x x' p q = (p.0 ∙ sym q.0, p.1 ∙ sym q.1)
 

@@ -1,12 +1,12 @@
 -- What a text draws, as `make` works it out, and the answers of `make` in their order. Assumes nothing.
-use Rattle.std.specs.Prelude.{◌≡◌, refl, Bool, true, false, cond, List, ℕ, ◌-◌, ◌/◌, ◌≤◌, ltb, length, take, drop}
+use Rattle.std.specs.Prelude.{◌≡◌, refl, Bool, true, false, cond, List, ℕ, ◌-◌, ◌/◌, ◌≤◌, ltb, length, take, drop, Err}
 use Rattle.std.proofs.Common.{◌∙◌}
 use Rattle.std.proofs.Math.Path.{ap}
 use native.Mathlib.Omega.{arith}
 use borrow.Author.Tests.{eq-eqb, ne_eqb, ltb-false}
 use Rattle.bundle_spec.specs.Bundles.{longest_name, all_rows}
 use Rattle.bundle_write.specs.Answers.{write_answer, write_out}
-use Rattle.bundle_draw.specs.declared.Made.TheVariants.{Row}
+use Rattle.bundle_draw.specs.declared.DrawingFault.TheVariants.{Row}
 use Rattle.bundle_draw.specs.Drawing.{name_line_length, char_at, drawing_length, listed}
 use Rattle.bundle_draw.specs.Listed.{length-listed}
 use Rattle.bundle_dots.specs.Faults.{fault}
@@ -48,7 +48,7 @@ fault-drawn text name rows p q row e =
     ∙ ap (λ (y : List ℕ). fault (char_at (name_drawn text) y) (drawing_length (length (name_drawn text))) 0 1 text) q
 
 module _ (text o : List ℕ) where
-  pub make-row : (row : ℕ) → row ≡ fault_row text → (row ≡ 0 → ⊥) → (Row row ≡ make_answer text o) × (o ≡ make_out text o)
+  pub make-row : (row : ℕ) → row ≡ fault_row text → (row ≡ 0 → ⊥) → (Err (Row row) ≡ make_answer text o) × (o ≡ make_out text o)
   unfolding make_answer make_out
   make-row row e n = let f = ne_eqb (fault_row text) 0 (λ z. n (e ∙ z)) in (rw (f, ← e), rw f)
 

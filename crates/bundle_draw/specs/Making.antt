@@ -1,15 +1,15 @@
 -- The bundle of a drawing: what name and rows a text draws, whether it is their drawing, and what `make` answers. Assumes nothing: these are
 -- definitions.
-use Rattle.std.specs.Prelude.{cond, List, [], ◌∷◌, ℕ, zero, suc, ◌+◌, ◌-◌, ◌*◌, ◌/◌, eqb, leb, ltb, length, get_or}
+use Rattle.std.specs.Prelude.{cond, List, [], ◌∷◌, ℕ, zero, suc, ◌+◌, ◌-◌, ◌*◌, ◌/◌, eqb, leb, ltb, length, get_or, Ok, Err, Result}
 use Rattle.bundle_spec.specs.Bundles.{longest_name, all_rows}
-use Rattle.bundle_write.specs.declared.Written.{Written}
-use Rattle.bundle_write.specs.declared.Written.TheVariants as written_is
+use Rattle.bundle_write.specs.declared.BundleRefusal.{BundleRefusal}
+use Rattle.bundle_write.specs.declared.BundleRefusal.TheVariants as written_is
 use Rattle.bundle_write.specs.Answers.{write_answer, write_out}
 use Rattle.bundle_dots.specs.Lines.{newline, printed, line_length}
 use Rattle.bundle_dots.specs.Faults.{fault}
 use Rattle.bundle_draw.specs.Drawing.{name_line_length, char_at, drawing_length, listed}
-use Rattle.bundle_draw.specs.declared.Made.{Made}
-use Rattle.bundle_draw.specs.declared.Made.TheVariants.{Done, Row, Alike, NoRoom}
+use Rattle.bundle_draw.specs.declared.DrawingFault.{DrawingFault}
+use Rattle.bundle_draw.specs.declared.DrawingFault.TheVariants.{Row, Alike, NoRoom}
 
 -- where the first line of a text ends: the place of its newline, or the text's length
 unfoldable pub end_of : List ℕ → ℕ
@@ -58,38 +58,39 @@ fault_row text =
     fault (char_at (name_drawn text) (rows_drawn text)) (drawing_length (length (name_drawn text))) zero 1 text
 
 -- what the writer answers for them; it can take no offence at the shape of rows that were drawn, but at a name of no bytes, in row 1
-abbrev pub of_written : Written → Made
-of_written (written_is.Done n) = Done n
-of_written written_is.Shape = Row 1
-of_written written_is.Alike = Alike
-of_written written_is.NoRoom = NoRoom
+abbrev pub fault_for : BundleRefusal → DrawingFault
+fault_for written_is.Shape = Row 1
+fault_for written_is.Alike = Alike
+fault_for written_is.NoRoom = NoRoom
+
+abbrev pub of_written : Result ℕ BundleRefusal → Result ℕ DrawingFault
+of_written (Ok n) = Ok n
+of_written (Err r) = Err (fault_for r)
 
 -- a text that is no drawing is refused with its row (11), then what the writer refuses (12, 4)
-unfoldable pub make_answer : List ℕ → List ℕ → Made
+unfoldable pub make_answer : List ℕ → List ℕ → Result ℕ DrawingFault
 make_answer text o =
     cond (eqb (fault_row text) 0)
     (of_written (write_answer (name_drawn text) (rows_drawn text) o))
-    (Row (fault_row text))
+    (Err (Row (fault_row text)))
 
 -- and what then stands in the buffer
 unfoldable pub make_out : List ℕ → List ℕ → List ℕ
 make_out text o = cond (eqb (fault_row text) 0) (write_out (name_drawn text) (rows_drawn text) o) o
 
 -- the number of each answer (order W1), the length of the bundle, and the row
-abbrev pub make_number : Made → ℕ
-make_number (Done n) = 0
-make_number (Row k) = 11
-make_number Alike = 12
-make_number NoRoom = 4
+abbrev pub make_number : Result ℕ DrawingFault → ℕ
+make_number (Ok n) = 0
+make_number (Err (Row k)) = 11
+make_number (Err Alike) = 12
+make_number (Err NoRoom) = 4
 
-abbrev pub make_length : Made → ℕ
-make_length (Done n) = n
-make_length (Row k) = 0
-make_length Alike = 0
-make_length NoRoom = 0
+abbrev pub make_length : Result ℕ DrawingFault → ℕ
+make_length (Ok n) = n
+make_length (Err f) = 0
 
-abbrev pub make_row : Made → ℕ
-make_row (Done n) = 0
-make_row (Row k) = k
-make_row Alike = 0
-make_row NoRoom = 0
+abbrev pub make_row : Result ℕ DrawingFault → ℕ
+make_row (Ok n) = 0
+make_row (Err (Row k)) = k
+make_row (Err Alike) = 0
+make_row (Err NoRoom) = 0

@@ -1,5 +1,5 @@
 -- `make` undoes `show`: the drawing of a bundle is taken for a drawing, and its bundle is the one that was drawn. Assumes nothing.
-use Rattle.std.specs.Prelude.{◌≡◌, Bool, ℕ, zero, suc, ◌+◌, ◌-◌, ◌*◌, ◌/◌, ◌%◌, ◌≤◌, ◌<◌, eqb, leb, drop}
+use Rattle.std.specs.Prelude.{◌≡◌, Bool, ℕ, zero, suc, ◌+◌, ◌-◌, ◌*◌, ◌/◌, ◌%◌, ◌≤◌, ◌<◌, eqb, leb, drop, Ok}
 use Rattle.std.proofs.Math.Path.{refl, ap, ap₂}
 use Rattle.std.proofs.Common.{sym, ◌∙◌, suc-le-suc, not-suc-le-zero, le_of_suc-le-suc, eqb→eq, ltb→lt}
 use Rattle.std.proofs.Math.Bool.{true, false, cond}
@@ -15,12 +15,10 @@ use Rattle.base_lists.specs.Buffers.{over}
 use Rattle.base_hex.specs.Hex.{digit}
 use Rattle.bundle_spec.specs.Bundles.{longest_name, characters, all_rows, row_bound, dotted}
 use Rattle.bundle_spec.specs.Lengths.{longest_bundle, name-taken}
-use Rattle.bundle_read.specs.declared.Bundle.TheVariants.{Named}
 use Rattle.bundle_read.specs.Answers.{read_answer}
 use Rattle.bundle_read.proofs.Exactly.{read-written}
 use Rattle.bundle_write.specs.Answers.{name_part, name_in, write_answer, write_out}
 use Rattle.bundle_write.specs.Exactly.{rows_over, name-given, all-given, bundle-written-read}
-use Rattle.bundle_draw.specs.declared.Made.TheVariants.{Done}
 use Rattle.bundle_dots.specs.Lines.{newline, blank, unprinted, line_length, line_end, weights, dot_of, line_char}
 use Rattle.bundle_draw.specs.Drawing.{name_word, word_length, legible, digit_at, name_line_length, name_char, row_char, char_at, drawing_length, listed, drawing}
 use Rattle.bundle_draw.specs.Listed.{length-listed, get_d-listed, listed-agree, listed-self}
@@ -243,8 +241,8 @@ module _ (name r : List ℕ) (short : length name ≤ longest_name) (bytes : Bel
       (λ k h. let from : 0 + k ≡ k = omega arith in place_is k h ∙ ap (char_at name r) (sym from))
 
 -- `make` of the drawing of a bundle gives the bundle back, in any buffer with room, whatever bytes its name holds
-pub make-show : (b o : List ℕ) (n : ℕ) → Below 256 b → read_answer b ≡ Named n → longest_bundle ≤ length o
-    → (make_answer (drawing (name_in b) (rows_over b characters)) o ≡ Done (length b))
+pub make-show : (b o : List ℕ) (n : ℕ) → Below 256 b → read_answer b ≡ Ok n → longest_bundle ≤ length o
+    → (make_answer (drawing (name_in b) (rows_over b characters)) o ≡ Ok (length b))
     × (make_out (drawing (name_in b) (rows_over b characters)) o ≡ over b o)
 make-show b o n bytes e room =
     let w = read-written b n e in

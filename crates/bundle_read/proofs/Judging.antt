@@ -1,4 +1,5 @@
 -- Bytes judged as a bundle by the length of their name, as `read` goes. Assumes nothing.
+use Rattle.std.specs.Prelude.{Err}
 use mathlib.Core.Path.{◌≡◌, refl, ap, sym, ◌∙◌}
 use mathlib.Core.List.{List}
 use Prim.Native.Nat.{ℕ, ◌+◌, ◌-◌, ◌≤◌}
@@ -10,7 +11,7 @@ use Rattle.bundle_spec.specs.Bundles.{name_tag, characters, glyph_count, takes, 
 use Rattle.bundle_spec.specs.Lengths.{glyphs_length, name-taken, length-glyphs}
 use Rattle.bundle_spec.specs.Exactly.{fields-rows}
 use Rattle.bundle_spec.specs.Places.{glyphs_at, glyphs-stand}
-use Rattle.bundle_read.specs.declared.Bundle.TheVariants.{Shape}
+use Rattle.bundle_read.specs.declared.BundleFault.TheVariants.{Shape}
 use Rattle.bundle_read.specs.Answers.{length_found, is_rows, told, judged, read_answer}
 
 module _ (b : List ℕ) where
@@ -18,11 +19,11 @@ module _ (b : List ℕ) where
   n = length_found (front takes name_tag b)
 
   -- no name stands first
-  pub no_name : n ≡ 0 → Shape ≡ read_answer b
+  pub no_name : n ≡ 0 → Err Shape ≡ read_answer b
   unfolding read_answer parts_of
   no_name h = go (front takes name_tag b) refl h
     where
-      go : (f : Front) → front takes name_tag b ≡ f → length_found f ≡ 0 → Shape ≡ judged (after_name f)
+      go : (f : Front) → front takes name_tag b ≡ f → length_found f ≡ 0 → Err Shape ≡ judged (after_name f)
       go no_field p e = refl
       go (value v s) p e = absurd (omega (arith, name-taken (length v) (front-stands takes name_tag b v s p).4))
 
@@ -48,10 +49,10 @@ module _ (b : List ℕ) where
             (v, refl, ap (λ (y : Rows). judged (named v y)) (ap (rows_of characters) (front-stands takes name_tag b v s p).1 ∙ q))
 
     -- more bytes behind the name than fourteen glyphs have, or fewer
-    pub other-end : (length b - (head_length + n) ≡ glyphs_length → ⊥) → Shape ≡ read_answer b
+    pub other-end : (length b - (head_length + n) ≡ glyphs_length → ⊥) → Err Shape ≡ read_answer b
     other-end h = go (rows_of characters (drop (head_length + n) b)) refl
       where
-        go : (x : Rows) → rows_of characters (drop (head_length + n) b) ≡ x → Shape ≡ read_answer b
+        go : (x : Rows) → rows_of characters (drop (head_length + n) b) ≡ x → Err Shape ≡ read_answer b
         go no_rows q = sym (past-name no_rows q).2
         go (rows r) q =
             let are = fields-rows characters (drop (head_length + n) b) r q in

@@ -6,7 +6,7 @@ use Prim.Native.Nat.{ℕ, ◌+◌, ◌-◌, ◌*◌, ◌≤◌, ◌<◌}
 use native.Mathlib.Omega.{arith}
 use lib.Dec.{eqb}
 use lib.ListN.{length, get_or, take, drop, length-drop}
-use lib.Seq.{length-take-le, drop-drop}
+use lib.Seq.{length-take-le, drop-drop, take_all}
 use borrow.Author.Tests.{eq-eqb, ne_eqb, le-leb, lt-leb}
 use Rattle.base_lists.specs.Walk.{at}
 use Rattle.base_fields.specs.Fields.{head_length, high_byte, Front, value, no_field, front}
@@ -15,6 +15,11 @@ use Rattle.bundle_spec.specs.Bundles.{glyph_tag, glyph_rows, glyph_length, takes
 use Rattle.bundle_spec.specs.Lengths.{glyph_field, glyph-taken}
 use Rattle.bundle_spec.specs.Places.{rows_at}
 use Rattle.bundle_read.specs.Answers.{length_found, is_field}
+
+-- the part of some bytes from a place on tells what the bytes from there on do
+pub read_off : (b : List ℕ) (at tag : ℕ) → at ≤ length b → {n : ℕ} → n ≡ length_found (front takes tag (take (length b - at) (drop at b)))
+    → n ≡ length_found (front takes tag (drop at b))
+read_off b at tag h e = rw (take_all (length b - at) (drop at b) (rw length-drop (omega arith))) at e
 
 module _ (b : List ℕ) (i tag : ℕ) (inside : i ≤ length b) where
   abbrev found : ℕ

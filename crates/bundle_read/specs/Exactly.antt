@@ -1,11 +1,7 @@
 -- The reader accepts exactly what the writer can make: bundles of a name and rows that fit, no two glyphs alike. Assumes nothing.
-use Rattle.std.specs.Prelude.{◌≡◌, refl, Bool, true, false, cond, List, ℕ, ◌+◌, ◌≤◌, length}
-use Rattle.std.proofs.Common.{ap, ◌∙◌, arith}
-use Rattle.bundle_spec.specs.Bundles.{name_tag, longest_name, all_rows, takes, bundle_of, dotted, alike, Parts, parts, no-parts, parts_of}
-use Rattle.bundle_spec.specs.Lengths.{beside_name, Fitting, length-bundle, name-taken}
-use Rattle.bundle_spec.specs.Exactly.{parts-bundle, bundle-parts}
-use Rattle.bundle_read.specs.declared.Bundle.TheVariants.{Named}
-use Rattle.bundle_read.specs.Answers.{told, judged, read_answer}
+use Rattle.std.specs.Prelude.{◌≡◌, false, List, ℕ, length}
+use Rattle.bundle_spec.specs.Bundles.{bundle_of, alike}
+use Rattle.bundle_spec.specs.Lengths.{Fitting}
 
 -- b is the bundle of a name of n bytes and rows that the writer takes
 pub record Bundled (b : List ℕ) (n : ℕ) : Type 0 where

@@ -9,7 +9,7 @@ ghost use Rattle.bundle_spec.specs.Lengths.{glyph_field, glyphs_length};
 ghost use Rattle.bundle_spec.specs.Places.{rows_at, glyphs_at};
 ghost use Rattle.bundle_read.specs.Answers.{length_found, is_field, is_rows, told, read_answer};
 
-use base_fields::{HEAD_LENGTH, HIGH_BYTE};
+use base_fields::HEAD_LENGTH;
 use bundle_rules::{CHARACTERS, GLYPH_LENGTH, GLYPH_TAG, GLYPHS, NAME_TAG, all_dotted, rule_takes};
 
 // Where in a glyph's field its character and its rows stand, and how long the field is.
@@ -24,11 +24,9 @@ const GLYPHS_LENGTH: usize = GLYPHS * GLYPH_FIELD;
 
 pub const BESIDE_NAME: usize = HEAD_LENGTH + GLYPHS_LENGTH;
 
-// What some bytes are as a bundle.
+// Why bytes are no bundle.
 #[derive(Clone, Copy)]
-pub enum Bundle {
-    // A bundle; so long is its name, which gives all places.
-    Named(usize),
+pub enum BundleFault {
     // Not of the shape of a bundle: 11.
     Shape,
     // Two glyphs with the same dots: 12.
@@ -39,7 +37,7 @@ pub enum Bundle {
 fn length_said(high: u8, low: u8) -> usize
     ensures { result ≡ high * high_byte + low }
 {
-    high as usize * HIGH_BYTE + low as usize
+    usize::from(u16::from_be_bytes([high, low]))
 }
 
 // The length of the value of the field with this tag at a place of b; 0 where there is no such field, since no rule takes 0.
@@ -47,21 +45,15 @@ fn value_at(b: &[u8], at: usize, tag: u8) -> usize
     requires { at ≤ length b.now }
     ensures { result ≡ length_found (front takes tag (drop at b.now)) }
 {
-    let left = b.len() - at;
-    if left < HEAD_LENGTH {
+    let [first, high, low, rest @ ..] = &b[at..] else {
         return 0;
+    };
+    let n = length_said(*high, *low);
+    if *first == tag && rule_takes(tag, n) && n <= rest.len() {
+        n
+    } else {
+        0
     }
-    if b[at] != tag {
-        return 0;
-    }
-    let n = length_said(b[at + 1], b[at + 2]);
-    if !rule_takes(b[at], n) {
-        return 0;
-    }
-    if left - HEAD_LENGTH < n {
-        return 0;
-    }
-    n
 }
 
 // Whether the glyph of the character c stands at a place of b.
@@ -69,15 +61,9 @@ fn glyph_at(b: &[u8], at: usize, c: u8) -> bool
     requires { at + glyph_field ≤ length b.now }
     ensures { result ≡ is_field (glyph_of c (front takes glyph_tag (drop at b.now))) }
 {
-    if value_at(b, at, GLYPH_TAG) == 0 {
-        return false;
-    }
-    if b[at + CHARACTER_AT] != c {
-        return false;
-    }
-    let first = at + ROWS_AT;
-    let end = at + GLYPH_FIELD;
-    all_dotted(&b[first..end])
+    value_at(b, at, GLYPH_TAG) != 0
+        && b[at + CHARACTER_AT] == c
+        && all_dotted(&b[at + ROWS_AT..at + GLYPH_FIELD])
 }
 
 // Whether the fourteen glyphs stand from a place of b to its end.
@@ -85,15 +71,10 @@ fn glyphs_from(b: &[u8], from: usize) -> bool
     requires { from + glyphs_length ≡ length b.now }
     ensures { result ≡ is_rows (rows_of characters (drop from b.now)) }
 {
-    let all = CHARACTERS;
-    let mut at = from;
-    let mut i = 0;
-    while i < GLYPHS {
-        if !glyph_at(b, at, all[i]) {
+    for (i, c) in CHARACTERS.iter().enumerate() {
+        if !glyph_at(b, from + GLYPH_FIELD * i, *c) {
             return false;
         }
-        at += GLYPH_FIELD;
-        i += 1;
     }
     true
 }
@@ -103,18 +84,14 @@ fn among_behind(b: &[u8], g: usize, from: usize, count: usize) -> bool
     requires { (g + glyph_field ≤ length b.now) × (from + glyph_field * count ≡ length b.now) }
     ensures { result ≡ among (take glyph_rows (drop rows_at (drop g b.now))) (glyphs_at count (drop from b.now)) }
 {
-    let first = g + ROWS_AT;
-    let end = g + GLYPH_FIELD;
-    let mut at = from;
-    let mut others = count;
-    while others > 0 {
-        let other = at + ROWS_AT;
-        let next = at + GLYPH_FIELD;
-        if base_lists::compare(&b[first..end], &b[other..next]) {
+    for i in 0..count {
+        let at = from + GLYPH_FIELD * i;
+        if base_lists::compare(
+            &b[g + ROWS_AT..g + GLYPH_FIELD],
+            &b[at + ROWS_AT..at + GLYPH_FIELD],
+        ) {
             return true;
         }
-        at = next;
-        others -= 1;
     }
     false
 }
@@ -124,43 +101,39 @@ fn alike_from(b: &[u8], from: usize) -> bool
     requires { from + glyphs_length ≡ length b.now }
     ensures { result ≡ repeated (glyphs_at glyph_count (drop from b.now)) }
 {
-    let mut at = from;
-    let mut left = GLYPHS;
-    while left > 0 {
-        let next = at + GLYPH_FIELD;
-        left -= 1;
-        if among_behind(b, at, next, left) {
+    for i in 0..GLYPHS {
+        let at = from + GLYPH_FIELD * i;
+        if among_behind(b, at, at + GLYPH_FIELD, GLYPHS - 1 - i) {
             return true;
         }
-        at = next;
     }
     false
 }
 
 // The answer for bytes as long as a bundle with a name of n bytes: 11 is judged over all of them before 12.
-fn answer(stand: bool, alike: bool, n: usize) -> Bundle
+fn answer(stand: bool, alike: bool, n: usize) -> Result<usize, BundleFault>
     ensures { result ≡ told stand alike n }
 {
     if !stand {
-        return Bundle::Shape;
+        Err(BundleFault::Shape)
+    } else if alike {
+        Err(BundleFault::Alike)
+    } else {
+        Ok(n)
     }
-    if alike {
-        return Bundle::Alike;
-    }
-    Bundle::Named(n)
 }
 
 // Judges bytes as a bundle.
-pub fn read(bundle: &[u8]) -> Bundle
+pub fn read(bundle: &[u8]) -> Result<usize, BundleFault>
     ensures { result ≡ read_answer bundle.now }
 {
     let n = value_at(bundle, 0, NAME_TAG);
     if n == 0 {
-        return Bundle::Shape;
+        return Err(BundleFault::Shape);
     }
     let from = HEAD_LENGTH + n;
     if bundle.len() - from != GLYPHS_LENGTH {
-        return Bundle::Shape;
+        return Err(BundleFault::Shape);
     }
     answer(glyphs_from(bundle, from), alike_from(bundle, from), n)
 }

@@ -31,14 +31,12 @@ pub const CHARACTERS: [u8; GLYPHS] = [
 ];
 
 // The decision over the tag byte, which picks the rule of the field: may its value have n bytes?
+#[tactic(auto, unfolding(bundle_spec::specs::Bundles::takes))]
 pub fn rule_takes(tag: u8, n: usize) -> bool
     ensures { result ≡ takes tag n }
 {
     match tag {
-        NAME_TAG => match n {
-            SHORTEST_NAME..=LONGEST_NAME => true,
-            _ => false,
-        },
+        NAME_TAG => matches!(n, SHORTEST_NAME..=LONGEST_NAME),
         GLYPH_TAG => n == GLYPH_LENGTH,
         _ => false,
     }
@@ -48,27 +46,12 @@ pub fn rule_takes(tag: u8, n: usize) -> bool
 pub fn index_of(c: u8) -> usize
     ensures { result ≡ index_of c characters }
 {
-    let all = CHARACTERS;
-    let mut i = 0;
-    while i < GLYPHS {
-        if all[i] == c {
-            return i;
-        }
-        i += 1;
-    }
-    GLYPHS
+    CHARACTERS.iter().position(|d| *d == c).unwrap_or(GLYPHS)
 }
 
 // Whether every row has seven dots.
 pub fn all_dotted(rows: &[u8]) -> bool
     ensures { result ≡ dotted rows.now }
 {
-    let mut i = 0;
-    while i < rows.len() {
-        if rows[i] > ALL_DOTS {
-            return false;
-        }
-        i += 1;
-    }
-    true
+    rows.iter().all(|row| *row <= ALL_DOTS)
 }

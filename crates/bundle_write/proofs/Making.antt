@@ -1,16 +1,14 @@
--- A bundle made field by field in a room for one, as `made` goes, and the value of a glyph's field. Assumes nothing.
+-- A bundle made field by field in a room for one, as `made` goes. Assumes nothing.
 use mathlib.Core.Path.{◌≡◌, refl, ap, sym, ◌∙◌}
 use mathlib.Core.Bool.{true}
 use mathlib.Core.List.{List, [], ◌∷◌, ◌++◌, append_assoc, append-nil}
-use Prim.Native.Nat.{ℕ, zero, suc, ◌+◌, ◌-◌, ◌*◌, ◌≤◌, ◌<◌}
+use Prim.Native.Nat.{ℕ, zero, suc, ◌+◌, ◌*◌, ◌≤◌, ◌<◌}
 use native.Mathlib.Nat.{not-suc-le-zero, le_of_suc-le-suc}
 use native.Mathlib.Numerals.{add-one}
 use native.Mathlib.Omega.{arith}
-use lib.ListN.{length, get_or, take, drop, replicate, length-append, length-drop, length-replicate}
+use lib.ListN.{length, get_or, take, drop, length-append, length-drop}
 use lib.Seq.{length-take-le, take_all, drop-drop}
-use borrow.Rule.Slice.PartMut.{put_mid}
-use Rattle.base_lists.specs.Buffers.{copied}
-use Rattle.base_lists.specs.Over.{take-over, copied_all, over-length}
+use Rattle.base_lists.specs.Over.{take-over, over-length}
 use Rattle.base_fields.specs.Fields.{head_length, field, field_end, field_out}
 use Rattle.base_fields.specs.Laws.{length-field}
 use Rattle.base_fields.specs.Laying.{Laid, laid_none, laid-field}
@@ -87,16 +85,9 @@ module _ (room name r : List ℕ) (long : length room ≡ longest_bundle) (rule 
       let all : take i characters ≡ characters = take_all i characters h in
       rw (l.held, all) (take-over (bundle_of name r) room (length (bundle_of name r)) refl)
 
--- a character repeated, with rows copied behind the first
-pub valued : (c : ℕ) (w v : List ℕ) → length v ≡ glyph_rows → w ≡ copied v (take (glyph_length - 1) (drop 1 (replicate glyph_length c)))
-    → put_mid 1 (glyph_length - 1) (replicate glyph_length c) w ≡ c ∷ v
-valued c w v h e =
-    let alone : (v ++ []) ++ [] ≡ v = append-nil (v ++ []) ∙ append-nil v in
-    rw (e, copied_all v (replicate glyph_rows c) (omega (arith, length-replicate glyph_rows c)), h) (ap (λ (t : List ℕ). c ∷ t) alone)
-
 -- the bundle cut out of its room
 pub first_part : (name r b : List ℕ) → length r ≡ all_rows → take (length (bundle_of name r)) b ≡ bundle_of name r
-    → take (beside_name + length name - 0) (drop 0 b) ≡ bundle_of name r
+    → take (beside_name + length name) b ≡ bundle_of name r
 first_part name r b h e =
-    let n : beside_name + length name - 0 ≡ length (bundle_of name r) = omega (arith, length-bundle name r h) in
+    let n : beside_name + length name ≡ length (bundle_of name r) = omega (arith, length-bundle name r h) in
     rw n e

@@ -1,5 +1,6 @@
 -- The promises of the bundle's calls, as the check reads them (`Post`), admit a single answer: of a part, the same bytes at the same address.
 -- Assumes nothing.
+use Rattle.std.specs.Prelude.{Result, ⊤}
 use mathlib.Core.Path.{◌≡◌, sym, ◌∙◌}
 use mathlib.Core.List.{List}
 use Prim.Native.Nat.{ℕ}
@@ -7,8 +8,8 @@ use contract.Lifetimes.{Lfts}
 use denote.Ref.{Bor}
 use denote.Triple.Clauses.{AtExit}
 use borrow.Fn.Kinds.{Dens, ended_of}
-use Rattle.bundle_write.specs.declared.Written.{Written}
-use Rattle.bundle_write.specs.declared.Digested.{Digested}
+use Rattle.bundle_write.specs.declared.BundleRefusal.{BundleRefusal}
+use Rattle.bundle_write.specs.declared.FontRefusal.{FontRefusal}
 use Rattle.bundle_write.specs.declared.Part.{Part}
 use Rattle.bundle_write.proofs.write.Kinds as write-kinds
 use Rattle.bundle_write.proofs.write.Reads as write-reads
@@ -33,11 +34,11 @@ use Rattle.bundle_write.proofs.write_length.Reads as write-length-reads
 use Rattle.bundle_write.proofs.digest_number.Kinds as digest-number-kinds
 use Rattle.bundle_write.proofs.digest_number.Reads as digest-number-reads
 
-pub write-single : (κs : Lfts 3) (a : Dens κs write-kinds.ps) (r r' : Written) (x x' : AtExit (ended_of 3 write-kinds.ps write-kinds.r) κs)
+pub write-single : (κs : Lfts 3) (a : Dens κs write-kinds.ps) (r r' : Result ℕ BundleRefusal) (x x' : AtExit (ended_of 3 write-kinds.ps write-kinds.r) κs)
     → write-reads.Post κs a r x → write-reads.Post κs a r' x' → (r ≡ r') × (x.1.1.0.now ≡ x'.1.1.0.now)
 write-single κs a r r' x x' p q = (p.0 ∙ sym q.0, p.1 ∙ sym q.1)
 
-pub digest-of-single : (κs : Lfts 2) (a : Dens κs digest-kinds.ps) (r r' : Digested) (x x' : AtExit (ended_of 2 digest-kinds.ps digest-kinds.r) κs)
+pub digest-of-single : (κs : Lfts 2) (a : Dens κs digest-kinds.ps) (r r' : Result ⊤ FontRefusal) (x x' : AtExit (ended_of 2 digest-kinds.ps digest-kinds.r) κs)
     → digest-reads.Post κs a r x → digest-reads.Post κs a r' x' → (r ≡ r') × (x.1.0.now ≡ x'.1.0.now)
 digest-of-single κs a r r' x x' p q = (p.0 ∙ sym q.0, p.1 ∙ sym q.1)
 

@@ -7,13 +7,12 @@ ghost use Rattle.digest_call.specs.Answers.{LONGEST-MESSAGE};
 ghost use Rattle.bundle_spec.specs.Bundles.{name_tag, longest_name, glyph_rows, characters, glyph_count, all_rows, takes, bundle_of};
 ghost use Rattle.bundle_spec.specs.Lengths.{longest_bundle};
 ghost use Rattle.bundle_read.specs.Answers as reading;
-ghost use Rattle.bundle_write.specs.Answers.{write_answer, write_out, digest_answer, digest_out, no_part, name_part, glyph_part};
+ghost use Rattle.bundle_write.specs.Answers.{refusal_for, font_refusal_for, write_answer, write_out, digest_answer, digest_out, no_part, name_part, glyph_part};
 ghost use Rattle.bundle_write.specs.Answers.{rows_part, name_in, rows_in, write_number, write_length, digest_number};
 ghost use Rattle.bundle_write.specs.Steps.{given_answer, given_out, font_answer, font_out};
 
 use base_fields::{HEAD_LENGTH, put_field};
-use base_lists::copy;
-use bundle_read::{BESIDE_NAME, Bundle, GLYPH_FIELD, ROWS_AT};
+use bundle_read::{BESIDE_NAME, BundleFault, GLYPH_FIELD, ROWS_AT};
 use bundle_rules::{
     CHARACTERS, GLYPH_LENGTH, GLYPH_ROWS, GLYPH_TAG, GLYPHS, LONGEST_NAME, NAME_TAG,
 };
@@ -27,23 +26,45 @@ pub const BUNDLE_ROOM: usize = BESIDE_NAME + LONGEST_NAME;
 // A font is digested with instance 1 (document 01).
 const FONT_INSTANCE: usize = 1;
 
-// The bundle's length, or why it is not written.
+// Why a bundle is not written.
 #[derive(Clone, Copy)]
-pub enum Written {
-    Done(usize),
+pub enum BundleRefusal {
     Shape,
     Alike,
     NoRoom,
 }
 
-// The digest is written, or why it is not.
+// Why no font digest is written.
 #[derive(Clone, Copy)]
-pub enum Digested {
-    Done,
+pub enum FontRefusal {
     TooLong,
     Shape,
     Alike,
     NoRoom,
+}
+
+// Bytes that are no bundle are not written.
+impl From<BundleFault> for BundleRefusal {
+    ghost from_gives = { λ fault refusal. refusal ≡ refusal_for fault };
+
+    fn from(fault: BundleFault) -> BundleRefusal {
+        match fault {
+            BundleFault::Shape => BundleRefusal::Shape,
+            BundleFault::Alike => BundleRefusal::Alike,
+        }
+    }
+}
+
+// Nor is their digest.
+impl From<BundleFault> for FontRefusal {
+    ghost from_gives = { λ fault refusal. refusal ≡ font_refusal_for fault };
+
+    fn from(fault: BundleFault) -> FontRefusal {
+        match fault {
+            BundleFault::Shape => FontRefusal::Shape,
+            BundleFault::Alike => FontRefusal::Alike,
+        }
+    }
 }
 
 // Where a part of some bytes stands.
@@ -58,11 +79,9 @@ fn glyph_value(rows: &[u8], i: usize) -> [u8; GLYPH_LENGTH]
     requires { (i < glyph_count) × (length rows.now ≡ all_rows) }
     ensures { result ≡ get_or characters i 0 ∷ take glyph_rows (drop (glyph_rows * i) rows.now) }
 {
-    let all = CHARACTERS;
-    let mut value = [all[i]; GLYPH_LENGTH];
+    let mut value = [CHARACTERS[i]; GLYPH_LENGTH];
     let from = GLYPH_ROWS * i;
-    let end = from + GLYPH_ROWS;
-    copy(&rows[from..end], &mut value[1..]);
+    value[1..].copy_from_slice(&rows[from..from + GLYPH_ROWS]);
     value
 }
 
@@ -73,77 +92,68 @@ fn made(name: &[u8], rows: &[u8]) -> [u8; BUNDLE_ROOM]
 {
     let mut bundle = [0u8; BUNDLE_ROOM];
     let mut at = put_field(&mut bundle, 0, NAME_TAG, name);
-    let mut i = 0;
-    while i < GLYPHS {
-        let value = glyph_value(rows, i);
-        at = put_field(&mut bundle, at, GLYPH_TAG, &value);
-        i += 1;
+    for i in 0..GLYPHS {
+        at = put_field(&mut bundle, at, GLYPH_TAG, &glyph_value(rows, i));
     }
     bundle
 }
 
 // A bundle over the start of out, if there is room for the longest.
-fn give(bundle: &[u8], out: &mut [u8]) -> Written
+fn give(bundle: &[u8], out: &mut [u8]) -> Result<usize, BundleRefusal>
     requires { length bundle.now ≤ longest_bundle }
     ensures value { result ≡ given_answer bundle.now out.old }
     ensures out_after { out.new ≡ given_out bundle.now out.old }
 {
     if out.len() < BUNDLE_ROOM {
-        return Written::NoRoom;
+        return Err(BundleRefusal::NoRoom);
     }
-    copy(bundle, out);
-    Written::Done(bundle.len())
+    out[..bundle.len()].copy_from_slice(bundle);
+    Ok(bundle.len())
 }
 
 // Writes the bundle of a name and 126 rows to the start of out; the rest of out stays, and all of it on a refusal. What it gives out it has
 // first judged as the reader does.
-pub fn write(name: &[u8], rows: &[u8], out: &mut [u8]) -> Written
+pub fn write(name: &[u8], rows: &[u8], out: &mut [u8]) -> Result<usize, BundleRefusal>
     ensures value { result ≡ write_answer name.now rows.now out.old }
     ensures out_after { out.new ≡ write_out name.now rows.now out.old }
 {
     if !bundle_rules::rule_takes(NAME_TAG, name.len()) {
-        return Written::Shape;
+        return Err(BundleRefusal::Shape);
     }
     if rows.len() != ROWS {
-        return Written::Shape;
+        return Err(BundleRefusal::Shape);
     }
     let bundle = made(name, rows);
     let n = BESIDE_NAME + name.len();
-    let judged = bundle_read::read(&bundle[0..n]);
-    match judged {
-        Bundle::Shape => Written::Shape,
-        Bundle::Alike => Written::Alike,
-        Bundle::Named(_) => give(&bundle[0..n], out),
-    }
+    bundle_read::read(&bundle[..n])?;
+    give(&bundle[..n], out)
 }
 
 // The font digest of a bundle over the start of out, if there is room for it: instance 1 over all of the bundle.
-fn font_digest(bundle: &[u8], out: &mut [u8]) -> Digested
+fn font_digest(bundle: &[u8], out: &mut [u8]) -> Result<(), FontRefusal>
     requires { length bundle.now ≤ LONGEST-MESSAGE }
     ensures value { result ≡ font_answer out.old }
     ensures out_after { out.new ≡ font_out bundle.now out.old }
 {
     if out.len() < DIGEST {
-        return Digested::NoRoom;
+        return Err(FontRefusal::NoRoom);
     }
-    digest_call::digest(FONT_INSTANCE, bundle, out);
-    Digested::Done
+    // Never refused: the instance is known, no bundle is that long, and there is room.
+    let _ = digest_call::digest(FONT_INSTANCE, bundle, out);
+    Ok(())
 }
 
 // The font digest of a bundle over the first 32 bytes of out; the rest of out stays, and all of it on a refusal.
-pub fn digest_of(bundle: &[u8], out: &mut [u8]) -> Digested
+#[tactic(auto, unfolding(crate::specs::Answers::digest_answer, crate::specs::Answers::digest_out))]
+pub fn digest_of(bundle: &[u8], out: &mut [u8]) -> Result<(), FontRefusal>
     ensures value { result ≡ digest_answer bundle.now out.old }
     ensures out_after { out.new ≡ digest_out bundle.now out.old }
 {
     if bundle.len() > LONGEST_MESSAGE {
-        return Digested::TooLong;
+        return Err(FontRefusal::TooLong);
     }
-    let judged = bundle_read::read(bundle);
-    match judged {
-        Bundle::Shape => Digested::Shape,
-        Bundle::Alike => Digested::Alike,
-        Bundle::Named(_) => font_digest(bundle, out),
-    }
+    bundle_read::read(bundle)?;
+    font_digest(bundle, out)
 }
 
 // The empty part at the end of some bytes.
@@ -157,17 +167,16 @@ fn no_part(bytes: &[u8]) -> Part
 }
 
 // Where the name of a bundle stands; in bytes that are no bundle the empty part at their end.
+#[tactic(auto, unfolding(crate::specs::Answers::name_part))]
 pub fn name_part(bundle: &[u8]) -> Part
     ensures { result ≡ name_part bundle.now }
 {
-    let judged = bundle_read::read(bundle);
-    match judged {
-        Bundle::Named(n) => Part {
+    match bundle_read::read(bundle) {
+        Ok(n) => Part {
             first: HEAD_LENGTH,
             length: n,
         },
-        Bundle::Shape => no_part(bundle),
-        Bundle::Alike => no_part(bundle),
+        Err(_) => no_part(bundle),
     }
 }
 
@@ -177,99 +186,88 @@ fn glyph_part(bundle: &[u8], n: usize, i: usize) -> Part
     ensures { result ≡ glyph_part n i bundle.now }
 {
     if i < GLYPHS {
-        return Part {
+        Part {
             first: HEAD_LENGTH + n + (GLYPH_FIELD * i + ROWS_AT),
             length: GLYPH_ROWS,
-        };
+        }
+    } else {
+        no_part(bundle)
     }
-    no_part(bundle)
 }
 
 // Where the rows of a character stand; of another character, and in bytes that are no bundle, the empty part at their end.
+#[tactic(auto, unfolding(crate::specs::Answers::rows_part))]
 pub fn rows_part(bundle: &[u8], character: u8) -> Part
     ensures { result ≡ rows_part bundle.now character }
 {
-    let judged = bundle_read::read(bundle);
-    match judged {
-        Bundle::Named(n) => glyph_part(bundle, n, bundle_rules::index_of(character)),
-        Bundle::Shape => no_part(bundle),
-        Bundle::Alike => no_part(bundle),
+    match bundle_read::read(bundle) {
+        Ok(n) => glyph_part(bundle, n, bundle_rules::index_of(character)),
+        Err(_) => no_part(bundle),
     }
 }
 
 // The name itself, a part of the caller's bundle.
+#[tactic(auto, unfolding(crate::specs::Answers::name_in))]
 pub fn name(bundle: &[u8]) -> &[u8]
     ensures result_value { result.now ≡ name_in bundle.now }
     ensures ref_ptr_value { result.ref_ptr ≡ (bundle.entry.ref_ptr.0, (name_part bundle.now).first + bundle.entry.ref_ptr.1) }
 {
     let part = name_part(bundle);
-    let first = part.first;
-    let end = first + part.length;
-    &bundle[first..end]
+    &bundle[part.first..part.first + part.length]
 }
 
 // The rows of a character themselves, a part of the caller's bundle.
+#[tactic(auto, unfolding(crate::specs::Answers::rows_in))]
 pub fn rows(bundle: &[u8], character: u8) -> &[u8]
     ensures result_value { result.now ≡ rows_in bundle.now character }
     ensures ref_ptr_value { result.ref_ptr ≡ (bundle.entry.ref_ptr.0, (rows_part bundle.now character).first + bundle.entry.ref_ptr.1) }
 {
     let part = rows_part(bundle, character);
-    let first = part.first;
-    let end = first + part.length;
-    &bundle[first..end]
+    &bundle[part.first..part.first + part.length]
 }
 
 // The number of what a call answers (document 01, order W1), and the length that it reports: of the name read, of the bundle written.
-pub fn read_number(answer: Bundle) -> u32
+pub fn read_number(answer: Result<usize, BundleFault>) -> u32
     ensures { result ≡ reading.read_number answer }
 {
     match answer {
-        Bundle::Named(_) => 0,
-        Bundle::Shape => 11,
-        Bundle::Alike => 12,
+        Ok(_) => 0,
+        Err(BundleFault::Shape) => 11,
+        Err(BundleFault::Alike) => 12,
     }
 }
 
-pub fn read_length(answer: Bundle) -> usize
+pub fn read_length(answer: Result<usize, BundleFault>) -> usize
     ensures { result ≡ reading.length_of answer }
 {
-    match answer {
-        Bundle::Named(n) => n,
-        Bundle::Shape => 0,
-        Bundle::Alike => 0,
-    }
+    answer.unwrap_or(0)
 }
 
-pub fn write_number(answer: Written) -> u32
+pub fn write_number(answer: Result<usize, BundleRefusal>) -> u32
     ensures { result ≡ write_number answer }
 {
     match answer {
-        Written::Done(_) => 0,
-        Written::Shape => 11,
-        Written::Alike => 12,
-        Written::NoRoom => 4,
+        Ok(_) => 0,
+        Err(BundleRefusal::Shape) => 11,
+        Err(BundleRefusal::Alike) => 12,
+        Err(BundleRefusal::NoRoom) => 4,
     }
 }
 
-pub fn write_length(answer: Written) -> usize
+pub fn write_length(answer: Result<usize, BundleRefusal>) -> usize
     ensures { result ≡ write_length answer }
 {
-    match answer {
-        Written::Done(n) => n,
-        Written::Shape => 0,
-        Written::Alike => 0,
-        Written::NoRoom => 0,
-    }
+    answer.unwrap_or(0)
 }
 
-pub fn digest_number(answer: Digested) -> u32
+pub fn digest_number(answer: Result<(), FontRefusal>) -> u32
     ensures { result ≡ digest_number answer }
 {
     match answer {
-        Digested::Done => 0,
-        Digested::TooLong => 3,
-        Digested::Shape => 11,
-        Digested::Alike => 12,
-        Digested::NoRoom => 4,
+        Ok(()) => 0,
+        Err(FontRefusal::TooLong) => 3,
+        Err(FontRefusal::Shape) => 11,
+        Err(FontRefusal::Alike) => 12,
+        Err(FontRefusal::NoRoom) => 4,
     }
 }

@@ -10,7 +10,6 @@ use line_layout::Layout;
 use std::io::Read;
 use std::rt::Files;
 use tool_files::Heard;
-use tool_orders::Order;
 
 // The most of a row that is kept: nonce, blank and longest line fit with room to spare, and a longer row keeps a line that is too long.
 const ROW: usize = 128;
@@ -88,11 +87,11 @@ fn seal_line(
 fn order(rt: &(impl Print + Eprint), row: &[u8], which: u64, key: &[u8], font: &[u8]) -> bool {
     let found = tool_orders::judge_order(row);
     match found {
-        Order::Line(from) => {
+        Some(from) => {
             let nonce = tool_orders::nonce(row);
             seal_line(rt, &row[from..], &nonce, which, key, font)
         }
-        Order::NoNonce => {
+        None => {
             refused(rt, which, tool_orders::order_number(found));
             true
         }

@@ -1,4 +1,5 @@
 -- The steps of the converter on plain lists: the refusals of a call, and the line found sealed anew. Assumes nothing.
+use Rattle.std.specs.Prelude.{Ok, Err, Result}
 use mathlib.Core.Path.{◌≡◌, sym, ap, ◌∙◌}
 use mathlib.Core.Bool.{Bool, true}
 use mathlib.Core.List.{List}
@@ -18,14 +19,15 @@ use Rattle.frame_spec.specs.AnyLayout.{under}
 use Rattle.frame_spec.specs.Frames.{frame_of}
 use Rattle.frame_spec.specs.Lengths.{frame_room}
 use Rattle.frame_write.specs.declared.Written.{Written}
+use Rattle.frame_write.specs.declared.FrameRefusal.{FrameRefusal}
 use Rattle.frame_write.specs.Answers as writing
 use Rattle.frame_write.specs.Answers.{WriteCall, sizes_right, framed_call, write_call}
 use Rattle.frame_write.specs.Outcomes.{Accepts, write_done, sizes-under}
 use Rattle.read_spec.specs.Sizes.{Sizes}
 use Rattle.read_spec.specs.Editions.{only}
 use Rattle.read_spec.specs.Judged.{line}
-use Rattle.convert_spec.specs.declared.Converted.{Converted}
-use Rattle.convert_spec.specs.declared.Converted.TheVariants as converted-is
+use Rattle.convert_spec.specs.declared.ConvertFault.{ConvertFault}
+use Rattle.convert_spec.specs.declared.ConvertFault.TheVariants as converted-is
 use Rattle.convert_spec.specs.declared.Found.{Found}
 use Rattle.convert_spec.specs.Answers.{other, Sorted, judged, sorted, found_of, line_out, ConvertCall, refused, by_sort, convert_call}
 use Rattle.convert_spec.proofs.Sorting.{sorted-line, sizes-told, no_line, some-line, convert-small, convert-sorted}
@@ -38,11 +40,11 @@ pub right-under : (t : Told) (own : Own) (x : Bool) {b : Bool} → x ≡ sizes_r
 right-under t own x e is = sym (sizes-under Neither t own) ∙ sym e ∙ is
 
 -- the answer and the buffer, read off what a call comes to
-pub met : {x : ConvertCall} {r : Converted} {o : List ℕ} → x ≡ record { answer = r; frame = o } → (r ≡ x.answer) × (o ≡ x.frame)
+pub met : {x : ConvertCall} {r : Result ℕ ConvertFault} {o : List ℕ} → x ≡ record { answer = r; frame = o } → (r ≡ x.answer) × (o ≡ x.frame)
 met e = (sym (ap (λ (x : ConvertCall). x.answer) e), sym (ap (λ (x : ConvertCall). x.frame) e))
 
 module _ (t : Told) (own : Own) (s frame : List ℕ) (r : sizes_right t own ≡ true) where
-  pub too_small : length frame < frame_room own.edition → convert_call t own s frame ≡ refused converted-is.NoRoom frame
+  pub too_small : length frame < frame_room own.edition → convert_call t own s frame ≡ refused (Err converted-is.NoRoom) frame
   too_small h = convert-small t own s frame r (lt-ltb (length frame) (frame_room own.edition) h)
 
   -- the line is looked for in a buffer that has room for the longest
@@ -90,16 +92,16 @@ module _ (t : Told) (own : Own) (s frame : List ℕ) (r : sizes_right t own ≡ 
           ap (λ (x : List ℕ). take (f.length - 0) (drop 0 x)) (lo ∙ ap (λ (x : Sorted). line_out x o) its.3)
           ∙ take-over L o (f.length - 0) (omega (arith, long))
 
-      pub written : (w : Written) (out : List ℕ) (m : ℕ) → w ≡ (write_call t own (take (f.length - 0) (drop 0 line-out)) frame).answer
+      pub written : (w : Result Written FrameRefusal) (out : List ℕ) (m : ℕ) → w ≡ (write_call t own (take (f.length - 0) (drop 0 line-out)) frame).answer
           → out ≡ (write_call t own (take (f.length - 0) (drop 0 line-out)) frame).frame → m ≡ writing.length_of w
-          → (converted-is.Done m ≡ (convert_call t own s frame).answer) × (out ≡ (convert_call t own s frame).frame)
+          → (Ok m ≡ (convert_call t own s frame).answer) × (out ≡ (convert_call t own s frame).frame)
       unfolding L framed_call
       written w out m p q i =
           let call : write_call t own (take (f.length - 0) (drop 0 line-out)) frame ≡ framed_call t own L frame =
           ap (λ (x : List ℕ). write_call t own x frame) the-line ∙ write_done t own L frame accepts.sealable accepts.ruled room in
           let n : m ≡ length (frame_of t own L) =
           i ∙ ap writing.length_of (p ∙ ap (λ (x : WriteCall). x.answer) call) in
-          let whole : convert_call t own s frame ≡ record { answer = converted-is.Done (length (frame_of t own L)); frame = over (frame_of t own L) frame } =
+          let whole : convert_call t own s frame ≡ record { answer = Ok (length (frame_of t own L)); frame = over (frame_of t own L) frame } =
           convert-sorted t own s frame r room ∙ ap (λ (x : Sorted). by_sort t own x frame) its.3 in
           let y = met whole in
-          (ap converted-is.Done n ∙ y.0, q ∙ ap (λ (x : WriteCall). x.frame) call ∙ y.1)
+          (ap Ok n ∙ y.0, q ∙ ap (λ (x : WriteCall). x.frame) call ∙ y.1)

@@ -1,10 +1,10 @@
 -- `layout-narrows` of the converter (order W7): with a layout named a call comes to what it does with none, or that was done and now it is 17 and
 -- the buffer is as it was. Assumes nothing.
-use Rattle.std.specs.Prelude.{◌≡◌, Bool, not, cond, List, ℕ, ltb, length}
+use Rattle.std.specs.Prelude.{◌≡◌, Bool, not, cond, List, ℕ, ltb, length, Ok, Err, Result}
 use Rattle.std.proofs.Math.Path.{refl}
 use Rattle.std.proofs.Math.Bool.{true, false}
-use Rattle.frame_stuff_spec.specs.declared.Unstuffed.{Unstuffed}
-use Rattle.frame_stuff_spec.specs.declared.Unstuffed.TheVariants as unstuffed-is
+use Rattle.frame_stuff_spec.specs.declared.UnstuffFault.{UnstuffFault}
+use Rattle.frame_stuff_spec.specs.declared.UnstuffFault.TheVariants as unstuffed-is
 use Rattle.frame_stuff_spec.specs.Stuffing.{unstuffed}
 use Rattle.frame_stuff_spec.specs.Answers.{length_answer}
 use Rattle.line_layout.specs.declared.Layout.TheVariants.{Neither}
@@ -19,7 +19,7 @@ use Rattle.read_spec.specs.Judged.{Judged, shape, stuffing, font, work, seal, un
 use Rattle.read_spec.specs.Judging.{judge_fields}
 use Rattle.read_spec.specs.Narrowing.{Narrower, alike, narrowed}
 use Rattle.read_spec.proofs.Narrowing.{fields-narrows}
-use Rattle.convert_spec.specs.declared.Converted.TheVariants as converted-is
+use Rattle.convert_spec.specs.declared.ConvertFault.TheVariants as converted-is
 use Rattle.convert_spec.specs.Answers.{other, same_edition, Sorted, misnamed, judged, sort_fields, sort_stuffing, sorted, refused, by_sort, convert_call}
 
 -- what a stretch is found to be with a layout named, beside what it is found to be with none
@@ -49,12 +49,12 @@ module _ (t : Told) (own : Own) (s f : List ℕ) where
   unfolding sorted
   sorted-beside named = go (length_answer s)
     where
-      go : (u : Unstuffed) → Beside (sort_stuffing u (sort_fields t named (fields_of (unstuffed s))))
+      go : (u : Result ℕ UnstuffFault) → Beside (sort_stuffing u (sort_fields t named (fields_of (unstuffed s))))
           (sort_stuffing u (sort_fields bare named (fields_of (unstuffed s))))
-      go unstuffed-is.TooLong = equal (judged shape)
-      go unstuffed-is.NoRoom = equal (judged shape)
-      go unstuffed-is.Bad = equal (judged stuffing)
-      go (unstuffed-is.Length n) = by-fields named (fields_of (unstuffed s))
+      go (Err unstuffed-is.TooLong) = equal (judged shape)
+      go (Err unstuffed-is.NoRoom) = equal (judged shape)
+      go (Err unstuffed-is.Bad) = equal (judged stuffing)
+      go (Ok n) = by-fields named (fields_of (unstuffed s))
 
   -- a line is sealed anew alike
   same-sort : (x : Sorted) → by_sort t own x f ≡ by_sort bare own x f
@@ -72,7 +72,7 @@ module _ (t : Told) (own : Own) (s f : List ℕ) where
 
 pub data Narrowed (t : Told) (own : Own) (s f : List ℕ) : Type 0 where
   as-without : convert_call t own s f ≡ convert_call (under Neither t) own s f → Narrowed t own s f
-  not-laid : (n : ℕ) → (convert_call (under Neither t) own s f).answer ≡ converted-is.Done n → convert_call t own s f ≡ refused converted-is.Layout f
+  not-laid : (n : ℕ) → (convert_call (under Neither t) own s f).answer ≡ Ok n → convert_call t own s f ≡ refused (Err converted-is.Layout) f
       → Narrowed t own s f
 
 pub layout-narrows : (t : Told) (own : Own) (s f : List ℕ) → Narrowed t own s f

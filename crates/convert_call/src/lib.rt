@@ -9,7 +9,7 @@ ghost use Rattle.frame_spec.specs.Told.{told};
 ghost use Rattle.convert_spec.specs.Answers.{convert_call, convert_number, length_in};
 
 use convert_find::{line_in, other};
-use convert_spec::Converted;
+use convert_spec::ConvertFault;
 use frame_body::{Edition, LONGEST_LINE};
 use frame_spec::frame_room;
 use frame_write::{sizes_right, write_edition, write_length};
@@ -27,17 +27,17 @@ pub fn convert(
     nonce: &[u8],
     job: &[u8],
     frame: &mut [u8],
-) -> Converted
+) -> Result<usize, ConvertFault>
     ensures value { result ≡ (convert_call (told key.now font.now layout) (own_of edition nonce.now job.now)
         stretch.now frame.old).answer }
     ensures frame_after { frame.new ≡ (convert_call (told key.now font.now layout)
         (own_of edition nonce.now job.now) stretch.now frame.old).frame }
 {
     if !sizes_right(edition, key, nonce, font, job) {
-        return Converted::Sizes;
+        return Err(ConvertFault::Sizes);
     }
     if frame.len() < frame_room(edition) {
-        return Converted::NoRoom;
+        return Err(ConvertFault::NoRoom);
     }
     let mut line = [0u8; LONGEST_LINE];
     let found = line_in(stretch, other(edition), key, font, layout, &mut line);
@@ -47,7 +47,7 @@ pub fn convert(
         return answer;
     }
     let written = write_edition(edition, key, nonce, font, layout, job, &line[0..n], frame);
-    Converted::Done(write_length(written))
+    Ok(write_length(written))
 }
 
 // A stretch of edition two to a frame of edition one.
@@ -58,7 +58,7 @@ pub fn to_one(
     layout: Layout,
     nonce: &[u8],
     frame: &mut [u8],
-) -> Converted
+) -> Result<usize, ConvertFault>
     ensures value { result ≡ (convert_call (told key.now font.now layout) (own_of One nonce.now []) stretch.now
         frame.old).answer }
     ensures frame_after { frame.new ≡ (convert_call (told key.now font.now layout) (own_of One nonce.now [])
@@ -86,7 +86,7 @@ pub fn to_two(
     nonce: &[u8],
     job: &[u8],
     frame: &mut [u8],
-) -> Converted
+) -> Result<usize, ConvertFault>
     ensures value { result ≡ (convert_call (told key.now font.now layout) (own_of Two nonce.now job.now)
         stretch.now frame.old).answer }
     ensures frame_after { frame.new ≡ (convert_call (told key.now font.now layout) (own_of Two nonce.now job.now)
@@ -96,39 +96,27 @@ pub fn to_two(
 }
 
 // The number of what the converter answers.
-pub fn number(answer: Converted) -> u32
+pub fn number(answer: Result<usize, ConvertFault>) -> u32
     ensures { result ≡ convert_number answer }
 {
     match answer {
-        Converted::Done(_) => 0,
-        Converted::Sizes => 2,
-        Converted::NoRoom => 4,
-        Converted::Shape => 7,
-        Converted::Stuffing => 6,
-        Converted::Edition => 16,
-        Converted::Font => 8,
-        Converted::Seal => 5,
-        Converted::Unlisted => 9,
-        Converted::Trade => 13,
-        Converted::Layout => 17,
+        Ok(_) => 0,
+        Err(ConvertFault::Sizes) => 2,
+        Err(ConvertFault::NoRoom) => 4,
+        Err(ConvertFault::Shape) => 7,
+        Err(ConvertFault::Stuffing) => 6,
+        Err(ConvertFault::Edition) => 16,
+        Err(ConvertFault::Font) => 8,
+        Err(ConvertFault::Seal) => 5,
+        Err(ConvertFault::Unlisted) => 9,
+        Err(ConvertFault::Trade) => 13,
+        Err(ConvertFault::Layout) => 17,
     }
 }
 
 // The length of the frame written, 0 on a refusal.
-pub fn frame_length(answer: Converted) -> usize
+pub fn frame_length(answer: Result<usize, ConvertFault>) -> usize
     ensures { result ≡ length_in answer }
 {
-    match answer {
-        Converted::Done(n) => n,
-        Converted::Sizes => 0,
-        Converted::NoRoom => 0,
-        Converted::Shape => 0,
-        Converted::Stuffing => 0,
-        Converted::Edition => 0,
-        Converted::Font => 0,
-        Converted::Seal => 0,
-        Converted::Unlisted => 0,
-        Converted::Trade => 0,
-        Converted::Layout => 0,
-    }
+    answer.unwrap_or(0)
 }

@@ -1,6 +1,6 @@
 -- What the line of a stretch of the edition named comes to, and the buffer that it is written to: 16, else what a reader of that edition alone gives
 -- (order W6). Assumes nothing: these are definitions.
-use Rattle.std.specs.Prelude.{cond, List, ℕ}
+use Rattle.std.specs.Prelude.{cond, List, ℕ, Err}
 use Rattle.line_layout.specs.declared.Layout.{Layout}
 use Rattle.frame_body.specs.declared.Edition.{Edition}
 use Rattle.frame_spec.specs.Told.{Told}
@@ -10,7 +10,7 @@ use Rattle.read_spec.specs.Ceiling.{all_work}
 use Rattle.read_call.specs.declared.Answer.{Answer}
 use Rattle.read_call.specs.declared.Asked.{Asked}
 use Rattle.read_call.specs.Answers.{judge_answer, judge_out, outcome_of, length_of}
-use Rattle.convert_spec.specs.declared.Converted.TheVariants as converted-is
+use Rattle.convert_spec.specs.declared.ConvertFault.TheVariants as converted-is
 use Rattle.convert_spec.specs.declared.Found.{Found}
 use Rattle.convert_spec.specs.Answers.{other_than, converted_of}
 
@@ -20,7 +20,7 @@ alone named y = record { editions = only named; allowed = all_work; layout = y }
 
 -- no line: the frame is not of the edition named
 abbrev pub not_named : Found
-not_named = record { answer = converted-is.Edition; outcome = 2; length = 0 }
+not_named = record { answer = Err converted-is.Edition; outcome = 2; length = 0 }
 
 -- what a reader's answer comes to
 abbrev pub found_for : Answer → Found

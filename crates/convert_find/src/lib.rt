@@ -10,7 +10,7 @@ ghost use Rattle.read_spec.specs.Editions.{only as only_of};
 ghost use Rattle.convert_spec.specs.Answers.{other as other_of, same_edition, other_than, converted_of};
 ghost use Rattle.convert_find.specs.Finding.{found_in, line_in};
 
-use convert_spec::{Converted, Found};
+use convert_spec::{ConvertFault, Found};
 use frame_body::Edition;
 use line_layout::Layout;
 use read_call::{ALL_WORK, Answer, Asked, EDITION_ONE, EDITION_TWO, fields_in, judge};
@@ -57,30 +57,30 @@ pub fn misnamed(stretch: &[u8], named: Edition) -> bool
     ensures { result ≡ other_than named (held stretch.now) }
 {
     match fields_in(stretch) {
-        frame_body::BodyJudged::Shape => false,
-        frame_body::BodyJudged::Fields(edition, _) => !same(named, edition),
+        None => false,
+        Some((edition, _)) => !same(named, edition),
     }
 }
 
 // The converter's answer for what a stretch is judged to be; a line is done with its length.
-fn converted_of(answer: Answer) -> Converted
+fn converted_of(answer: Answer) -> Result<usize, ConvertFault>
     ensures { result ≡ converted_of answer }
 {
     match answer {
-        Answer::Sizes => Converted::Sizes,
-        Answer::NoRoom => Converted::NoRoom,
-        Answer::TooLong => Converted::Shape,
-        Answer::Beyond => Converted::Shape,
-        Answer::End => Converted::Shape,
-        Answer::Shape => Converted::Shape,
-        Answer::Work => Converted::Shape,
-        Answer::Stuffing => Converted::Stuffing,
-        Answer::Font => Converted::Font,
-        Answer::Seal(_) => Converted::Seal,
-        Answer::Unlisted(_) => Converted::Unlisted,
-        Answer::Trade(_) => Converted::Trade,
-        Answer::Layout(_) => Converted::Layout,
-        Answer::Line { length, calls: _ } => Converted::Done(length),
+        Answer::Sizes => Err(ConvertFault::Sizes),
+        Answer::NoRoom => Err(ConvertFault::NoRoom),
+        Answer::TooLong => Err(ConvertFault::Shape),
+        Answer::Beyond => Err(ConvertFault::Shape),
+        Answer::End => Err(ConvertFault::Shape),
+        Answer::Shape => Err(ConvertFault::Shape),
+        Answer::Work => Err(ConvertFault::Shape),
+        Answer::Stuffing => Err(ConvertFault::Stuffing),
+        Answer::Font => Err(ConvertFault::Font),
+        Answer::Seal(_) => Err(ConvertFault::Seal),
+        Answer::Unlisted(_) => Err(ConvertFault::Unlisted),
+        Answer::Trade(_) => Err(ConvertFault::Trade),
+        Answer::Layout(_) => Err(ConvertFault::Layout),
+        Answer::Line { length, calls: _ } => Ok(length),
     }
 }
 
@@ -97,7 +97,7 @@ pub fn line_in(
     ensures line_after { line.new ≡ line_in (told key.now font.now layout) named stretch.now line.old }
 {
     if misnamed(stretch, named) {
-        let answer = Converted::Edition;
+        let answer = Err(ConvertFault::Edition);
         return Found {
             answer,
             outcome: REFUSED,

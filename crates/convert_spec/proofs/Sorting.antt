@@ -1,11 +1,11 @@
 -- A stretch that is not misnamed is what a reader of the edition named alone judges it to be; and what converting comes to, case by case.
 -- Assumes nothing.
-use Rattle.std.specs.Prelude.{◌≡◌, refl, Bool, true, false, not, cond, List, ℕ, ◌≤◌, eqb, ltb, length}
+use Rattle.std.specs.Prelude.{◌≡◌, refl, Bool, true, false, not, cond, List, ℕ, ◌≤◌, eqb, ltb, length, Ok, Err, Result}
 use Rattle.std.proofs.Common.{sym, ◌∙◌, arith}
 use borrow.Author.Tests.{eqb-true, le-ltb}
 use Rattle.base_lists.specs.Never.{never}
-use Rattle.frame_stuff_spec.specs.declared.Unstuffed.{Unstuffed}
-use Rattle.frame_stuff_spec.specs.declared.Unstuffed.TheVariants as unstuffed-is
+use Rattle.frame_stuff_spec.specs.declared.UnstuffFault.{UnstuffFault}
+use Rattle.frame_stuff_spec.specs.declared.UnstuffFault.TheVariants as unstuffed-is
 use Rattle.frame_stuff_spec.specs.Stuffing.{unstuffed}
 use Rattle.frame_stuff_spec.specs.Answers.{length_answer}
 use Rattle.frame_body.specs.declared.Edition.{Edition}
@@ -18,7 +18,7 @@ use Rattle.read_spec.specs.Sizes.{Sizes}
 use Rattle.read_spec.specs.Editions.{allows, only, among}
 use Rattle.read_spec.specs.Judged.{shape, stuffing, font, work, seal, unlisted, trade, layout, line}
 use Rattle.read_spec.specs.Judging.{judge_fields, by_stuffing, judge, held_by, held}
-use Rattle.convert_spec.specs.declared.Converted.TheVariants as converted-is
+use Rattle.convert_spec.specs.declared.ConvertFault.TheVariants as converted-is
 use Rattle.convert_spec.specs.Answers.{other, same_edition, other_than, Sorted, misnamed, judged, sort_fields}
 use Rattle.convert_spec.specs.Answers.{sort_stuffing, sorted, found_of, refused, by_sort, convert_call}
 
@@ -41,12 +41,12 @@ module _ (t : Told) (named : Edition) where
       go true e n = rw (sym (same-allows named own.edition) ∙ e)
       go false e n = never (sym n)
 
-  by-stuffing : (u : Unstuffed) (f : Fields) → other_than named (held_by u f) ≡ false
+  by-stuffing : (u : Result ℕ UnstuffFault) (f : Fields) → other_than named (held_by u f) ≡ false
       → sort_stuffing u (sort_fields t named f) ≡ judged (by_stuffing u (judge_fields t (among (only named) f)))
-  by-stuffing unstuffed-is.TooLong f h = refl
-  by-stuffing unstuffed-is.NoRoom f h = refl
-  by-stuffing unstuffed-is.Bad f h = refl
-  by-stuffing (unstuffed-is.Length n) f h = by-fields f h
+  by-stuffing (Err unstuffed-is.TooLong) f h = refl
+  by-stuffing (Err unstuffed-is.NoRoom) f h = refl
+  by-stuffing (Err unstuffed-is.Bad) f h = refl
+  by-stuffing (Ok n) f h = by-fields f h
 
   pub sorted-judged : (s : List ℕ) → other_than named (held s) ≡ false → sorted t named s ≡ judged (judge t (only named) s)
   unfolding sorted judge held
@@ -56,11 +56,11 @@ module _ (t : Told) (named : Edition) where
   by-other no_body h = never h
   by-other (fields own digest cipher T) h = rw h
 
-  other-stuffing : (u : Unstuffed) (f : Fields) → other_than named (held_by u f) ≡ true → sort_stuffing u (sort_fields t named f) ≡ misnamed
-  other-stuffing unstuffed-is.TooLong f h = never h
-  other-stuffing unstuffed-is.NoRoom f h = never h
-  other-stuffing unstuffed-is.Bad f h = never h
-  other-stuffing (unstuffed-is.Length n) f h = by-other f h
+  other-stuffing : (u : Result ℕ UnstuffFault) (f : Fields) → other_than named (held_by u f) ≡ true → sort_stuffing u (sort_fields t named f) ≡ misnamed
+  other-stuffing (Err unstuffed-is.TooLong) f h = never h
+  other-stuffing (Err unstuffed-is.NoRoom) f h = never h
+  other-stuffing (Err unstuffed-is.Bad) f h = never h
+  other-stuffing (Ok n) f h = by-other f h
 
   pub sorted-misnamed : (s : List ℕ) → other_than named (held s) ≡ true → sorted t named s ≡ misnamed
   unfolding sorted held
@@ -113,12 +113,12 @@ some-line (judged (layout n)) h = absurd (omega (arith, h))
 some-line (judged (line k L n)) h = (k, L, n, refl)
 
 module _ (t : Told) (own : Own) (s frame : List ℕ) where
-  pub convert-sizes : sizes_right t own ≡ false → convert_call t own s frame ≡ refused converted-is.Sizes frame
+  pub convert-sizes : sizes_right t own ≡ false → convert_call t own s frame ≡ refused (Err converted-is.Sizes) frame
   unfolding convert_call
   convert-sizes h = rw h
 
   module _ (r : sizes_right t own ≡ true) where
-    pub convert-small : ltb (length frame) (frame_room own.edition) ≡ true → convert_call t own s frame ≡ refused converted-is.NoRoom frame
+    pub convert-small : ltb (length frame) (frame_room own.edition) ≡ true → convert_call t own s frame ≡ refused (Err converted-is.NoRoom) frame
     unfolding convert_call
     convert-small h = rw (r, h)
 

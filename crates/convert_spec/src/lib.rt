@@ -2,11 +2,9 @@
 // stretch is found in the crate convert_find, the calls are in convert_call.
 #![tactic(auto)]
 
-// What converting a stretch comes to.
+// Why a stretch is not converted.
 #[derive(Clone, Copy)]
-pub enum Converted {
-    // The new frame's length.
-    Done(usize),
+pub enum ConvertFault {
     // Key, font digest, nonce or, for edition two, job not of its size.
     Sizes,
     // A buffer with too little room for a frame.
@@ -32,7 +30,7 @@ pub enum Converted {
 // What the line of a stretch comes to: an answer, the outcome, which is that of a reading (1 where a line was given), and its length.
 #[derive(Clone, Copy)]
 pub struct Found {
-    pub answer: Converted,
+    pub answer: Result<usize, ConvertFault>,
     pub outcome: u32,
     pub length: usize,
 }

@@ -1,13 +1,12 @@
 -- That W13's theorems are not empty: two frames, of edition one and of edition two, with a filler of two bytes between them and one behind, built
 -- from the definitions; there is a whole run over their stream, and `joined-read-apart` says what it sees. And the stated exception: with what
 -- stands between the second frame's marks for a filler, `joined-read` gives its line there. Assumes nothing.
-use Rattle.std.specs.Prelude.{◌≡◌, refl, List, [], ◌∷◌, ◌++◌, ℕ, ◌+◌, ◌≤◌, length, replicate}
+use Rattle.std.specs.Prelude.{◌≡◌, refl, List, [], ◌∷◌, ◌++◌, ℕ, ◌+◌, ◌≤◌, length, replicate, Ok}
 use Rattle.std.proofs.Common.{ap, ap₂, subst, ◌∙◌, arith, length-append}
 use Rattle.base_lists.specs.Below.{Below, below-replicate}
 use Rattle.frame_stuff_spec.specs.Bytes.{stuffed-below}
 use Rattle.line_spec.specs.Lines.{is_digit, is_listed, all_listed, any_digit, is_transit, transits, transits_right, is_trade, line_rule}
 use Rattle.line_layout.specs.declared.Layout.TheVariants.{Neither}
-use Rattle.line_layout.specs.declared.LineJudged.TheVariants.{Accepted}
 use Rattle.line_layout.specs.Layouts.{layout_rule}
 use Rattle.frame_body.specs.declared.Edition.TheVariants.{One, Two}
 use Rattle.frame_body.specs.Fields.{nonce_length, digest_length, job_length, Own, own_of}
@@ -53,7 +52,7 @@ one = own_of One (replicate nonce_length 1) []
 pub two : Own
 two = own_of Two (replicate nonce_length 2) (replicate job_length 3)
 
-digit-accepted : layout_rule Neither one_digit ≡ Accepted
+digit-accepted : layout_rule Neither one_digit ≡ Ok tt
 unfolding one_digit layout_rule line_rule all_listed is_listed is_digit is_trade any_digit transits_right transits is_transit
 digit-accepted = refl
 

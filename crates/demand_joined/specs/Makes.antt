@@ -1,6 +1,6 @@
 -- A write call that is done, from the writer's promise alone: the frame that it left at its buffer's start, and that it is the frame of what the
 -- call was told. Every done call is one (`done-makes`), and for what the writer accepts there is one (`accepted-makes`). Assumes nothing.
-use Rattle.std.specs.Prelude.{◌≡◌, refl, List, ℕ, length, take, replicate}
+use Rattle.std.specs.Prelude.{◌≡◌, refl, List, ℕ, length, take, replicate, Result}
 use Rattle.std.proofs.Common.{sym, ap, ◌∙◌, arith}
 use Rattle.std.proofs.lemmas.List.{length-replicate}
 use Rattle.base_lists.specs.Over.{take-over}
@@ -9,8 +9,8 @@ use Rattle.frame_spec.specs.Told.{Told}
 use Rattle.frame_spec.specs.Frames.{sealed_line, frame_of}
 use Rattle.frame_spec.specs.Lengths.{frame_room}
 use Rattle.frame_write.specs.declared.Written.{Written}
-use Rattle.frame_write.specs.declared.Written.TheVariants as written_is
-use Rattle.frame_write.specs.Answers.{WriteCall, framed_call, write_call}
+use Rattle.frame_write.specs.declared.FrameRefusal.{FrameRefusal}
+use Rattle.frame_write.specs.Answers.{frame_made, WriteCall, framed_call, write_call}
 use Rattle.frame_write.specs.Outcomes.{Accepts, write_done}
 use Rattle.demand_reading.specs.Promises.{Writes}
 use Rattle.demand_reading.proofs.GivenWritten.{wrote}
@@ -18,11 +18,11 @@ use Rattle.demand_reading.proofs.GivenWritten.{wrote}
 -- some write call of this line with this key, font and layout, and with what is the frame's own, is done and leaves this frame
 pub record Makes (t : Told) (own : Own) (line frame : List ℕ) : Type 0 where
   pub before : List ℕ
-  pub answer : Written
+  pub answer : Result Written FrameRefusal
   pub after : List ℕ
   pub calls : ℕ
   pub promised : Writes t.key own t.font t.layout line before answer after
-  pub done : answer ≡ written_is.Done (length frame) calls
+  pub done : answer ≡ frame_made (length frame) calls
   pub left : take (length frame) after ≡ frame
 
 module _ {t : Told} {own : Own} {line frame : List ℕ} (m : Makes t own line frame) where
@@ -37,8 +37,8 @@ module _ {t : Told} {own : Own} {line frame : List ℕ} (m : Makes t own line fr
       ∙ (wrote t.key own t.font t.layout line m.before m.answer m.after m.promised (length frame) m.calls m.done).frame
 
 -- every write call that is done
-pub done-makes : (t : Told) (own : Own) (line f : List ℕ) (w : Written) (f' : List ℕ) (n k : ℕ)
-    → Writes t.key own t.font t.layout line f w f' → w ≡ written_is.Done n k → Makes t own line (take n f')
+pub done-makes : (t : Told) (own : Own) (line f : List ℕ) (w : Result Written FrameRefusal) (f' : List ℕ) (n k : ℕ)
+    → Writes t.key own t.font t.layout line f w f' → w ≡ frame_made n k → Makes t own line (take n f')
 done-makes t own line f w f' n k p e =
     let o = wrote t.key own t.font t.layout line f w f' p n k e in
     let long : length (take n f') ≡ n = ap length o.frame ∙ sym o.long in
@@ -48,7 +48,7 @@ done-makes t own line f w f' n k p e =
       after = f';
       calls = k;
       promised = p;
-      done = e ∙ ap (λ (i : ℕ). written_is.Done i k) (sym long);
+      done = e ∙ ap (λ (i : ℕ). frame_made i k) (sym long);
       left = ap (λ (i : ℕ). take i f') long;
     }
 

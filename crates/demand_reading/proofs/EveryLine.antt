@@ -1,6 +1,6 @@
 -- The buyer's demand 3, second half, for a press that reads from the start of the stream to its end, from the promises alone: every line
 -- that a write call made, and whose edition and calls of the permutation are allowed, is given by one of its calls. Assumes nothing.
-use Rattle.std.specs.Prelude.{◌≡◌, refl, true, ℕ, ◌+◌, ◌-◌, ◌≤◌, length, take}
+use Rattle.std.specs.Prelude.{◌≡◌, refl, true, ℕ, ◌+◌, ◌-◌, ◌≤◌, length, take, Result}
 use Rattle.std.proofs.Math.Path.{ap}
 use Rattle.std.proofs.Common.{ap₂, ◌∙◌, arith}
 use mathlib.Core.List.{List, [], ◌∷◌, ◌++◌}
@@ -13,8 +13,9 @@ use Rattle.frame_stuff_spec.specs.Stuffing.{mark, stuffed}
 use Rattle.line_spec.specs.Lines.{longest}
 use Rattle.read_stretch.specs.Stretches.{span, bytes_at}
 use Rattle.read_stretch.specs.Meaning.{Stretch}
+use Rattle.frame_write.specs.Answers.{frame_made}
 use Rattle.frame_write.specs.declared.Written.{Written}
-use Rattle.frame_write.specs.declared.Written.TheVariants as written_is
+use Rattle.frame_write.specs.declared.FrameRefusal.{FrameRefusal}
 use Rattle.line_layout.specs.declared.Layout.{Layout}
 use Rattle.frame_spec.specs.Told.{told}
 use Rattle.frame_spec.specs.Frames.{sealed_body, framed, frame_of}
@@ -69,8 +70,8 @@ every-line-given key font asked b L k enough s p q h x made run end =
     (λ l r l' g c. written-is-given key font asked b L k enough s p q h x made l r l' g c) run end
 
 -- and every frame that a write call makes, standing anywhere in a stream within the limit
-module _ (key : List ℕ) (own : Own) (font : List ℕ) (lay : Layout) (L f : List ℕ) (w : Written) (f' : List ℕ) (p : Writes key own font lay L f w f') (n k : ℕ)
-    (e : w ≡ written_is.Done n k) where
+module _ (key : List ℕ) (own : Own) (font : List ℕ) (lay : Layout) (L f : List ℕ) (w : Result Written FrameRefusal) (f' : List ℕ) (p : Writes key own font lay L f w f') (n k : ℕ)
+    (e : w ≡ frame_made n k) where
   opens : (a c : List ℕ) → Mark (a ++ (take n f' ++ c)) (length a)
   unfolding frame_of framed
   opens a c =

@@ -4,7 +4,7 @@
 -- is allowed, and the calls of the permutation it takes; that
 -- a line given is one written holds whatever is allowed. That the stream is bytes is a premise of `given-is-written`; what `read` is passed
 -- meets it by its type (Bytes.antt, `read-bytes`). Assumes nothing.
-use Rattle.std.specs.Prelude.{◌≡◌, refl, Bool, true, false, not, cond, ℕ, ◌+◌, ◌-◌, ◌≤◌, ◌<◌, eqb, ltb, take, drop, replicate}
+use Rattle.std.specs.Prelude.{◌≡◌, refl, Bool, true, false, not, cond, ℕ, ◌+◌, ◌-◌, ◌≤◌, ◌<◌, eqb, ltb, take, drop, replicate, Result}
 use Rattle.std.proofs.Math.Path.{sym, ap}
 use Rattle.std.proofs.Common.{ap₂, ◌∙◌, arith, eq-eqb, ne_eqb, eqb-true}
 use mathlib.Core.List.{List, [], ◌∷◌, ◌++◌, append_assoc}
@@ -23,13 +23,13 @@ use Rattle.read_stretch.proofs.Shift.{next-frame, next-frame-bytes}
 use Rattle.frame_body.specs.declared.Edition.TheVariants.{Two}
 use Rattle.frame_body.specs.Fields.{digest_length, Own}
 use Rattle.frame_body.proofs.Lengths.{job-field-most}
-use Rattle.frame_write.specs.declared.Written.TheVariants as written_is
 use Rattle.frame_write.specs.declared.Written as written
+use Rattle.frame_write.specs.declared.FrameRefusal.{FrameRefusal}
 use Rattle.line_layout.specs.declared.Layout.{Layout}
 use Rattle.frame_spec.specs.Told.{Told, told, key_length}
 use Rattle.frame_spec.specs.Frames.{sealed_line, sealed_body, framed, frame_of}
 use Rattle.frame_spec.specs.Lengths.{frame_room, beside_line, length-framed, stretch-some, write-calls}
-use Rattle.frame_write.specs.Answers.{WriteCall, framed_call, write_call}
+use Rattle.frame_write.specs.Answers.{frame_made, WriteCall, framed_call, write_call}
 use Rattle.frame_write.specs.Outcomes.{Accepts, done-accepts, write_done}
 use Rattle.read_call.specs.declared.Asked.{Asked}
 use Rattle.read_call.specs.declared.Answer.{Answer}
@@ -57,7 +57,7 @@ unfolding sized_told
 told-sized t k d = rw (eq-eqb (length t.key) key_length k) (eq-eqb (length t.font) digest_length d)
 
 -- a write call that is done
-module _ (key : List ℕ) (own : Own) (font : List ℕ) (lay : Layout) (L f : List ℕ) (w : written.Written) (f' : List ℕ)
+module _ (key : List ℕ) (own : Own) (font : List ℕ) (lay : Layout) (L f : List ℕ) (w : Result written.Written FrameRefusal) (f' : List ℕ)
     (p : Writes key own font lay L f w f') where
   abbrev t : Told
   t = told key font lay
@@ -69,16 +69,18 @@ module _ (key : List ℕ) (own : Own) (font : List ℕ) (lay : Layout) (L f : Li
     pub long : n ≡ length (frame_of t own L)
     pub calls : k ≡ length L + beside_line own.edition
 
-  pub wrote : (n k : ℕ) → w ≡ written_is.Done n k → Wrote n k
+  pub wrote : (n k : ℕ) → w ≡ frame_made n k → Wrote n k
   unfolding framed_call
   wrote n k e =
       let y = done-accepts t own L f n k (sym p.0 ∙ e) in
       let a = y.0 in
       let z : write_call t own L f ≡ framed_call t own L f = write_done t own L f a.sealable a.ruled y.1 in
-      let same : written_is.Done n k ≡ written_is.Done (length (frame_of t own L)) (sealed_line t own L).calls =
+      let same : frame_made n k ≡ frame_made (length (frame_of t own L)) (sealed_line t own L).calls =
       sym e ∙ p.0 ∙ ap (λ (c : WriteCall). c.answer) z in
-      let long : n ≡ length (frame_of t own L) = cc same in
-      let calls : k ≡ (sealed_line t own L).calls = cc same in
+      let made : ◌≡◌ {A = written.Written} (record { length = n; calls = k })
+      (record { length = length (frame_of t own L); calls = (sealed_line t own L).calls }) = cc same in
+      let long : n ≡ length (frame_of t own L) = ap (λ (x : written.Written). x.length) made in
+      let calls : k ≡ (sealed_line t own L).calls = ap (λ (x : written.Written). x.calls) made in
       record {
         accepts = a;
         frame = ap (take n) (p.1 ∙ ap (λ (c : WriteCall). c.frame) z) ∙ take-over (frame_of t own L) f n (sym long);
@@ -95,8 +97,8 @@ module _ (t : Told) (asked : Asked) (z : Sizes t) (s : List ℕ) (from room : �
 
 -- every frame that a write call makes, standing anywhere in a stream within the limit, is read from its opening mark as its line, where
 -- its calls are allowed
-module _ (key : List ℕ) (own : Own) (font : List ℕ) (lay : Layout) (L f : List ℕ) (w : written.Written) (f' : List ℕ) (p : Writes key own font lay L f w f')
-    (n k : ℕ) (e : w ≡ written_is.Done n k) where
+module _ (key : List ℕ) (own : Own) (font : List ℕ) (lay : Layout) (L f : List ℕ) (w : Result written.Written FrameRefusal) (f' : List ℕ) (p : Writes key own font lay L f w f')
+    (n k : ℕ) (e : w ≡ frame_made n k) where
   is : Wrote key own font lay L f w f' p n k
   is = wrote key own font lay L f w f' p n k e
 
@@ -158,7 +160,7 @@ made-written key font lay ed own L s' v =
       makes = λ f w f' g p.
           let z : write_call t own L f ≡ framed_call t own L f = write_done t own L f y v.accepts.ruled g in (
             length (frame_of t own L),
-            p.0 ∙ ap (λ (c : WriteCall). c.answer) z ∙ ap (written_is.Done (length (frame_of t own L))) (write-calls y),
+            p.0 ∙ ap (λ (c : WriteCall). c.answer) z ∙ ap (frame_made (length (frame_of t own L))) (write-calls y),
             ap (take (length (frame_of t own L))) (p.1 ∙ ap (λ (c : WriteCall). c.frame) z)
                 ∙ take-over (frame_of t own L) f (length (frame_of t own L)) refl ∙ v.makes,
           );

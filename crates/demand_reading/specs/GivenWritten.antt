@@ -4,14 +4,15 @@
 -- is allowed, and the calls of the permutation it takes; that
 -- a line given is one written holds whatever is allowed. That the stream is bytes is a premise of `given-is-written`; what `read` is passed
 -- meets it by its type (Bytes.antt, `read-bytes`). Assumes nothing.
-use Rattle.std.specs.Prelude.{◌≡◌, true, ℕ, ◌≤◌, take}
+use Rattle.std.specs.Prelude.{◌≡◌, true, ℕ, ◌≤◌, take, Result}
 use mathlib.Core.List.{List}
 use Rattle.std.proofs.Math.ListN.{length}
 use Rattle.base_lists.specs.Below.{Below}
 use Rattle.read_stretch.specs.Stretches.{span, bytes_at}
 use Rattle.frame_body.specs.Fields.{nonce_length, job_size, Own}
-use Rattle.frame_write.specs.declared.Written.TheVariants as written_is
-use Rattle.frame_write.specs.declared.Written as written
+use Rattle.frame_write.specs.Answers.{frame_made}
+use Rattle.frame_write.specs.declared.Written.{Written}
+use Rattle.frame_write.specs.declared.FrameRefusal.{FrameRefusal}
 use Rattle.line_layout.specs.declared.Layout.{Layout}
 use Rattle.frame_spec.specs.Told.{Told}
 use Rattle.frame_spec.specs.Lengths.{frame_room}
@@ -35,8 +36,8 @@ gives first closing b n k = reading_at (span first closing) (record { answer = a
 -- buffer with room
 abbrev pub MadeWith : List ℕ → List ℕ → Layout → List ℕ → ℕ → List ℕ → Own → Type 0
 MadeWith key font lay L k s' own =
-    (f : List ℕ) (w : written.Written) (f' : List ℕ) → frame_room own.edition ≤ length f → Writes key own font lay L f w f'
-    → (n : ℕ) × (w ≡ written_is.Done n k) × (take n f' ≡ marked s')
+    (f : List ℕ) (w : Result Written FrameRefusal) (f' : List ℕ) → frame_room own.edition ≤ length f → Writes key own font lay L f w f'
+    → (n : ℕ) × (w ≡ frame_made n k) × (take n f' ≡ marked s')
 
 -- by some nonce of 12 bytes and in edition two some job of 4, in an edition that is allowed; b is its edition and job as numbers
 pub record Made (key font : List ℕ) (lay : Layout) (ed : ℕ) (b : Label) (L : List ℕ) (k : ℕ) (s' : List ℕ) : Type 0 where

@@ -1,9 +1,10 @@
 -- What `read` and `write` promise of one call, on plain lists (FromContracts.antt beside this has that it is their contracts), and what a caller
 -- sees of a reading. Assumes nothing: these are definitions.
-use Rattle.std.specs.Prelude.{◌≡◌, Bool, true, false, List, [], ◌∷◌, ℕ, ◌-◌, ◌≤◌, length, take}
+use Rattle.std.specs.Prelude.{◌≡◌, Bool, true, false, List, [], ◌∷◌, ℕ, ◌-◌, ◌≤◌, length, take, Result}
 use Rattle.line_spec.specs.Lines.{longest}
 use Rattle.frame_body.specs.Fields.{Own}
 use Rattle.frame_write.specs.declared.Written.{Written}
+use Rattle.frame_write.specs.declared.FrameRefusal.{FrameRefusal}
 use Rattle.line_layout.specs.declared.Layout.{Layout}
 use Rattle.frame_spec.specs.Told.{told}
 use Rattle.frame_write.specs.Answers.{write_call}
@@ -21,7 +22,7 @@ Reads key font asked s from l r l' = (r ≡ read_answer (told key font asked.lay
 
 -- a write call of the line L under this key, font and layout, and with what is the frame's own, with the buffer f before it, may answer w and leave
 -- f' in it
-abbrev pub Writes : List ℕ → Own → List ℕ → Layout → List ℕ → List ℕ → Written → List ℕ → Type 0
+abbrev pub Writes : List ℕ → Own → List ℕ → Layout → List ℕ → List ℕ → Result Written FrameRefusal → List ℕ → Type 0
 Writes key own font lay L f w f' = (w ≡ (write_call (told key font lay) own L f).answer) × (f' ≡ (write_call (told key font lay) own L f).frame)
 
 -- the end of the stream is its own answer

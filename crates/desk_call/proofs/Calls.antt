@@ -1,4 +1,5 @@
 -- One law for each return of `fill`, `choose` and `desk`: what is known there gives the definition's answer and output. Assumes nothing.
+use Rattle.std.specs.Prelude.{Ok, Err, Result}
 use mathlib.Core.Path.{◌≡◌, refl, sym, ap, subst, ◌∙◌}
 use mathlib.Core.Bool.{Bool, true, false}
 use mathlib.Core.List.{List}
@@ -15,16 +16,16 @@ use Rattle.read_spec.specs.Sizes.{Sizes}
 use Rattle.read_call.specs.Answers.{longest_stream, sized_told}
 use Rattle.index_spec.specs.Entries.{most_entries}
 use Rattle.index_spec.specs.Cases.{Takes, sized-told, told-sized}
-use Rattle.desk_spec.specs.declared.Answer.{Answer}
-use Rattle.desk_spec.specs.declared.Answer.TheVariants as answer-is
+use Rattle.desk_spec.specs.declared.DeskRefusal.{DeskRefusal}
+use Rattle.desk_spec.specs.declared.DeskRefusal.TheVariants as answer-is
 use Rattle.desk_spec.specs.Desk.{new_stream, fault_from, fitting, out_of, desk_answer, desk_call, desk_out}
-use Rattle.desk_call.specs.declared.Items.TheVariants.{Good, Past, NoLine}
+use Rattle.desk_call.specs.declared.ItemFault.TheVariants.{Past, NoLine}
 use Rattle.desk_call.specs.Steps.{items_from, frames_at, Starts, Measured}
 use Rattle.desk_call.proofs.Judging.{Whole, says}
 
 -- a stream w of n bytes, or n and its length over the longest: what is answered, and what the output o then holds
 module _ (w o : List ℕ) (n : ℕ) (m : Measured n (length w)) where
-  pub fill-long : longest_stream < n → (answer-is.NewTooLong ≡ fitting (length w) (length o)) × (o ≡ out_of answer-is.NewTooLong w o)
+  pub fill-long : longest_stream < n → (Err answer-is.NewTooLong ≡ fitting (length w) (length o)) × (o ≡ out_of (Err answer-is.NewTooLong) w o)
   fill-long h = (rw (lt-ltb longest_stream (length w) far), refl)
     where
       far : longest_stream < length w
@@ -45,31 +46,31 @@ module _ (w o : List ℕ) (n : ℕ) (m : Measured n (length w)) where
     pub fill-exact : n ≡ length w
     fill-exact = m.exact short
 
-    pub fill-no-room : length o < n → (answer-is.NoRoom ≡ fitting (length w) (length o)) × (o ≡ out_of answer-is.NoRoom w o)
+    pub fill-no-room : length o < n → (Err answer-is.NoRoom ≡ fitting (length w) (length o)) × (o ≡ out_of (Err answer-is.NoRoom) w o)
     fill-no-room g = (rw (le-ltb longest_stream (length w) short, lt-ltb (length o) (length w) (omega (arith, g, fill-exact))), refl)
 
     pub fill_done : n ≤ length o → (out : List ℕ) → out ≡ over w o
-        → (answer-is.Done n ≡ fitting (length w) (length o)) × (out ≡ out_of (answer-is.Done n) w o)
+        → (Ok n ≡ fitting (length w) (length o)) × (out ≡ out_of (Ok n) w o)
     fill_done g out e =
         (rw (le-ltb longest_stream (length w) short, le-ltb (length o) (length w) (omega (arith, g, fill-exact)), fill-exact), e)
 
 module _ (t : Told) (editions : ℕ) (s table : List ℕ) (count : ℕ) (list o : List ℕ) where
   -- what `choose` answers, and what it leaves
-  abbrev Chooses : Answer → List ℕ → Type 0
+  abbrev Chooses : Result ℕ DeskRefusal → List ℕ → Type 0
   Chooses r out =
       (r ≡ fault_from t editions s table count 1 list (fitting (length (new_stream t editions s table list)) (length o)))
       × (out ≡ out_of r (new_stream t editions s table list) o)
 
   module _ (w : Takes t s table count) where
-    pub choose-past : (k : ℕ) → Past k ≡ items_from t editions s table count 1 0 list → Chooses (answer-is.Past k) o
-    choose-past k e = (sym (says t editions s table count w list (Past k) e (fitting (length (new_stream t editions s table list)) (length o))), refl)
+    pub choose-past : (k : ℕ) → Err (Past k) ≡ items_from t editions s table count 1 0 list → Chooses (Err (answer-is.Past k)) o
+    choose-past k e = (sym (says t editions s table count w list (Err (Past k)) e (fitting (length (new_stream t editions s table list)) (length o))), refl)
 
-    pub choose-no-line : (k : ℕ) → NoLine k ≡ items_from t editions s table count 1 0 list → Chooses (answer-is.NoLine k) o
-    choose-no-line k e = (sym (says t editions s table count w list (NoLine k) e (fitting (length (new_stream t editions s table list)) (length o))), refl)
+    pub choose-no-line : (k : ℕ) → Err (NoLine k) ≡ items_from t editions s table count 1 0 list → Chooses (Err (answer-is.NoLine k)) o
+    choose-no-line k e = (sym (says t editions s table count w list (Err (NoLine k)) e (fitting (length (new_stream t editions s table list)) (length o))), refl)
 
-    module _ (n : ℕ) (e : Good n ≡ items_from t editions s table count 1 0 list) where
+    module _ (n : ℕ) (e : Ok n ≡ items_from t editions s table count 1 0 list) where
       whole : Whole t editions s table count w list 0 n
-      whole = says t editions s table count w list (Good n) e
+      whole = says t editions s table count w list (Ok n) e
 
       pub choose-starts : Starts s table list
       choose-starts = whole.starts
@@ -77,7 +78,7 @@ module _ (t : Told) (editions : ℕ) (s table : List ℕ) (count : ℕ) (list o 
       pub choose-measured : Measured n (length (frames_at s table list))
       choose-measured = let z : 0 + length (frames_at s table list) ≡ length (frames_at s table list) = omega arith in subst (Measured n) z whole.measured
 
-      pub choose-good : (r : Answer) (out : List ℕ) → r ≡ fitting (length (frames_at s table list)) (length o) → out ≡ out_of r (frames_at s table list) o
+      pub choose-good : (r : Result ℕ DeskRefusal) (out : List ℕ) → r ≡ fitting (length (frames_at s table list)) (length o) → out ≡ out_of r (frames_at s table list) o
           → Chooses r out
       choose-good r out p q = (
         p ∙ rw (← whole.same) (sym (whole.faultless 1 (fitting (length (new_stream t editions s table list)) (length o)))),
@@ -98,47 +99,47 @@ module _ (key font : List ℕ) (lay : Layout) (editions : ℕ) (s table : List �
   t = told key font lay
 
   -- the desk's answer and output
-  abbrev Met : Answer → List ℕ → Type 0
+  abbrev Met : Result ℕ DeskRefusal → List ℕ → Type 0
   Met r out = (r ≡ desk_call t editions s table count list o) × (out ≡ desk_out t editions s table count list o)
 
-  met : (r : Answer) → r ≡ desk_answer t editions s table count list (length o) → (out : List ℕ) → out ≡ out_of r (new_stream t editions s table list) o
+  met : (r : Result ℕ DeskRefusal) → r ≡ desk_answer t editions s table count list (length o) → (out : List ℕ) → out ≡ out_of r (new_stream t editions s table list) o
       → Met r out
-  met r e out q = (e, q ∙ ap (λ (x : Answer). out_of x (new_stream t editions s table list) o) e)
+  met r e out q = (e, q ∙ ap (λ (x : Result ℕ DeskRefusal). out_of x (new_stream t editions s table list) o) e)
 
-  pub bad-key : (length key ≡ key_length → ⊥) → Met answer-is.Sizes o
+  pub bad-key : (length key ≡ key_length → ⊥) → Met (Err answer-is.Sizes) o
   unfolding desk_answer
-  bad-key k = met answer-is.Sizes (rw (not-sized t (λ z. k z.key-is))) o refl
+  bad-key k = met (Err answer-is.Sizes) (rw (not-sized t (λ z. k z.key-is))) o refl
 
-  pub bad-font : (length font ≡ digest_length → ⊥) → Met answer-is.Sizes o
+  pub bad-font : (length font ≡ digest_length → ⊥) → Met (Err answer-is.Sizes) o
   unfolding desk_answer
-  bad-font d = met answer-is.Sizes (rw (not-sized t (λ z. d z.font-is))) o refl
+  bad-font d = met (Err answer-is.Sizes) (rw (not-sized t (λ z. d z.font-is))) o refl
 
   module _ (k : length key ≡ key_length) (d : length font ≡ digest_length) where
     sizes : Sizes t
     sizes = record { key-is = k; font-is = d }
 
-    pub too_long : longest_stream < length s → Met answer-is.TooLong o
+    pub too_long : longest_stream < length s → Met (Err answer-is.TooLong) o
     unfolding desk_answer
-    too_long h = met answer-is.TooLong (rw (told-sized t sizes, lt-ltb longest_stream (length s) h)) o refl
+    too_long h = met (Err answer-is.TooLong) (rw (told-sized t sizes, lt-ltb longest_stream (length s) h)) o refl
 
     module _ (h : length s ≤ longest_stream) where
-      pub no_table : length table < most_entries → Met answer-is.NoTable o
+      pub no_table : length table < most_entries → Met (Err answer-is.NoTable) o
       unfolding desk_answer
       no_table g =
-          met answer-is.NoTable (rw (told-sized t sizes, le-ltb longest_stream (length s) h, lt-ltb (length table) most_entries g)) o refl
+          met (Err answer-is.NoTable) (rw (told-sized t sizes, le-ltb longest_stream (length s) h, lt-ltb (length table) most_entries g)) o refl
 
       module _ (g : most_entries ≤ length table) where
-        pub over-count : most_entries < count → Met answer-is.Count o
+        pub over-count : most_entries < count → Met (Err answer-is.Count) o
         unfolding desk_answer
         over-count c =
-            met answer-is.Count
+            met (Err answer-is.Count)
             (rw (told-sized t sizes, le-ltb longest_stream (length s) h, le-ltb (length table) most_entries g, lt-ltb most_entries count c)) o refl
 
         module _ (c : count ≤ most_entries) where
           pub takes : Takes t s table count
           takes = record { sizes = sizes; short = h; room = g; few = c }
 
-          pub chosen-met : (r : Answer) (out : List ℕ) → Chooses t editions s table count list o r out → Met r out
+          pub chosen-met : (r : Result ℕ DeskRefusal) (out : List ℕ) → Chooses t editions s table count list o r out → Met r out
           unfolding desk_answer
           chosen-met r out p =
               met r

@@ -1,5 +1,6 @@
 -- Judging the items of a list one after the other: what is left of the list decides, and what the items come to is what the desk answers of them.
 -- Assumes nothing.
+use Rattle.std.specs.Prelude.{Ok, Err, Result}
 use mathlib.Core.Path.{◌≡◌, refl, sym, ap, ap₂, subst, ◌∙◌}
 use mathlib.Core.Bool.{Bool, true, false, not, cond}
 use mathlib.Core.List.{List, [], ◌∷◌, ◌++◌, append_assoc}
@@ -17,12 +18,12 @@ use Rattle.read_stretch.proofs.Places.{stretch-next}
 use Rattle.frame_spec.specs.Told.{Told}
 use Rattle.read_call.specs.Answers.{longest_stream}
 use Rattle.index_spec.specs.Cases.{Takes}
-use Rattle.desk_spec.specs.declared.Answer.{Answer}
-use Rattle.desk_spec.specs.declared.Answer.TheVariants as answer-is
+use Rattle.desk_spec.specs.declared.DeskRefusal.{DeskRefusal}
+use Rattle.desk_spec.specs.declared.DeskRefusal.TheVariants as answer-is
 use Rattle.desk_spec.specs.Desk.{place_of, closing_of, chosen, new_stream, fault_from}
 use Rattle.desk_spec.specs.Chosen.{LineAt, closing-line}
-use Rattle.desk_call.specs.declared.Items.{Items}
-use Rattle.desk_call.specs.declared.Items.TheVariants.{Good, Past, NoLine}
+use Rattle.desk_call.specs.declared.ItemFault.{ItemFault}
+use Rattle.desk_call.specs.declared.ItemFault.TheVariants.{Past, NoLine}
 use Rattle.desk_call.specs.Steps.{lengthened, items_from, closing_at, frame_at, frames_at, Starts, Measured}
 
 -- so many items are judged, and none of them is at fault
@@ -35,7 +36,7 @@ module _ {t : Told} {editions : ℕ} {s table : List ℕ} {count : ℕ} {list : 
 
   module _ {total j : ℕ} (g : Going t editions s table count list total j) where
     -- none is left
-    pub going-all : length list ≤ j → Good total ≡ items_from t editions s table count 1 0 list
+    pub going-all : length list ≤ j → Ok total ≡ items_from t editions s table count 1 0 list
     unfolding items_from
     going-all h = sym (g.left ∙ ap (items_from t editions s table count (j + 1) total) (drop_of_length-le list {i = j} h))
 
@@ -44,7 +45,7 @@ module _ {t : Told} {editions : ℕ} {s table : List ℕ} {count : ℕ} {list : 
       now-left =
           g.left ∙ ap (items_from t editions s table count (j + 1) total) (at list j h ∙ ap (λ (x : ℕ). x ∷ drop (j + 1) list) (sym i-is))
 
-      pub going-past : count ≤ i → Past (j + 1) ≡ items_from t editions s table count 1 0 list
+      pub going-past : count ≤ i → Err (Past (j + 1)) ≡ items_from t editions s table count 1 0 list
       unfolding items_from
       going-past c = sym (now-left ∙ rw (le-ltb i count c))
 
@@ -52,7 +53,7 @@ module _ {t : Told} {editions : ℕ} {s table : List ℕ} {count : ℕ} {list : 
         closes : c ≡ closing_of t editions s (place_of table i)
         closes = c-is ∙ ap (closing_of t editions s) p-is
 
-        pub going-no-line : c ≡ 0 → NoLine (j + 1) ≡ items_from t editions s table count 1 0 list
+        pub going-no-line : c ≡ 0 → Err (NoLine (j + 1)) ≡ items_from t editions s table count 1 0 list
         unfolding items_from
         going-no-line e = sym (now-left ∙ rw (lt-ltb i count b, eq-eqb (closing_of t editions s (place_of table i)) 0 (sym closes ∙ e)))
 
@@ -90,13 +91,13 @@ module _ (t : Told) (editions : ℕ) (s table : List ℕ) (count : ℕ) (w : Tak
     pub starts : Starts s table list
     pub same : new_stream t editions s table list ≡ frames_at s table list
     pub measured : Measured n (total + length (frames_at s table list))
-    pub faultless : (k : ℕ) (after : Answer) → fault_from t editions s table count k list after ≡ after
+    pub faultless : (k : ℕ) (after : Result ℕ DeskRefusal) → fault_from t editions s table count k list after ≡ after
 
   -- what is said of a list whose items, counted from k on, come to this
-  abbrev pub Says : ℕ → ℕ → List ℕ → Items → Type 0
-  Says k total list (Good n) = Whole list total n
-  Says k total list (Past j) = (after : Answer) → fault_from t editions s table count k list after ≡ answer-is.Past j
-  Says k total list (NoLine j) = (after : Answer) → fault_from t editions s table count k list after ≡ answer-is.NoLine j
+  abbrev pub Says : ℕ → ℕ → List ℕ → Result ℕ ItemFault → Type 0
+  Says k total list (Ok n) = Whole list total n
+  Says k total list (Err (Past j)) = (after : Result ℕ DeskRefusal) → fault_from t editions s table count k list after ≡ Err (answer-is.Past j)
+  Says k total list (Err (NoLine j)) = (after : Result ℕ DeskRefusal) → fault_from t editions s table count k list after ≡ Err (answer-is.NoLine j)
 
   module _ (i : ℕ) (list : List ℕ) (total : ℕ) (b : i < count) (n : closing_of t editions s (place_of table i) ≡ 0 → ⊥) where
     abbrev p : ℕ
@@ -140,18 +141,18 @@ module _ (t : Told) (editions : ℕ) (s table : List ℕ) (count : ℕ) (w : Tak
       faultless = λ k after. rw (lt-ltb i count b, ne_eqb c 0 n) (v.faultless (k + 1) after);
     }
 
-    more : (k : ℕ) (r : Items) → Says (k + 1) (lengthened total (c - p)) list r → Says k total (i ∷ list) r
+    more : (k : ℕ) (r : Result ℕ ItemFault) → Says (k + 1) (lengthened total (c - p)) list r → Says k total (i ∷ list) r
     unfolding fault_from
-    more k (Good m) v = whole-more m v
-    more k (Past j) f = λ after. rw (lt-ltb i count b, ne_eqb c 0 n) (f after)
-    more k (NoLine j) f = λ after. rw (lt-ltb i count b, ne_eqb c 0 n) (f after)
+    more k (Ok m) v = whole-more m v
+    more k (Err (Past j)) f = λ after. rw (lt-ltb i count b, ne_eqb c 0 n) (f after)
+    more k (Err (NoLine j)) f = λ after. rw (lt-ltb i count b, ne_eqb c 0 n) (f after)
 
   step : (k total i : ℕ) (list : List ℕ) (a : Bool) → ltb i count ≡ a → (b : Bool) → eqb (closing_of t editions s (place_of table i)) 0 ≡ b
       → Says (k + 1) (lengthened total (closing_of t editions s (place_of table i) - place_of table i)) list
       (items_from t editions s table count (k + 1) (lengthened total (closing_of t editions s (place_of table i) - place_of table i)) list)
       → Says k total (i ∷ list)
-      (cond (not a) (Past k)
-      (cond b (NoLine k)
+      (cond (not a) (Err (Past k))
+      (cond b (Err (NoLine k))
       (items_from t editions s table count (k + 1) (lengthened total (closing_of t editions s (place_of table i) - place_of table i)) list)))
   unfolding fault_from
   step k total i list false x b y v = λ after. rw x
@@ -173,5 +174,5 @@ module _ (t : Told) (editions : ℕ) (s table : List ℕ) (count : ℕ) (w : Tak
       (judged (k + 1) (lengthened total (closing_of t editions s (place_of table i) - place_of table i)) list)
 
   -- of the whole list
-  pub says : (list : List ℕ) (r : Items) → r ≡ items_from t editions s table count 1 0 list → Says 1 0 list r
+  pub says : (list : List ℕ) (r : Result ℕ ItemFault) → r ≡ items_from t editions s table count 1 0 list → Says 1 0 list r
   says list r e = subst (Says 1 0 list) (sym e) (judged 1 0 list)

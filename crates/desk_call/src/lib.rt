@@ -14,7 +14,7 @@ ghost use Rattle.desk_call.specs.Steps.{lengthened, items_from, closing_at, fram
 
 use base_lists::copy;
 use desk_entry::closing_of;
-use desk_spec::Answer;
+use desk_spec::DeskRefusal;
 use frame_body::DIGEST_LENGTH;
 use frame_spec::KEY_LENGTH;
 use frame_stuff_spec::MARK;
@@ -24,11 +24,9 @@ use line_layout::Layout;
 use read_call::LONGEST_STREAM;
 use read_stretch::next_span;
 
-// What the items of a list come to.
+// Why the items of a list choose no stream.
 #[derive(Clone, Copy)]
-enum Items {
-    // Each chooses a line; the new stream's length, or some length over the longest.
-    Good(usize),
+enum ItemFault {
     // An entry number past the index: the item, counted from 1.
     Past(usize),
     // An entry whose place doesn't start a line: the item, counted from 1.
@@ -72,27 +70,25 @@ fn judge_items(
     table: &[u32],
     count: usize,
     list: &[u32],
-) -> Items
+) -> Result<usize, ItemFault>
     requires { Takes (told key.now font.now layout) stream.now table.now count }
     ensures { result ≡ items_from (told key.now font.now layout) editions stream.now table.now count 1 0
         list.now }
 {
     let mut total = 0;
-    let mut k = 0;
-    while k < list.len() {
-        let i = list[k] as usize;
+    for (k, item) in list.iter().enumerate() {
+        let i = *item as usize;
         if i >= count {
-            return Items::Past(k + 1);
+            return Err(ItemFault::Past(k + 1));
         }
         let place = place_at(table, i);
         let closing = closing_of(stream, place, key, font, editions, layout);
         if closing == 0 {
-            return Items::NoLine(k + 1);
+            return Err(ItemFault::NoLine(k + 1));
         }
         total = lengthen(total, closing - place);
-        k += 1;
     }
-    Items::Good(total)
+    Ok(total)
 }
 
 // Copies the frame of the stretch that starts at a place to out, with marks of its own; tells where the next one goes.
@@ -119,29 +115,32 @@ fn copy_frames(stream: &[u8], table: &[u32], list: &[u32], out: &mut [u8])
     ensures { out.new ≡ over (frames_at stream.now table.now list.now) out.old }
 {
     let mut at = 0;
-    let mut k = 0;
-    while k < list.len() {
-        let place = place_at(table, list[k] as usize);
-        at = put_frame(stream, place, out, at);
-        k += 1;
+    for i in list {
+        at = put_frame(stream, place_at(table, *i as usize), out, at);
     }
 }
 
 // The new stream of a list whose every item is good, of n bytes: 3, 4, or it is written.
-fn fill(stream: &[u8], table: &[u32], list: &[u32], n: usize, out: &mut [u8]) -> Answer
+fn fill(
+    stream: &[u8],
+    table: &[u32],
+    list: &[u32],
+    n: usize,
+    out: &mut [u8],
+) -> Result<usize, DeskRefusal>
     requires starts { Starts stream.now table.now list.now }
     requires measured { Measured n (length (frames_at stream.now table.now list.now)) }
     ensures value { result ≡ fitting (length (frames_at stream.now table.now list.now)) (length out.old) }
     ensures out_after { out.new ≡ out_of result (frames_at stream.now table.now list.now) out.old }
 {
     if n > LONGEST_STREAM {
-        return Answer::NewTooLong;
+        return Err(DeskRefusal::NewTooLong);
     }
     if n > out.len() {
-        return Answer::NoRoom;
+        return Err(DeskRefusal::NoRoom);
     }
     copy_frames(stream, table, list, out);
-    Answer::Done(n)
+    Ok(n)
 }
 
 // The items of the list, and then the new stream.
@@ -155,7 +154,7 @@ fn choose(
     count: usize,
     list: &[u32],
     out: &mut [u8],
-) -> Answer
+) -> Result<usize, DeskRefusal>
     requires { Takes (told key.now font.now layout) stream.now table.now count }
     ensures value { result ≡ fault_from (told key.now font.now layout) editions stream.now table.now count 1
         list.now (fitting (length (new_stream (told key.now font.now layout) editions stream.now
@@ -164,9 +163,9 @@ fn choose(
         table.now list.now) out.old }
 {
     match judge_items(stream, key, font, editions, layout, table, count, list) {
-        Items::Past(k) => Answer::Past(k),
-        Items::NoLine(k) => Answer::NoLine(k),
-        Items::Good(n) => fill(stream, table, list, n, out),
+        Err(ItemFault::Past(k)) => Err(DeskRefusal::Past(k)),
+        Err(ItemFault::NoLine(k)) => Err(DeskRefusal::NoLine(k)),
+        Ok(n) => fill(stream, table, list, n, out),
     }
 }
 
@@ -182,26 +181,26 @@ pub fn desk(
     count: usize,
     list: &[u32],
     out: &mut [u8],
-) -> Answer
+) -> Result<usize, DeskRefusal>
     ensures value { result ≡ desk_call (told key.now font.now layout) editions stream.now table.now count
         list.now out.old }
     ensures out_after { out.new ≡ desk_out (told key.now font.now layout) editions stream.now table.now count
         list.now out.old }
 {
     if key.len() != KEY_LENGTH {
-        return Answer::Sizes;
+        return Err(DeskRefusal::Sizes);
     }
     if font.len() != DIGEST_LENGTH {
-        return Answer::Sizes;
+        return Err(DeskRefusal::Sizes);
     }
     if stream.len() > LONGEST_STREAM {
-        return Answer::TooLong;
+        return Err(DeskRefusal::TooLong);
     }
     if table.len() < MOST_ENTRIES {
-        return Answer::NoTable;
+        return Err(DeskRefusal::NoTable);
     }
     if count > MOST_ENTRIES {
-        return Answer::Count;
+        return Err(DeskRefusal::Count);
     }
     choose(stream, key, font, editions, layout, table, count, list, out)
 }
@@ -218,18 +217,18 @@ fn told_as(number: u32, length: usize, item: usize) -> Report
 }
 
 // The number, the length and the item of what the desk answers.
-pub fn desk_report(answer: Answer) -> Report
+pub fn desk_report(answer: Result<usize, DeskRefusal>) -> Report
     ensures { result ≡ report_of answer }
 {
     match answer {
-        Answer::Done(n) => told_as(0, n, 0),
-        Answer::Sizes => told_as(2, 0, 0),
-        Answer::TooLong => told_as(3, 0, 0),
-        Answer::NoTable => told_as(4, 0, 0),
-        Answer::Count => told_as(19, 0, 0),
-        Answer::Past(k) => told_as(23, 0, k),
-        Answer::NoLine(k) => told_as(24, 0, k),
-        Answer::NewTooLong => told_as(3, 0, 0),
-        Answer::NoRoom => told_as(4, 0, 0),
+        Ok(n) => told_as(0, n, 0),
+        Err(DeskRefusal::Sizes) => told_as(2, 0, 0),
+        Err(DeskRefusal::TooLong) => told_as(3, 0, 0),
+        Err(DeskRefusal::NoTable) => told_as(4, 0, 0),
+        Err(DeskRefusal::Count) => told_as(19, 0, 0),
+        Err(DeskRefusal::Past(k)) => told_as(23, 0, k),
+        Err(DeskRefusal::NoLine(k)) => told_as(24, 0, k),
+        Err(DeskRefusal::NewTooLong) => told_as(3, 0, 0),
+        Err(DeskRefusal::NoRoom) => told_as(4, 0, 0),
     }
 }

@@ -1,7 +1,7 @@
 -- `desk-from-stream` (order W14): whatever the table is, each line of the new stream is seen by the run over the stream given, at the place that the
 -- entry names, and the bytes between its marks are those of the given stream at that place, its nonce among them: the frame itself is copied, never
 -- sealed anew. From the promises of `desk` and `read` alone. Assumes nothing.
-use Rattle.std.specs.Prelude.{◌≡◌, refl, ℕ, ◌+◌, ◌-◌, ◌≤◌}
+use Rattle.std.specs.Prelude.{◌≡◌, refl, ℕ, ◌+◌, ◌-◌, ◌≤◌, Result}
 use Rattle.std.proofs.Common.{sym, ◌∙◌, arith, take_at}
 use Rattle.std.proofs.Math.Path.{ap, subst}
 use mathlib.Core.List.{List, [], ◌∷◌, ◌++◌, map, append_assoc, map-append}
@@ -23,7 +23,7 @@ use Rattle.demand_reading.specs.Whole.{WholeRun}
 use Rattle.demand_joined.specs.Seeing.{seen_of, the_end, seen_to, run-readings}
 use Rattle.index_spec.specs.Cases.{Takes}
 use Rattle.index_reading.specs.Promises.{asking}
-use Rattle.desk_spec.specs.declared.Answer.{Answer}
+use Rattle.desk_spec.specs.declared.DeskRefusal.{DeskRefusal}
 use Rattle.desk_spec.specs.Desk.{place_of, closing_of, chosen, new_stream}
 use Rattle.desk_reading.specs.Promises.{Desks, Done, written, ItemLine, AllLines, given_seen, moved_to, behind}
 use Rattle.desk_reading.proofs.ReadsLaws.{item-line, chosen-long, chosen-judged, chosen-line, when, written_is}
@@ -99,7 +99,7 @@ module _ (key font : List ℕ) (editions a : ℕ) (lay : Layout) (s table : List
               (from_all list x.1 (pre ++ (mark ∷ (b ++ (mark ∷ [])))) (behind at (given_seen t editions s table i)) next),
         )
 
-  pub desk-from-stream : (list o : List ℕ) (r : Answer) (out : List ℕ) → Desks key font editions lay s table count list o r out → Done r
+  pub desk-from-stream : (list o : List ℕ) (r : Result ℕ DeskRefusal) (out : List ℕ) → Desks key font editions lay s table count list o r out → Done r
       → (u : WholeRun key font (asking editions a lay) s) → AllFrom u.seen (written r out) 0 list
   desk-from-stream list o r out p d u =
       let k = when key font editions a lay s table count bytes all list o r out p d in

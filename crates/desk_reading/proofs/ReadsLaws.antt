@@ -1,6 +1,6 @@
 -- `desk-reads` (order W14): where the call is done, a whole run of `read` over the new stream sees exactly the chosen lines in the asked order, with
 -- their editions and jobs, and nothing else. From the promises of `desk` and `read` alone. Assumes nothing.
-use Rattle.std.specs.Prelude.{◌≡◌, refl, List, [], ◌∷◌, ◌++◌, map, ℕ, ◌+◌, ◌-◌, ◌≤◌, length, take}
+use Rattle.std.specs.Prelude.{◌≡◌, refl, List, [], ◌∷◌, ◌++◌, map, ℕ, ◌+◌, ◌-◌, ◌≤◌, length, take, Ok, Result}
 use Rattle.std.proofs.Common.{sym, ap, subst, ◌∙◌, arith}
 use Rattle.std.proofs.Math.Path.{ap₂}
 use Rattle.base_lists.specs.Buffers.{over}
@@ -21,8 +21,7 @@ use Rattle.demand_joined.specs.Stretches.{stretches-read}
 use Rattle.index_spec.specs.Updating.{judged_all}
 use Rattle.index_spec.specs.Cases.{Takes}
 use Rattle.index_reading.specs.Promises.{asking}
-use Rattle.desk_spec.specs.declared.Answer.{Answer}
-use Rattle.desk_spec.specs.declared.Answer.TheVariants as answer-is
+use Rattle.desk_spec.specs.declared.DeskRefusal.{DeskRefusal}
 use Rattle.desk_spec.specs.Desk.{place_of, closing_of, chosen, new_stream, out_of, length_of}
 use Rattle.desk_spec.specs.Chosen.{LineAt, closing-line}
 use Rattle.desk_reading.specs.Promises.{Desks, Done, written, ItemLine, AllLines, given_seen, moved_to, behind, moved_all}
@@ -89,22 +88,22 @@ module _ (key font : List ℕ) (editions a : ℕ) (lay : Layout) (s table : List
         ap₂ ◌∷◌ (chosen-seen w i x.0 at)
         (ap (λ (k : ℕ). map seen_of (chosen_read t editions s table judge k list)) n ∙ all_seen (behind at (given_seen t editions s table i)) list x.1)
 
-  module _ (list o : List ℕ) (r : Answer) (out : List ℕ) (p : Desks key font editions lay s table count list o r out) (d : Done r) where
+  module _ (list o : List ℕ) (r : Result ℕ DeskRefusal) (out : List ℕ) (p : Desks key font editions lay s table count list o r out) (d : Done r) where
     abbrev new : List ℕ
     new = new_stream t editions s table list
 
     pub when : DoneWhen t editions s table count list (length o)
     when = (desk-done key font editions lay s table count list o r out p).0 d
 
-    pub answer-is-done : r ≡ answer-is.Done (length new)
+    pub answer-is-done : r ≡ Ok (length new)
     answer-is-done = (desk-done key font editions lay s table count list o r out p).1 when
 
     -- the output then starts with the new stream, and behind it is as it was
     pub out-is : out ≡ over new o
-    out-is = p.1 ∙ ap (λ (x : Answer). out_of x new o) (sym p.0 ∙ answer-is-done)
+    out-is = p.1 ∙ ap (λ (x : Result ℕ DeskRefusal). out_of x new o) (sym p.0 ∙ answer-is-done)
 
     pub written_is : written r out ≡ new
-    written_is = ap₂ (λ (x : Answer) (l : List ℕ). take (length_of x) l) answer-is-done out-is ∙ take-over new o (length new) refl
+    written_is = ap₂ (λ (x : Result ℕ DeskRefusal) (l : List ℕ). take (length_of x) l) answer-is-done out-is ∙ take-over new o (length new) refl
 
     pub desk-reads : (u : WholeRun key font (asking editions a lay) (written r out))
         → u.seen ≡ moved_all 0 (map (given_seen t editions s table) list) ++ (the_end (length_of r) ∷ [])

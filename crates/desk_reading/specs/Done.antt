@@ -1,6 +1,6 @@
 -- `desk-done` and `desk-fault` (order W14): the call is done exactly if key and font digest have their sizes, stream, table and count are as they must
 -- be, every item chooses a line and the new stream fits; and 23 and 24 name the first item at fault. From the promise of `desk` alone. Assumes nothing.
-use Rattle.std.specs.Prelude.{◌≡◌, Bool, not, cond, ◌⊎◌, ℕ, ◌+◌, ◌≤◌, ◌<◌, ltb, length}
+use Rattle.std.specs.Prelude.{◌≡◌, Bool, not, cond, ◌⊎◌, ℕ, ◌+◌, ◌≤◌, ◌<◌, ltb, length, Ok, Err, Result}
 use Rattle.std.proofs.Math.Path.{refl}
 use Rattle.std.proofs.Common.{sym, ap, ◌∙◌, inl, inr, arith}
 use Rattle.std.proofs.Math.Bool.{true, false}
@@ -12,8 +12,8 @@ use Rattle.frame_spec.specs.Told.{Told, told}
 use Rattle.read_call.specs.Answers.{longest_stream, sized_told}
 use Rattle.index_spec.specs.Entries.{most_entries}
 use Rattle.index_spec.specs.Cases.{Takes, sized-told, told-sized}
-use Rattle.desk_spec.specs.declared.Answer.{Answer}
-use Rattle.desk_spec.specs.declared.Answer.TheVariants as answer-is
+use Rattle.desk_spec.specs.declared.DeskRefusal.{DeskRefusal}
+use Rattle.desk_spec.specs.declared.DeskRefusal.TheVariants as answer-is
 use Rattle.desk_spec.specs.Desk.{place_of, closing_of, new_stream, fault_from, fitting, desk_answer, desk_number}
 use Rattle.desk_spec.specs.Chosen.{LineAt, closing-line, line-closing}
 use Rattle.desk_reading.specs.Promises.{Desks, Done, ItemLine, AllLines}
@@ -26,15 +26,15 @@ pub record DoneWhen (t : Told) (editions : ℕ) (s table : List ℕ) (count : �
   pub fits : length (new_stream t editions s table list) ≤ room
 
 -- the first item at fault of a list counted from k on: all before it choose lines, and it is past the index, or no line starts at its place
-pub data Fault (t : Told) (editions : ℕ) (s table : List ℕ) (count : ℕ) : ℕ → List ℕ → Answer → Type 0 where
-  past : {k i : ℕ} {list : List ℕ} → count ≤ i → Fault t editions s table count k (i ∷ list) (answer-is.Past k)
+pub data Fault (t : Told) (editions : ℕ) (s table : List ℕ) (count : ℕ) : ℕ → List ℕ → Result ℕ DeskRefusal → Type 0 where
+  past : {k i : ℕ} {list : List ℕ} → count ≤ i → Fault t editions s table count k (i ∷ list) (Err (answer-is.Past k))
   no_line : {k i : ℕ} {list : List ℕ} → i < count → ((closing : ℕ) → LineAt t editions s (place_of table i) closing → ⊥)
-      → Fault t editions s table count k (i ∷ list) (answer-is.NoLine k)
-  later : {k i : ℕ} {list : List ℕ} {r : Answer} → ItemLine t editions s table count i → Fault t editions s table count (k + 1) list r
+      → Fault t editions s table count k (i ∷ list) (Err (answer-is.NoLine k))
+  later : {k i : ℕ} {list : List ℕ} {r : Result ℕ DeskRefusal} → ItemLine t editions s table count i → Fault t editions s table count (k + 1) list r
       → Fault t editions s table count k (i ∷ list) r
 
 -- 23 or 24
-abbrev pub AtFault : Answer → Type 0
+abbrev pub AtFault : Result ℕ DeskRefusal → Type 0
 AtFault r = (desk_number r ≡ 23) ⊎ (desk_number r ≡ 24)
 
 module _ (t : Told) (editions : ℕ) (s table : List ℕ) (count : ℕ) (w : Takes t s table count) where
@@ -51,14 +51,14 @@ module _ (t : Told) (editions : ℕ) (s table : List ℕ) (count : ℕ) (w : Tak
   }
 
   -- lines all of them: what comes after decides
-  pub faultless : (k : ℕ) (list : List ℕ) (after : Answer) → AllLines t editions s table count list → fault_from t editions s table count k list after ≡ after
+  pub faultless : (k : ℕ) (list : List ℕ) (after : Result ℕ DeskRefusal) → AllLines t editions s table count list → fault_from t editions s table count k list after ≡ after
   unfolding fault_from
   faultless k [] after a = refl
   faultless k (i ∷ list) after a =
       rw (lt-ltb i count a.0.below, ne_eqb (closing_of t editions s (place_of table i)) 0 (line-closes i a.0)) (faultless (k + 1) list after a.1)
 
   -- a fault decides
-  pub fault-decides : {k : ℕ} {list : List ℕ} {r : Answer} → Fault t editions s table count k list r → (after : Answer)
+  pub fault-decides : {k : ℕ} {list : List ℕ} {r : Result ℕ DeskRefusal} → Fault t editions s table count k list r → (after : Result ℕ DeskRefusal)
       → fault_from t editions s table count k list after ≡ r
   unfolding fault_from
   fault-decides (past {i = i} h) after = rw (le-ltb i count h)
@@ -76,7 +76,7 @@ module _ (t : Told) (editions : ℕ) (s table : List ℕ) (count : ℕ) (w : Tak
 
   -- either each item chooses a line, or one is the first at fault
   abbrev Either : ℕ → List ℕ → Type 0
-  Either k list = AllLines t editions s table count list ⊎ ((r : Answer) × Fault t editions s table count k list r × AtFault r)
+  Either k list = AllLines t editions s table count list ⊎ ((r : Result ℕ DeskRefusal) × Fault t editions s table count k list r × AtFault r)
 
   one_more : (k i : ℕ) (list : List ℕ) → ItemLine t editions s table count i → Either (k + 1) list → Either k (i ∷ list)
   one_more k i list x (inl a) = inl (x, a)
@@ -84,10 +84,10 @@ module _ (t : Told) (editions : ℕ) (s table : List ℕ) (count : ℕ) (w : Tak
 
   step : (k i : ℕ) (list : List ℕ) (a : Bool) → ltb i count ≡ a → (b : Bool) → eqb (closing_of t editions s (place_of table i)) 0 ≡ b
       → Either (k + 1) list → Either k (i ∷ list)
-  step k i list false p b q v = inr (answer-is.Past k, past (ltb-false i count p), inl refl)
+  step k i list false p b q v = inr (Err (answer-is.Past k), past (ltb-false i count p), inl refl)
   step k i list true p true q v =
       let e = eqb-true (closing_of t editions s (place_of table i)) 0 q in
-      inr (answer-is.NoLine k, no_line (ltb-true i count p) (λ c x. line-closes i (record { below = ltb-true i count p; closing = c; there = x }) e), inr refl)
+      inr (Err (answer-is.NoLine k), no_line (ltb-true i count p) (λ c x. line-closes i (record { below = ltb-true i count p; closing = c; there = x }) e), inr refl)
   step k i list true p false q v =
       one_more k i list (closes-line i (ltb-true i count p) (eqb-false (closing_of t editions s (place_of table i)) 0 q)) v
 
@@ -110,7 +110,7 @@ taken-answer t editions s table count list room w =
     )
 
 -- the call is taken, or its number is 2, 3, 4 or 19
-pub data Taken (t : Told) (s table : List ℕ) (count : ℕ) (r : Answer) : Type 0 where
+pub data Taken (t : Told) (s table : List ℕ) (count : ℕ) (r : Result ℕ DeskRefusal) : Type 0 where
   taken : Takes t s table count → Taken t s table count r
   refused : (desk_number r ≡ 0 → ⊥) → (AtFault r → ⊥) → Taken t s table count r
 
@@ -127,10 +127,10 @@ desk-taken t editions s table count list room =
     go : (a : Bool) → sized_told t ≡ a → (b : Bool) → ltb longest_stream (length s) ≡ b → (c : Bool) → ltb (length table) most_entries ≡ c
         → (d : Bool) → ltb most_entries count ≡ d
         → Taken t s table count
-        (cond (not a) answer-is.Sizes
-        (cond b answer-is.TooLong
-        (cond c answer-is.NoTable
-        (cond d answer-is.Count
+        (cond (not a) (Err answer-is.Sizes)
+        (cond b (Err answer-is.TooLong)
+        (cond c (Err answer-is.NoTable)
+        (cond d (Err answer-is.Count)
         (fault_from t editions s table count 1 list (fitting (length (new_stream t editions s table list)) room))))))
     go false p b q c u d v = refused (λ e. omega (arith, e)) (no-fault 2 (λ e. omega (arith, e)) (λ e. omega (arith, e)))
     go true p true q c u d v = refused (λ e. omega (arith, e)) (no-fault 3 (λ e. omega (arith, e)) (λ e. omega (arith, e)))
@@ -148,7 +148,7 @@ fits-when : (n room : ℕ) → desk_number (fitting n room) ≡ 0 → (n ≤ lon
 fits-when n room = go (ltb longest_stream n) refl (ltb room n) refl
   where
     go : (a : Bool) → ltb longest_stream n ≡ a → (b : Bool) → ltb room n ≡ b
-        → desk_number (cond a answer-is.NewTooLong (cond b answer-is.NoRoom (answer-is.Done n))) ≡ 0 → (n ≤ longest_stream) × (n ≤ room)
+        → desk_number (cond a (Err answer-is.NewTooLong) (cond b (Err answer-is.NoRoom) (Ok n))) ≡ 0 → (n ≤ longest_stream) × (n ≤ room)
     go true p b q e = absurd (omega (arith, e))
     go false p true q e = absurd (omega (arith, e))
     go false p false q e = (ltb-false longest_stream n p, ltb-false room n q)
@@ -156,16 +156,16 @@ fits-when n room = go (ltb longest_stream n) refl (ltb room n) refl
 fit-number : (n room : ℕ) → AtFault (fitting n room) → ⊥
 fit-number n room = go (ltb longest_stream n) (ltb room n)
   where
-    go : (a b : Bool) → AtFault (cond a answer-is.NewTooLong (cond b answer-is.NoRoom (answer-is.Done n))) → ⊥
+    go : (a b : Bool) → AtFault (cond a (Err answer-is.NewTooLong) (cond b (Err answer-is.NoRoom) (Ok n))) → ⊥
     go true b = no-fault 3 (λ e. omega (arith, e)) (λ e. omega (arith, e))
     go false true = no-fault 4 (λ e. omega (arith, e)) (λ e. omega (arith, e))
     go false false = no-fault 0 (λ e. omega (arith, e)) (λ e. omega (arith, e))
 
-not-both : (r : Answer) → AtFault r → desk_number r ≡ 0 → ⊥
+not-both : (r : Result ℕ DeskRefusal) → AtFault r → desk_number r ≡ 0 → ⊥
 not-both r (inl e) z = omega (arith, e, z)
 not-both r (inr e) z = omega (arith, e, z)
 
-module _ (key font : List ℕ) (editions : ℕ) (lay : Layout) (s table : List ℕ) (count : ℕ) (list o : List ℕ) (r : Answer) (out : List ℕ)
+module _ (key font : List ℕ) (editions : ℕ) (lay : Layout) (s table : List ℕ) (count : ℕ) (list o : List ℕ) (r : Result ℕ DeskRefusal) (out : List ℕ)
     (p : Desks key font editions lay s table count list o r out) where
   abbrev t : Told
   t = told key font lay
@@ -181,7 +181,7 @@ module _ (key font : List ℕ) (editions : ℕ) (lay : Layout) (s table : List �
   to-done d (refused n f) = absurd (n (ap desk_number (sym p.0) ∙ d))
   to-done d (taken w) = go (either t editions s table count w 1 list)
     where
-      go : AllLines t editions s table count list ⊎ ((x : Answer) × Fault t editions s table count 1 list x × AtFault x)
+      go : AllLines t editions s table count list ⊎ ((x : Result ℕ DeskRefusal) × Fault t editions s table count 1 list x × AtFault x)
           → DoneWhen t editions s table count list (length o)
       go (inl a) =
           let e : r ≡ fitting (length new) (length o) = answered w ∙ faultless t editions s table count w 1 list (fitting (length new) (length o)) a in
@@ -190,14 +190,14 @@ module _ (key font : List ℕ) (editions : ℕ) (lay : Layout) (s table : List �
       go (inr (x, f, n)) =
           absurd (not-both x n (ap desk_number (sym (answered w ∙ fault-decides t editions s table count w f (fitting (length new) (length o)))) ∙ d))
 
-  from-done : DoneWhen t editions s table count list (length o) → r ≡ answer-is.Done (length new)
+  from-done : DoneWhen t editions s table count list (length o) → r ≡ Ok (length new)
   from-done x =
       answered x.takes ∙ faultless t editions s table count x.takes 1 list (fitting (length new) (length o)) x.lines
       ∙ rw (le-ltb longest_stream (length new) x.short, le-ltb (length o) (length new) x.fits)
 
   -- done exactly then, and the new stream's length is answered
   pub desk-done : (Done r → DoneWhen t editions s table count list (length o)) × (DoneWhen t editions s table count list (length o) → r
-      ≡ answer-is.Done (length new))
+      ≡ Ok (length new))
   desk-done = (λ d. to-done d (desk-taken t editions s table count list (length o)), from-done)
 
   to-fault : AtFault r → Taken t s table count (desk_answer t editions s table count list (length o)) → Takes t s table count
@@ -209,7 +209,7 @@ module _ (key font : List ℕ) (editions : ℕ) (lay : Layout) (s table : List �
       moved (inr e) = inr (ap desk_number (sym p.0) ∙ e)
   to-fault d (taken w) = go (either t editions s table count w 1 list)
     where
-      go : AllLines t editions s table count list ⊎ ((x : Answer) × Fault t editions s table count 1 list x × AtFault x)
+      go : AllLines t editions s table count list ⊎ ((x : Result ℕ DeskRefusal) × Fault t editions s table count 1 list x × AtFault x)
           → Takes t s table count × Fault t editions s table count 1 list r
       go (inl a) =
           let e : r ≡ fitting (length new) (length o) = answered w ∙ faultless t editions s table count w 1 list (fitting (length new) (length o)) a in
@@ -220,7 +220,7 @@ module _ (key font : List ℕ) (editions : ℕ) (lay : Layout) (s table : List �
 
   -- 23 and 24 exactly where an item is the first at fault
   pub desk-fault : (AtFault r → Takes t s table count × Fault t editions s table count 1 list r)
-      × ((x : Answer) → Takes t s table count → Fault t editions s table count 1 list x → r ≡ x)
+      × ((x : Result ℕ DeskRefusal) → Takes t s table count → Fault t editions s table count 1 list x → r ≡ x)
   desk-fault = (
     λ d. to-fault d (desk-taken t editions s table count list (length o)),
     λ x w f. answered w ∙ fault-decides t editions s table count w f (fitting (length new) (length o)),

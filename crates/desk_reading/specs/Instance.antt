@@ -1,6 +1,6 @@
 -- That the desk's theorems are not empty: over the stream of W13's instance, with a table whose one entry names the place of its first frame, the desk is
 -- done with that frame asked for. Assumes nothing.
-use Rattle.std.specs.Prelude.{◌≡◌, refl, List, [], ◌∷◌, ℕ, ◌≤◌, length, replicate}
+use Rattle.std.specs.Prelude.{◌≡◌, refl, List, [], ◌∷◌, ℕ, ◌≤◌, length, replicate, Ok}
 use Rattle.std.proofs.Common.{arith, length-append}
 use Rattle.std.proofs.lemmas.List.{length-replicate}
 use Rattle.frame_stuff_spec.specs.Stuffing.{mark}
@@ -11,7 +11,6 @@ use Rattle.demand_joined.specs.Frames.{line_at}
 use Rattle.demand_joined.proofs.Joined.{stream}
 use Rattle.demand_joined.proofs.Instance.{key, font, asked, t, frame_one, pairs, sizes, pairs-within, instance-read}
 use Rattle.index_spec.specs.Cases.{Takes}
-use Rattle.desk_spec.specs.declared.Answer.TheVariants as answer-is
 use Rattle.desk_spec.specs.Desk.{place_of, closing_of, chosen, new_stream, desk_call}
 use Rattle.desk_spec.specs.Chosen.{LineAt, closing-line}
 use Rattle.desk_reading.specs.Promises.{ItemLine}
@@ -54,7 +53,7 @@ long =
     let x = there.stretch-is in
     omega (arith, stretch-long s p c x, length-append (chosen t editions s table 0) (mark ∷ []), x.behind, x.some, x.ends)
 
-pub instance-done : desk_call t editions s table 1 (0 ∷ []) s ≡ answer-is.Done (length (new_stream t editions s table (0 ∷ [])))
+pub instance-done : desk_call t editions s table 1 (0 ∷ []) s ≡ Ok (length (new_stream t editions s table (0 ∷ [])))
 instance-done =
     (desk-done key font editions Neither s table 1 (0 ∷ []) s _ _ (refl, refl)).1
     (record { takes = takes; lines = (first-line, tt); short = omega (arith, long, pairs-within); fits = long })

@@ -1,6 +1,6 @@
 -- What `desk` promises of one call, on plain lists (FromContracts.antt beside this has that it is its contract), and what the theorems speak of: an item
 -- that chooses a line, and what is seen of it. Assumes nothing: these are definitions.
-use Rattle.std.specs.Prelude.{◌≡◌, List, [], ◌∷◌, ℕ, ◌+◌, ◌-◌, ◌<◌, take}
+use Rattle.std.specs.Prelude.{◌≡◌, List, [], ◌∷◌, ℕ, ◌+◌, ◌-◌, ◌<◌, take, Result}
 use Rattle.line_layout.specs.declared.Layout.{Layout}
 use Rattle.read_stretch.specs.Stretches.{span, bytes_at}
 use Rattle.frame_spec.specs.Told.{Told, told}
@@ -8,21 +8,21 @@ use Rattle.read_readings.specs.Readings.{reading}
 use Rattle.demand_reading.specs.Promises.{Seen}
 use Rattle.demand_joined.specs.Seeing.{seen_of}
 use Rattle.index_spec.specs.Updating.{judged_all}
-use Rattle.desk_spec.specs.declared.Answer.{Answer}
+use Rattle.desk_spec.specs.declared.DeskRefusal.{DeskRefusal}
 use Rattle.desk_spec.specs.Desk.{place_of, closing_of, desk_call, desk_out, desk_number, length_of}
 use Rattle.desk_spec.specs.Chosen.{LineAt}
 
 -- the desk, with this stream, table of so many entries, list and output o, under this key, font digest, editions and layout, may answer r and leave out
-abbrev pub Desks : List ℕ → List ℕ → ℕ → Layout → List ℕ → List ℕ → ℕ → List ℕ → List ℕ → Answer → List ℕ → Type 0
+abbrev pub Desks : List ℕ → List ℕ → ℕ → Layout → List ℕ → List ℕ → ℕ → List ℕ → List ℕ → Result ℕ DeskRefusal → List ℕ → Type 0
 Desks key font editions lay s table count list o r out =
     (r ≡ desk_call (told key font lay) editions s table count list o) × (out ≡ desk_out (told key font lay) editions s table count list o)
 
 -- its number is 0
-abbrev pub Done : Answer → Type 0
+abbrev pub Done : Result ℕ DeskRefusal → Type 0
 Done r = desk_number r ≡ 0
 
 -- the new stream: as many bytes of the output as are answered
-abbrev pub written : Answer → List ℕ → List ℕ
+abbrev pub written : Result ℕ DeskRefusal → List ℕ → List ℕ
 written r out = take (length_of r) out
 
 -- an item below the count, at whose entry's place a stretch starts that reads as a line

@@ -1,6 +1,6 @@
 -- The rework desk (order W14): the stretch that an entry number chooses, the new stream, and what the desk answers and leaves in its output, the order's
 -- refusals one line each. Assumes nothing: these are definitions.
-use Rattle.std.specs.Prelude.{not, cond, List, [], ◌∷◌, ◌++◌, ℕ, ◌+◌, ◌-◌, eqb, ltb, length, get_or}
+use Rattle.std.specs.Prelude.{not, cond, List, [], ◌∷◌, ◌++◌, ℕ, ◌+◌, ◌-◌, eqb, ltb, length, get_or, Ok, Err, Result}
 use Rattle.base_lists.specs.Buffers.{over}
 use Rattle.frame_stuff_spec.specs.Stuffing.{mark}
 use Rattle.line_spec.specs.Lines.{longest}
@@ -10,8 +10,8 @@ use Rattle.read_call.specs.declared.Reading.{Reading}
 use Rattle.read_call.specs.Answers.{longest_stream, sized_told, found, reading_of, LINE, outcome_of}
 use Rattle.index_spec.specs.Entries.{most_entries, entry_place}
 use Rattle.index_spec.specs.Updating.{all_asked}
-use Rattle.desk_spec.specs.declared.Answer.{Answer}
-use Rattle.desk_spec.specs.declared.Answer.TheVariants.{Done, Sizes, TooLong, NoTable, Count, Past, NoLine, NewTooLong, NoRoom}
+use Rattle.desk_spec.specs.declared.DeskRefusal.{DeskRefusal}
+use Rattle.desk_spec.specs.declared.DeskRefusal.TheVariants.{Sizes, TooLong, NoTable, Count, Past, NoLine, NewTooLong, NoRoom}
 
 -- the place that an entry number names
 abbrev pub place_of : List ℕ → ℕ → ℕ
@@ -41,78 +41,71 @@ new_stream t editions s table [] = []
 new_stream t editions s table (i ∷ list) = mark ∷ (chosen t editions s table i ++ (mark ∷ new_stream t editions s table list))
 
 -- item by item, counted from k on: 23, 24; the first at fault decides, and where there is none what comes after them
-unfoldable pub fault_from : Told → ℕ → List ℕ → List ℕ → ℕ → ℕ → List ℕ → Answer → Answer
+unfoldable pub fault_from : Told → ℕ → List ℕ → List ℕ → ℕ → ℕ → List ℕ → Result ℕ DeskRefusal → Result ℕ DeskRefusal
 fault_from t editions s table count k [] after = after
 fault_from t editions s table count k (i ∷ list) after =
-    cond (not (ltb i count)) (Past k)
-    (cond (eqb (closing_of t editions s (place_of table i)) 0) (NoLine k)
+    cond (not (ltb i count)) (Err (Past k))
+    (cond (eqb (closing_of t editions s (place_of table i)) 0) (Err (NoLine k))
     (fault_from t editions s table count (k + 1) list after))
 
 -- 3 and 4 for a new stream of n bytes and an output of room for so many
-abbrev pub fitting : ℕ → ℕ → Answer
-fitting n room = cond (ltb longest_stream n) NewTooLong (cond (ltb room n) NoRoom (Done n))
+abbrev pub fitting : ℕ → ℕ → Result ℕ DeskRefusal
+fitting n room = cond (ltb longest_stream n) (Err NewTooLong) (cond (ltb room n) (Err NoRoom) (Ok n))
 
 -- 2, 3, 4 for the table, 19, then the items, then 3 and 4 for the new stream
-unfoldable pub desk_answer : Told → ℕ → List ℕ → List ℕ → ℕ → List ℕ → ℕ → Answer
+unfoldable pub desk_answer : Told → ℕ → List ℕ → List ℕ → ℕ → List ℕ → ℕ → Result ℕ DeskRefusal
 desk_answer t editions s table count list room =
-    cond (not (sized_told t)) Sizes
-    (cond (ltb longest_stream (length s)) TooLong
-    (cond (ltb (length table) most_entries) NoTable
-    (cond (ltb most_entries count) Count
+    cond (not (sized_told t)) (Err Sizes)
+    (cond (ltb longest_stream (length s)) (Err TooLong)
+    (cond (ltb (length table) most_entries) (Err NoTable)
+    (cond (ltb most_entries count) (Err Count)
     (fault_from t editions s table count 1 list
     (fitting (length (new_stream t editions s table list)) room)))))
 
 -- the output: the new stream over its start where it is done, else as it was
-abbrev pub out_of : Answer → List ℕ → List ℕ → List ℕ
-out_of (Done n) w o = over w o
-out_of Sizes w o = o
-out_of TooLong w o = o
-out_of NoTable w o = o
-out_of Count w o = o
-out_of (Past k) w o = o
-out_of (NoLine k) w o = o
-out_of NewTooLong w o = o
-out_of NoRoom w o = o
+abbrev pub out_of : Result ℕ DeskRefusal → List ℕ → List ℕ → List ℕ
+out_of (Ok n) w o = over w o
+out_of (Err Sizes) w o = o
+out_of (Err TooLong) w o = o
+out_of (Err NoTable) w o = o
+out_of (Err Count) w o = o
+out_of (Err (Past k)) w o = o
+out_of (Err (NoLine k)) w o = o
+out_of (Err NewTooLong) w o = o
+out_of (Err NoRoom) w o = o
 
 -- the two of a call with the output o
-abbrev pub desk_call : Told → ℕ → List ℕ → List ℕ → ℕ → List ℕ → List ℕ → Answer
+abbrev pub desk_call : Told → ℕ → List ℕ → List ℕ → ℕ → List ℕ → List ℕ → Result ℕ DeskRefusal
 desk_call t editions s table count list o = desk_answer t editions s table count list (length o)
 
 abbrev pub desk_out : Told → ℕ → List ℕ → List ℕ → ℕ → List ℕ → List ℕ → List ℕ
 desk_out t editions s table count list o = out_of (desk_call t editions s table count list o) (new_stream t editions s table list) o
 
 -- the number of each answer (document 01, 'Numbers returned'; orders W10 and W14)
-abbrev pub desk_number : Answer → ℕ
-desk_number (Done n) = 0
-desk_number Sizes = 2
-desk_number TooLong = 3
-desk_number NoTable = 4
-desk_number Count = 19
-desk_number (Past k) = 23
-desk_number (NoLine k) = 24
-desk_number NewTooLong = 3
-desk_number NoRoom = 4
+abbrev pub desk_number : Result ℕ DeskRefusal → ℕ
+desk_number (Ok n) = 0
+desk_number (Err Sizes) = 2
+desk_number (Err TooLong) = 3
+desk_number (Err NoTable) = 4
+desk_number (Err Count) = 19
+desk_number (Err (Past k)) = 23
+desk_number (Err (NoLine k)) = 24
+desk_number (Err NewTooLong) = 3
+desk_number (Err NoRoom) = 4
 
 -- the new stream's length, 0 where it is refused
-abbrev pub length_of : Answer → ℕ
-length_of (Done n) = n
-length_of Sizes = 0
-length_of TooLong = 0
-length_of NoTable = 0
-length_of Count = 0
-length_of (Past k) = 0
-length_of (NoLine k) = 0
-length_of NewTooLong = 0
-length_of NoRoom = 0
+abbrev pub length_of : Result ℕ DeskRefusal → ℕ
+length_of (Ok n) = n
+length_of (Err f) = 0
 
 -- the item of the list at fault, counted from 1, for 23 and 24; else 0
-abbrev pub item_of : Answer → ℕ
-item_of (Done n) = 0
-item_of Sizes = 0
-item_of TooLong = 0
-item_of NoTable = 0
-item_of Count = 0
-item_of (Past k) = k
-item_of (NoLine k) = k
-item_of NewTooLong = 0
-item_of NoRoom = 0
+abbrev pub item_of : Result ℕ DeskRefusal → ℕ
+item_of (Ok n) = 0
+item_of (Err Sizes) = 0
+item_of (Err TooLong) = 0
+item_of (Err NoTable) = 0
+item_of (Err Count) = 0
+item_of (Err (Past k)) = k
+item_of (Err (NoLine k)) = k
+item_of (Err NewTooLong) = 0
+item_of (Err NoRoom) = 0

@@ -2,11 +2,9 @@
 // the call is in the crate desk_call.
 #![tactic(auto)]
 
-// What the desk answers.
+// Why the desk gives no stream.
 #[derive(Clone, Copy)]
-pub enum Answer {
-    // The new stream's length.
-    Done(usize),
+pub enum DeskRefusal {
     // Key or font digest not of their sizes.
     Sizes,
     // A stream that is too long.

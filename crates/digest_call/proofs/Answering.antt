@@ -1,4 +1,5 @@
 -- Each return of `digest_call` gives what document 01's order of refusals says, and the buffer that goes with it. Assumes nothing.
+use Rattle.std.specs.Prelude.{Ok, Result}
 use mathlib.Core.Path.{◌≡◌, sym, ap, ◌∙◌}
 use mathlib.Core.Bool.{false}
 use mathlib.Core.List.{List}
@@ -16,8 +17,7 @@ use Rattle.digest_sponge.specs.Parts.{sponge_of, hash_of}
 use Rattle.digest_call.specs.Answers.{LONGEST-MESSAGE, digest_answer, digest_out}
 use Rattle.digest_call.specs.Counting.{count_fits}
 use Rattle.digest_call.specs.Order.{digest-done}
-use Rattle.digest_call.specs.declared.Digested.{Digested}
-use Rattle.digest_call.specs.declared.Digested.TheVariants.{Done}
+use Rattle.digest_call.specs.declared.DigestRefusal.{DigestRefusal}
 
 -- a refusal, read from the code's side
 pub refused : {A : Type 0} {r s : A} {o w : List ℕ} → (r ≡ s) × (w ≡ o) → (s ≡ r) × (o ≡ w)
@@ -38,14 +38,14 @@ pub sponge-counts : (i n : ℕ) {z : Shape} → unknown i ≡ false → z ≡ sp
 sponge-counts i n e z-is h = let k = known-sponge i e z-is in rw (k.0, k.1) (count_fits i n e h)
 
 -- the count that the code works out is the one of the calls
-counted : (i : ℕ) (m : List ℕ) {a : Digested} → a ≡ Done (digest_calls i m) → Done (length m / rate_of i + 1 + outputs_of i) ≡ a
+counted : (i : ℕ) (m : List ℕ) {a : Result ℕ DigestRefusal} → a ≡ Ok (digest_calls i m) → Ok (length m / rate_of i + 1 + outputs_of i) ≡ a
 unfolding outputs_of
-counted i m e = ap Done (sym (digest-calls i m)) ∙ sym e
+counted i m e = ap Ok (sym (digest-calls i m)) ∙ sym e
 
 -- the last return: the shape of the instance, the digest, and its copy
 pub finished : (i : ℕ) (m o : List ℕ) {z : Shape} {hash w : List ℕ} → unknown i ≡ false → length m ≤ LONGEST-MESSAGE → DIGEST ≤ length o
     → z ≡ sponge_of i → hash ≡ hash_of i m → w ≡ copied hash o
-    → (Done (length m / z.rate + 1 + z.outputs) ≡ digest_answer i m o) × (w ≡ digest_out i m o)
+    → (Ok (length m / z.rate + 1 + z.outputs) ≡ digest_answer i m o) × (w ≡ digest_out i m o)
 unfolding hash_of
 finished i m o {z} {hash} {w} e h g z-is given put =
     let k = known-sponge i e z-is in

@@ -1,10 +1,11 @@
 -- The promise of `digest_call`, as the check reads it (`Post`), admits a single answer and a single buffer. Assumes nothing.
+use Rattle.std.specs.Prelude.{Result}
 use mathlib.Core.Path.{◌≡◌, sym, ◌∙◌}
 use Prim.Native.Nat.{ℕ}
 use contract.Lifetimes.{Lfts}
 use denote.Triple.Clauses.{AtExit}
 use borrow.Fn.Kinds.{Dens, ended_of}
-use Rattle.digest_call.specs.declared.Digested.{Digested}
+use Rattle.digest_call.specs.declared.DigestRefusal.{DigestRefusal}
 use Rattle.digest_call.proofs.digest.Kinds as kinds
 use Rattle.digest_call.proofs.digest.Reads as reads
 use Rattle.digest_call.proofs.digest_number.Kinds as digest-number-kinds
@@ -12,7 +13,7 @@ use Rattle.digest_call.proofs.digest_number.Reads as digest-number-reads
 use Rattle.digest_call.proofs.digest_count.Kinds as digest-count-kinds
 use Rattle.digest_call.proofs.digest_count.Reads as digest-count-reads
 
-pub digest-single : (κs : Lfts 2) (a : Dens κs kinds.ps) (r r' : Digested) (x x' : AtExit (ended_of 2 kinds.ps kinds.r) κs)
+pub digest-single : (κs : Lfts 2) (a : Dens κs kinds.ps) (r r' : Result ℕ DigestRefusal) (x x' : AtExit (ended_of 2 kinds.ps kinds.r) κs)
     → reads.Post κs a r x → reads.Post κs a r' x' → (r ≡ r') × (x.1.1.0.now ≡ x'.1.1.0.now)
 digest-single κs a r r' x x' p q = (p.0 ∙ sym q.0, p.1 ∙ sym q.1)
 

@@ -10,59 +10,53 @@ pub const DIGEST: usize = digest_sponge::DIGEST;
 
 pub const LONGEST_MESSAGE: usize = 65536;
 
-// Done with the calls of the permutation, or refused: an unknown instance, a message too long, no room for the digest.
+// Why a digest is refused: an unknown instance, a message too long, no room for the digest. One that is given counts the calls of the permutation.
 #[derive(Clone, Copy)]
-pub enum Digested {
-    Done(usize),
+pub enum DigestRefusal {
     Instance,
     TooLong,
     NoRoom,
 }
 
 // The digest of a message over the first 32 bytes of out; the rest of out stays, and all of it on a refusal.
-pub fn digest(instance: usize, message: &[u8], out: &mut [u8]) -> Digested
+pub fn digest(instance: usize, message: &[u8], out: &mut [u8]) -> Result<usize, DigestRefusal>
     ensures { (result ≡ digest_answer instance message.now out.old)
         × (out.new ≡ digest_out instance message.now out.old) }
 {
     if digest_sponge::is_unknown(instance) {
-        return Digested::Instance;
+        return Err(DigestRefusal::Instance);
     }
     if message.len() > LONGEST_MESSAGE {
-        return Digested::TooLong;
+        return Err(DigestRefusal::TooLong);
     }
     if out.len() < DIGEST {
-        return Digested::NoRoom;
+        return Err(DigestRefusal::NoRoom);
     }
     let shape = digest_sponge::sponge_of(instance);
     let rate = shape.rate;
     let hash = digest_sponge::hash(instance, message);
     base_lists::copy(&hash, out);
-    Digested::Done(message.len() / rate + 1 + shape.outputs)
+    Ok(message.len() / rate + 1 + shape.outputs)
 }
 
 // What a refusal counts.
 const NO_CALLS: usize = 0;
 
 // The number of what `digest` answers.
-pub fn digest_number(answer: Digested) -> u32
+pub fn digest_number(answer: Result<usize, DigestRefusal>) -> u32
     ensures { result ≡ digest_number answer }
 {
     match answer {
-        Digested::Done(_) => 0,
-        Digested::Instance => 1,
-        Digested::TooLong => 3,
-        Digested::NoRoom => 4,
+        Ok(_) => 0,
+        Err(DigestRefusal::Instance) => 1,
+        Err(DigestRefusal::TooLong) => 3,
+        Err(DigestRefusal::NoRoom) => 4,
     }
 }
 
 // The count of what `digest` answers.
-pub fn digest_count(answer: Digested) -> usize
+pub fn digest_count(answer: Result<usize, DigestRefusal>) -> usize
     ensures { result ≡ count_of answer }
 {
-    match answer {
-        Digested::Done(calls) => calls,
-        Digested::Instance => NO_CALLS,
-        Digested::TooLong => NO_CALLS,
-        Digested::NoRoom => NO_CALLS,
-    }
+    answer.unwrap_or(NO_CALLS)
 }

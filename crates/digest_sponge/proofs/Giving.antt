@@ -22,32 +22,29 @@ use Rattle.digest_spec.specs.Shapes.{Fits}
 use Rattle.digest_spec.specs.Hashing.{squeezed}
 use Rattle.digest_sponge.proofs.Taking.{size_room}
 
--- after j of k outputs from the state s, at bytes
-pub record Given (n R k : ℕ) (s : State) (hash : List ℕ) (t : State) (at j : ℕ) : Type 0 where
+-- after j of k outputs from the state s
+pub record Given (n R k : ℕ) (s : State) (hash : List ℕ) (t : State) (j : ℕ) : Type 0 where
   pub fits : Fits n R
   pub makes : k * R ≡ DIGEST
   pub turns : j ≤ k
-  pub place : at ≡ j * R
   pub room : length hash ≡ DIGEST
   pub state : told n t ≡ (squeezed R (from (told n s)) j).run.state
-  pub put : take at hash ≡ (squeezed R (from (told n s)) j).hash
+  pub put : take (j * R) hash ≡ (squeezed R (from (told n s)) j).hash
 
-pub given-none : {n R k : ℕ} (s : State) → Fits n R → k * R ≡ DIGEST → Given n R k s (replicate DIGEST 0) s 0 0
+pub given-none : {n R k : ℕ} (s : State) → Fits n R → k * R ≡ DIGEST → Given n R k s (replicate DIGEST 0) s 0
 unfolding squeezed
 given-none {n} {R} {k} s f e = record {
   fits = f;
   makes = e;
   turns = omega arith;
-  place = sym (zero-mul R);
   room = refl;
   state = refl;
-  put = refl;
+  put = rw zero-mul refl;
 }
 
 -- an output has room
-pub given-room : {n R k : ℕ} {s t : State} {hash : List ℕ} {at j : ℕ} → Given n R k s hash t at j → j < k → at + R ≤ DIGEST
-given-room {n} {R} {k} {s} {t} {hash} {at} {j} g h =
-    let place : at ≡ j * R = g.place in
+pub given-room : {n R k : ℕ} {s t : State} {hash : List ℕ} {j : ℕ} → Given n R k s hash t j → j < k → j * R + R ≤ DIGEST
+given-room {n} {R} {k} {s} {t} {hash} {j} g h =
     let makes : k * R ≡ DIGEST = g.makes in
     let ends : (j + 1) * R ≤ k * R = mul-le-mul_right R (omega arith) in
     omega (arith, blocks-suc j R)
@@ -72,12 +69,13 @@ told-out R u o w room long e =
     let m : min R ROOM ≡ R = omega arith in
     e ∙ rw (long, m) (over-whole (told R u) o (omega (arith, length-told R u)))
 
-pub given-more : {n R k : ℕ} {s t u : State} {hash : List ℕ} {at j : ℕ} → Given n R k s hash t at j → j < k
+pub given-more : {n R k : ℕ} {s t u : State} {hash : List ℕ} {j : ℕ} → Given n R k s hash t j → j < k
     → told n u ≡ permute ROUNDS (told n t) → (w : List ℕ)
-    → w ≡ over (told (min (length (take (at + R - at) (drop at hash))) ROOM) u) (take (at + R - at) (drop at hash))
-    → Given n R k s (put_mid at (at + R - at) hash w) u (at + R) (j + 1)
+    → w ≡ over (told (min (length (take (j * R + R - j * R) (drop (j * R) hash))) ROOM) u) (take (j * R + R - j * R) (drop (j * R) hash))
+    → Given n R k s (put_mid (j * R) (j * R + R - j * R) hash w) u (j + 1)
 unfolding squeezed
-given-more {n} {R} {k} {s} {t} {u} {hash} {at} {j} g h p w e =
+given-more {n} {R} {k} {s} {t} {u} {hash} {j} g h p w e =
+    let at : ℕ = j * R in
     let z : at + R - at ≡ R = omega arith in
     let size = size_room g.fits in
     let ends : at + R ≤ DIGEST = given-room g h in
@@ -90,18 +88,16 @@ given-more {n} {R} {k} {s} {t} {u} {hash} {at} {j} g h p w e =
       fits = g.fits;
       makes = g.makes;
       turns = omega arith;
-      place = let place : at ≡ j * R = g.place in omega (arith, blocks-suc j R);
       room = rw (z, v) (length-put hash (told R u) at R g.room (length-told R u) ends);
       state = rw (add-one j) st;
-      put = rw (z, v, add-one j) (first-put hash (told R u) at R g.room (length-told R u) ends ∙ rw (g.put, first));
+      put = rw (z, v, blocks-suc j R, add-one j) (first-put hash (told R u) at R g.room (length-told R u) ends ∙ rw (g.put, first));
     }
 
-pub given-all : {n R k : ℕ} {s t : State} {hash : List ℕ} {at j : ℕ} → Given n R k s hash t at j → k ≤ j
+pub given-all : {n R k : ℕ} {s t : State} {hash : List ℕ} {j : ℕ} → Given n R k s hash t j → k ≤ j
     → hash ≡ (squeezed R (from (told n s)) k).hash
-given-all {n} {R} {k} {s} {t} {hash} {at} {j} g h =
+given-all {n} {R} {k} {s} {t} {hash} {j} g h =
     let turns : j ≤ k = g.turns in
     let room : length hash ≡ DIGEST = g.room in
-    let place : at ≡ j * R = g.place in
     let e : j ≡ k = omega arith in
-    let full : at ≡ DIGEST = place ∙ rw e g.makes in
-    sym (take_all at hash (omega arith)) ∙ g.put ∙ ap (λ (i : ℕ). (squeezed R (from (told n s)) i).hash) e
+    let full : j * R ≡ DIGEST = rw e g.makes in
+    sym (take_all (j * R) hash (omega arith)) ∙ g.put ∙ ap (λ (i : ℕ). (squeezed R (from (told n s)) i).hash) e

@@ -3,7 +3,7 @@
 use mathlib.Core.Path.{◌≡◌, sym, ap, ap₂, ◌∙◌}
 use mathlib.Core.Bool.{false}
 use mathlib.Core.List.{List, ◌++◌}
-use Prim.Native.Nat.{ℕ, ◌-◌, ◌*◌, ◌/◌, ◌≤◌, min}
+use Prim.Native.Nat.{ℕ, ◌-◌, ◌/◌, ◌≤◌, min}
 use native.Mathlib.Omega.{arith}
 use lib.ListN.{length, take, drop, replicate, length-replicate}
 use lib.Seq.{take_all, length-take-le}
@@ -16,7 +16,7 @@ use Rattle.gage_planes_spec.specs.Bytes.{length-told}
 use Rattle.gage_spec.specs.Permutation.{LARGEST, ROUNDS, permute}
 use Rattle.gage_sponge.specs.Padding.{block_count, last_block}
 use Rattle.gage_sponge.specs.Absorbing.{xored, from, changed, called}
-use Rattle.digest_spec.specs.Instances.{DIGEST, unknown, size_of, rate_of, outputs_of}
+use Rattle.digest_spec.specs.Instances.{unknown, size_of, rate_of, outputs_of}
 use Rattle.digest_spec.specs.Hashing.{absorbed, squeezed, sponged, digest_of}
 use Rattle.digest_spec.specs.Shapes.{Fits, known-whole}
 use Rattle.digest_spec.specs.Outputs.{squeezed-state}
@@ -25,13 +25,10 @@ use Rattle.digest_sponge.proofs.Taking.{size_room}
 
 -- the shape of a known instance
 module _ (i : ℕ) {n R k : ℕ} (known : unknown i ≡ false) (shape : (n ≡ size_of i) × (R ≡ rate_of i) × (k ≡ outputs_of i)) where
-  pub shape-fits : Fits n R
+  shape-fits : Fits n R
   shape-fits = rw (shape.0, shape.1) (known-whole i known).fits
 
-  pub shape-makes : k * R ≡ DIGEST
-  shape-makes = rw (shape.1, shape.2) (known-whole i known).makes
-
-  pub shape-room : n ≤ LARGEST
+  shape-room : n ≤ LARGEST
   shape-room = (size_room shape-fits).1
 
   -- the state's bytes told over zeros

@@ -3,7 +3,8 @@
 // only where a call begins or ends. The promises cite specs/Parts.antt and the definitions of the crate digest_spec.
 #![tactic(auto)]
 
-ghost use Rattle.std.specs.Prelude.{◌≡◌, true, false, ◌*◌, ◌/◌, ◌≤◌, length, take};
+ghost use Rattle.std.specs.Prelude.{◌≡◌, true, false, ◌*◌, ◌/◌, ◌≤◌, length, take, MatchOption};
+ghost use Rattle.std.proofs.Props.{props};
 ghost use Rattle.gage_spec.specs.Permutation.{LARGEST, ROUNDS, permitted, permute};
 ghost use Rattle.gage_planes_spec.specs.Told.{told};
 ghost use Rattle.gage_sponge.specs.Padding.{block_count, last_block};
@@ -58,119 +59,122 @@ pub fn is_unknown(instance: usize) -> bool
     instance > INSTANCE_COUNT
 }
 
-fn shape_of(instance: usize) -> Shape
-    requires { unknown instance ≡ false }
-    ensures { (result.size ≡ size_of instance) × (result.rate ≡ rate_of instance) × (result.outputs ≡ outputs_of instance) }
-{
-    let rows = INSTANCES;
-    let i = instance - 1;
-    let b = rows[i][0];
-    let r = rows[i][1];
-    Shape {
-        size: b / BYTE,
-        rate: r / BYTE,
-        outputs: DIGEST_BITS / r,
+// The sponge of a known instance. Its size is permitted, and its rate, which has room for a block, makes the digest in whole outputs.
+#[derive(Clone, Copy)]
+struct Sponge {
+    size: usize,
+    rate: usize,
+    outputs: usize,
+    ghost fits: { Fits size rate } by { Prim.hlevel props },
+    ghost makes: { outputs * rate ≡ DIGEST },
+}
+
+impl Sponge {
+    // The sponge of an instance, where there is one.
+    fn of(instance: usize) -> Option<Sponge>
+        ensures { MatchOption result (unknown instance ≡ true) (λ z. (unknown instance ≡ false) × (z.size ≡ size_of instance)
+            × (z.rate ≡ rate_of instance) × (z.outputs ≡ outputs_of instance)) }
+    {
+        if is_unknown(instance) {
+            return None;
+        }
+        let rows = INSTANCES;
+        let i = instance - 1;
+        let b = rows[i][0];
+        let r = rows[i][1];
+        Some(Sponge {
+            size: b / BYTE,
+            rate: r / BYTE,
+            outputs: DIGEST_BITS / r,
+        })
     }
-}
 
-// The permutation of a state of n bytes, n being permitted.
-fn turned(s: State, n: usize) -> State
-    requires { permitted n ≡ true }
-    ensures { told n result ≡ permute ROUNDS (told n s) }
-{
-    gage_planes::permuted(s, n, gage_spec::ROUNDS)
-}
-
-// A state's first bytes woven, as many as its size.
-fn woven(s: [u8; LARGEST], size: usize) -> State
-    requires { size ≤ LARGEST }
-    ensures { told size result ≡ take size s }
-{
-    let bytes = s;
-    gage_weave::weave(&bytes[0..size])
-}
-
-// A state after a message's whole blocks, taken straight from the message.
-fn absorb_whole(s: State, message: &[u8], size: usize, rate: usize) -> State
-    requires { Fits size rate }
-    ensures { told size result ≡ (taken rate message.now (from (told size s)) (length message.now / rate)).state }
-{
-    let mut state = s;
-    let blocks = message.len() / rate;
-    let mut at = 0;
-    let mut i = 0;
-    while i < blocks {
-        let end = at + rate;
-        state = turned(gage_weave::mix(state, &message[at..end]), size);
-        at = end;
-        i += 1;
+    // The permutation of a state.
+    fn turned(self, s: State) -> State
+        ensures { told self.size result ≡ permute ROUNDS (told self.size s) }
+    {
+        gage_planes::permuted(s, self.size, gage_spec::ROUNDS)
     }
-    state
-}
 
-// A state after what is left of the message, padded.
-fn absorb_last(s: State, rest: &[u8], size: usize, rate: usize) -> State
-    requires { Fits size rate }
-    ensures { told size result ≡ permute ROUNDS (xored (take rate (last_block rest.now)) (told size s)) }
-{
-    let last = gage_sponge::last_block(rest);
-    turned(gage_weave::mix(s, &last[0..rate]), size)
-}
-
-// The state after the message's whole blocks and its padded last block.
-fn absorb(message: &[u8], size: usize, rate: usize) -> State
-    requires { Fits size rate }
-    ensures { told size result ≡ (absorbed size rate message.now (block_count rate message.now)).state }
-{
-    let s = absorb_whole(woven([0u8; LARGEST], size), message, size, rate);
-    let at = message.len() / rate * rate;
-    absorb_last(s, &message[at..], size, rate)
-}
-
-// The digest given out of a state: before each output the permutation.
-fn squeeze(s: State, size: usize, rate: usize, outputs: usize) -> [u8; DIGEST]
-    requires { Fits size rate × (outputs * rate ≡ DIGEST) }
-    ensures { result ≡ (squeezed rate (from (told size s)) outputs).hash }
-{
-    let mut hash = [0u8; DIGEST];
-    let mut t = s;
-    let mut at = 0;
-    let mut k = 0;
-    while k < outputs {
-        let next = turned(t, size);
-        let end = at + rate;
-        gage_weave::tell(next, &mut hash[at..end]);
-        t = next;
-        at = end;
-        k += 1;
+    // A state's first bytes woven, as many as its size.
+    fn woven(self, s: [u8; LARGEST]) -> State
+        ensures { told self.size result ≡ take self.size s }
+    {
+        let bytes = s;
+        gage_weave::weave(&bytes[0..self.size])
     }
-    hash
+
+    // A state after a message's whole blocks, taken straight from the message.
+    fn absorb_whole(self, s: State, message: &[u8]) -> State
+        ensures { told self.size result ≡ (taken self.rate message.now (from (told self.size s)) (length message.now / self.rate)).state }
+    {
+        let mut state = s;
+        for block in message.chunks_exact(self.rate) {
+            state = self.turned(gage_weave::mix(state, block));
+        }
+        state
+    }
+
+    // A state after what is left of the message, padded.
+    fn absorb_last(self, s: State, rest: &[u8]) -> State
+        ensures { told self.size result ≡ permute ROUNDS (xored (take self.rate (last_block rest.now)) (told self.size s)) }
+    {
+        let last = gage_sponge::last_block(rest);
+        self.turned(gage_weave::mix(s, &last[0..self.rate]))
+    }
+
+    // The state after the message's whole blocks and its padded last block.
+    fn absorb(self, message: &[u8]) -> State
+        ensures { told self.size result ≡ (absorbed self.size self.rate message.now (block_count self.rate message.now)).state }
+    {
+        let s = self.absorb_whole(self.woven([0u8; LARGEST]), message);
+        let at = message.len() / self.rate * self.rate;
+        self.absorb_last(s, &message[at..])
+    }
+
+    // The digest given out of a state: before each output the permutation.
+    fn squeeze(self, s: State) -> [u8; DIGEST]
+        ensures { result ≡ (squeezed self.rate (from (told self.size s)) self.outputs).hash }
+    {
+        let mut hash = [0u8; DIGEST];
+        let mut t = s;
+        for k in 0..self.outputs {
+            let next = self.turned(t);
+            let at = k * self.rate;
+            gage_weave::tell(next, &mut hash[at..at + self.rate]);
+            t = next;
+        }
+        hash
+    }
 }
 
 // What the sponge of an instance works with; nothing for an unknown one.
 pub fn sponge_of(instance: usize) -> Shape
     ensures { result ≡ sponge_of instance }
 {
-    if is_unknown(instance) {
+    let Some(sponge) = Sponge::of(instance) else {
         return Shape {
             size: 0,
             rate: 0,
             outputs: 0,
         };
+    };
+    Shape {
+        size: sponge.size,
+        rate: sponge.rate,
+        outputs: sponge.outputs,
     }
-    shape_of(instance)
 }
 
 // A state after the whole blocks of a part of a message, zero past its size; of an unknown instance it stays.
 pub fn take_in(instance: usize, s: [u8; LARGEST], part: &[u8]) -> [u8; LARGEST]
     ensures { result ≡ taken_in instance s part.now }
 {
-    if is_unknown(instance) {
+    let Some(sponge) = Sponge::of(instance) else {
         return s;
-    }
-    let shape = shape_of(instance);
-    let size = shape.size;
-    let state = absorb_whole(woven(s, size), part, size, shape.rate);
+    };
+    let state = sponge.absorb_whole(sponge.woven(s), part);
+    let size = sponge.size;
     let mut out = [0u8; LARGEST];
     gage_weave::tell(state, &mut out[0..size]);
     out
@@ -180,24 +184,20 @@ pub fn take_in(instance: usize, s: [u8; LARGEST], part: &[u8]) -> [u8; LARGEST]
 pub fn close(instance: usize, s: [u8; LARGEST], rest: &[u8]) -> [u8; DIGEST]
     ensures { result ≡ closed_by instance s rest.now }
 {
-    if is_unknown(instance) {
+    let Some(sponge) = Sponge::of(instance) else {
         return [0u8; DIGEST];
-    }
-    let shape = shape_of(instance);
-    let rate = shape.rate;
-    let state = absorb_last(woven(s, shape.size), rest, shape.size, rate);
-    squeeze(state, shape.size, rate, shape.outputs)
+    };
+    let state = sponge.absorb_last(sponge.woven(s), rest);
+    sponge.squeeze(state)
 }
 
 // The digest of a message; zeros for an unknown instance.
 pub fn hash(instance: usize, message: &[u8]) -> [u8; DIGEST]
     ensures { result ≡ hash_of instance message.now }
 {
-    if is_unknown(instance) {
+    let Some(sponge) = Sponge::of(instance) else {
         return [0u8; DIGEST];
-    }
-    let shape = shape_of(instance);
-    let rate = shape.rate;
-    let s = absorb(message, shape.size, rate);
-    squeeze(s, shape.size, rate, shape.outputs)
+    };
+    let s = sponge.absorb(message);
+    sponge.squeeze(s)
 }

@@ -1,4 +1,5 @@
 -- A body judged field by field, as `judge_body` goes from place to place. Assumes nothing.
+use Rattle.std.specs.Prelude.{Some, None}
 use mathlib.Core.Path.{◌≡◌, refl, sym, ap, ◌∙◌}
 use mathlib.Core.Logic.{◌⊎◌, inl, inr, ⊎_elim}
 use mathlib.Core.List.{List, [], ◌∷◌}
@@ -6,7 +7,6 @@ use Prim.Native.Nat.{ℕ, ◌+◌, ◌-◌, ◌≤◌, ◌<◌}
 use native.Mathlib.Omega.{arith}
 use lib.ListN.{length, drop, length-drop, drop_of_length-le}
 use lib.Seq.{drop-cons, drop-drop}
-use Rattle.frame_body.specs.declared.BodyJudged.TheVariants.{Fields, Shape}
 use Rattle.base_fields.specs.Fields.{head_length, Front, value, no_field, front}
 use Rattle.base_fields.specs.Laws.{front-stands}
 use Rattle.frame_body.specs.declared.Edition.{Edition}
@@ -79,7 +79,7 @@ told-by-edition e nonce job digest s = by-cipher (front takes cipher_tag s)
 
 -- the line ciphertext and the seal one behind the other from the place p: where one is missing, the bytes are no body
 module _ (own : Own) (digest b : List ℕ) (p : ℕ) where
-  no-cipher : front takes cipher_tag (drop p b) ≡ no_field → Shape ≡ judged (after_job own digest (drop p b))
+  no-cipher : front takes cipher_tag (drop p b) ≡ no_field → None ≡ judged (after_job own digest (drop p b))
   unfolding after_job
   no-cipher e = rw e
 
@@ -88,7 +88,7 @@ module _ (own : Own) (digest b : List ℕ) (p : ℕ) where
     unfolding after_job
     past-cipher = ap (λ (f : Front). next f (after_cipher own digest)) s₁.is
 
-    no-seal : front takes seal_tag (drop p₁ b) ≡ no_field → Shape ≡ judged (after_job own digest (drop p b))
+    no-seal : front takes seal_tag (drop p₁ b) ≡ no_field → None ≡ judged (after_job own digest (drop p b))
     unfolding after_cipher
     no-seal e = rw (past-cipher, e)
 
@@ -97,11 +97,11 @@ module _ (own : Own) (digest b : List ℕ) (p : ℕ) where
       unfolding after_cipher
       past-seal = past-cipher ∙ ap (λ (f : Front). next f (after_seal own digest s₁.v)) s₂.is
 
-      more-behind : (p₂ ≡ length b → ⊥) → Shape ≡ judged (after_job own digest (drop p b))
+      more-behind : (p₂ ≡ length b → ⊥) → None ≡ judged (after_job own digest (drop p b))
       unfolding after_seal
       more-behind h = rw (past-seal, drop-cons b p₂ 0 (omega (arith, s₂.inside, h)))
 
-      all-behind : p₂ ≡ length b → Fields own.edition (p₁ - p - head_length) ≡ judged (after_job own digest (drop p b))
+      all-behind : p₂ ≡ length b → Some (own.edition, p₁ - p - head_length) ≡ judged (after_job own digest (drop p b))
       unfolding after_seal
       all-behind h =
           let n : p₁ - p - head_length ≡ length s₁.v = omega (arith, s₁.place) in
@@ -109,7 +109,7 @@ module _ (own : Own) (digest b : List ℕ) (p : ℕ) where
 
 -- two places told one behind the other: the last is the end of the bytes exactly for the rest of a body
 module _ (own : Own) (digest : List ℕ) {b : List ℕ} {p p₁ p₂ : ℕ} (f₁ : Found b cipher_tag p p₁) (f₂ : Found b seal_tag p₁ p₂) where
-  pub no-rest : (p₂ ≡ length b → ⊥) → Shape ≡ judged (after_job own digest (drop p b))
+  pub no-rest : (p₂ ≡ length b → ⊥) → None ≡ judged (after_job own digest (drop p b))
   no-rest h =
       ⊎_elim (no-cipher own digest b p) (λ s₁. ⊎_elim (no-seal own digest b p s₁) (λ s₂. more-behind own digest b p s₁ s₂ h) (look f₂)) (look f₁)
 
@@ -120,15 +120,11 @@ module _ (own : Own) (digest : List ℕ) {b : List ℕ} {p p₁ p₂ : ℕ} (f�
     s₁ : Step cipher_tag b p p₁
     s₁ = within f₁ (omega (arith, s₂.place))
 
-    -- where the line ciphertext's field ends
-    pub cipher-ends : p + head_length ≤ p₁
-    cipher-ends = omega (arith, s₁.place)
-
-    pub all_rest : Fields own.edition (p₁ - p - head_length) ≡ judged (after_job own digest (drop p b))
+    pub all_rest : Some (own.edition, p₁ - p - head_length) ≡ judged (after_job own digest (drop p b))
     all_rest = all-behind own digest b p s₁ s₂ h
 
 -- past the end of the bytes nothing is found
-nothing-behind : (own : Own) (digest b : List ℕ) (p : ℕ) → length b < p → judged (after_job own digest (drop p b)) ≡ Shape
+nothing-behind : (own : Own) (digest b : List ℕ) (p : ℕ) → length b < p → judged (after_job own digest (drop p b)) ≡ None
 unfolding after_job front
 nothing-behind own digest b p h = rw (drop_of_length-le b {i = p} (omega arith))
 
@@ -161,11 +157,11 @@ module _ {b : List ℕ} {p₁ p₂ p₃ : ℕ} (f₁ : Found b nonce_tag 0 p₁)
       with-job s₁ s₂ s₃
 
   -- none: edition one, if the digest is there
-  no-nonce : front takes nonce_tag b ≡ no_field → length b < p₁ → Shape ≡ judged (fields_of b)
+  no-nonce : front takes nonce_tag b ≡ no_field → length b < p₁ → None ≡ judged (fields_of b)
   unfolding fields_of
   no-nonce e h = rw e
 
-  no-digest : Step nonce_tag b 0 p₁ → front takes digest_tag (drop p₁ b) ≡ no_field → Shape ≡ judged (fields_of b)
+  no-digest : Step nonce_tag b 0 p₁ → front takes digest_tag (drop p₁ b) ≡ no_field → None ≡ judged (fields_of b)
   unfolding fields_of after_nonce
   no-digest s₁ e = rw (s₁.is, e)
 

@@ -5,11 +5,10 @@ use mathlib.Core.List.{List, [], ◌++◌, append_assoc, append-nil}
 use Rattle.std.proofs.Common.{arith, length-append, take_at, drop_at}
 use Rattle.std.proofs.Math.Seq.{drop-append-add}
 use Rattle.base_fields.specs.Laws.{length-field}
-use Rattle.frame_body.specs.declared.Edition.{Edition}
 use Rattle.frame_body.specs.declared.Edition.TheVariants.{Two}
 use Rattle.frame_body.specs.Fields.{nonce_tag, digest_tag, cipher_tag, seal_tag, job_tag, nonce_length, digest_length, seal_length}
 use Rattle.frame_body.specs.Fields.{job_length, head_length, field, Own, own_of, job_field, body, associated}
-use Rattle.frame_body.specs.Lengths.{Sized, job_field_length, associated_length}
+use Rattle.frame_body.specs.Lengths.{Sized, associated_length}
 use Rattle.frame_body.proofs.Lengths.{length-associated}
 use Rattle.frame_body.specs.Places.{nonce_at, associated_at, digest_at, job_at, cipher_at, seal_at}
 

@@ -1,11 +1,12 @@
 -- The promises of `rule_takes`, `job_size`, `job_field_length` and `judge_body`, as the check reads them (`Post`), admit a single answer. Assumes nothing.
+use Rattle.std.specs.Prelude.{Option}
 use mathlib.Core.Path.{◌≡◌, sym, ◌∙◌}
 use mathlib.Core.Bool.{Bool}
 use Prim.Native.Nat.{ℕ}
 use contract.Lifetimes.{Lfts}
 use denote.Triple.Clauses.{AtExit}
 use borrow.Fn.Kinds.{Dens, ended_of}
-use Rattle.frame_body.specs.declared.BodyJudged.{BodyJudged}
+use Rattle.frame_body.specs.declared.Edition.{Edition}
 use Rattle.frame_body.proofs.rule_takes.Kinds as rule-kinds
 use Rattle.frame_body.proofs.rule_takes.Reads as rule-reads
 use Rattle.frame_body.proofs.job_size.Kinds as size-kinds
@@ -27,6 +28,6 @@ pub job-field-length-single : (κs : Lfts 0) (a : Dens κs length-kinds.ps) (r r
     → length-reads.Post κs a r x → length-reads.Post κs a r' x' → r ≡ r'
 job-field-length-single κs a r r' x x' p q = p ∙ sym q
 
-pub judge-body-single : (κs : Lfts 1) (a : Dens κs judge-kinds.ps) (r r' : BodyJudged) (x x' : AtExit (ended_of 1 judge-kinds.ps judge-kinds.r) κs)
+pub judge-body-single : (κs : Lfts 1) (a : Dens κs judge-kinds.ps) (r r' : Option (Edition × ℕ)) (x x' : AtExit (ended_of 1 judge-kinds.ps judge-kinds.r) κs)
     → judge-reads.Post κs a r x → judge-reads.Post κs a r' x' → r ≡ r'
 judge-body-single κs a r r' x x' p q = p ∙ sym q

@@ -1,7 +1,5 @@
 -- What `field_at` tells and `judge_body` answers. Assumes nothing: these are definitions.
-use Rattle.std.specs.Prelude.{List, ℕ, ◌+◌, ◌*◌, ◌≤◌, ◌<◌, ◌≡◌, length, drop}
-use Rattle.frame_body.specs.declared.BodyJudged.{BodyJudged}
-use Rattle.frame_body.specs.declared.BodyJudged.TheVariants as judged-is
+use Rattle.std.specs.Prelude.{List, ℕ, ◌+◌, ◌*◌, ◌≤◌, ◌<◌, ◌≡◌, length, drop, Some, None, Option}
 use Rattle.base_fields.specs.Fields.{Front, value, no_field, front, head_length, high_byte}
 use Rattle.frame_body.specs.declared.Edition.{Edition}
 use Rattle.frame_body.specs.declared.Edition.TheVariants.{One, Two}
@@ -18,14 +16,14 @@ pub record Found (b : List ℕ) (tag at r : ℕ) : Type 0 where
   pub near : r ≤ length b + high_byte * high_byte
 
 -- what bytes are as a body, told: the edition and the length of the line ciphertext fix every place
-abbrev pub judged : Fields → BodyJudged
-judged (fields own digest cipher seal) = judged-is.Fields own.edition (length cipher)
-judged no_body = judged-is.Shape
+abbrev pub judged : Fields → Option (Edition × ℕ)
+judged (fields own digest cipher seal) = Some (own.edition, length cipher)
+judged no_body = None
 
 -- document 01's number of each answer ('Numbers returned')
-abbrev pub judge_number : BodyJudged → ℕ
-judge_number (judged-is.Fields e n) = 0
-judge_number judged-is.Shape = 7
+abbrev pub judge_number : Option (Edition × ℕ) → ℕ
+judge_number (Some (e, n)) = 0
+judge_number None = 7
 
 -- an edition's number, as a reading carries it (order W6)
 abbrev pub edition_number : Edition → ℕ

@@ -1,14 +1,9 @@
 -- The job as a number, high byte first as lengths are (order W6): one to one with field 05's four bytes. And a job that is found has its
 -- edition's length, whatever the bytes. Assumes nothing.
-use Rattle.std.specs.Prelude.{◌≡◌, refl, ℕ, ◌+◌, ◌*◌, ◌/◌, ◌%◌, ◌<◌, length}
+use Rattle.std.specs.Prelude.{◌≡◌, ℕ, ◌+◌, ◌*◌, ◌/◌, ◌%◌, length}
 use mathlib.Core.List.{List, [], ◌∷◌}
-use Rattle.std.proofs.Common.{arith}
-use Rattle.base_lists.specs.Below.{Below}
-use Rattle.base_fields.specs.Fields.{Front, value, no_field, front}
-use Rattle.base_fields.specs.Laws.{front-taken}
-use Rattle.frame_body.specs.declared.Edition.TheVariants.{One, Two}
-use Rattle.frame_body.specs.Fields.{high_byte, nonce_tag, digest_tag, cipher_tag, seal_tag, job_tag, job_length, job_size, Own, own_of, takes}
-use Rattle.frame_body.specs.Fields.{Fields, fields, no_body, next, by_job, after_nonce, after_digest, after_job, after_cipher, after_seal, fields_of}
+use Rattle.frame_body.specs.Fields.{high_byte, job_size}
+use Rattle.frame_body.specs.Fields.{Fields, fields, no_body}
 
 -- bytes as a number behind what stood before them
 abbrev pub high_first : ℕ → List ℕ → ℕ

@@ -1,13 +1,10 @@
 -- How long bodies are (document 01, 'A frame and a stream', and order W6), and what the tags' rules take. Assumes nothing.
-use Rattle.std.specs.Prelude.{◌≡◌, refl, Bool, true, false, cond, List, ℕ, ◌+◌, ◌≤◌, leb, length}
-use Rattle.std.proofs.Common.{arith, length-append, eq-eqb, le-leb, eqb-true, leb-true}
-use Rattle.base_lists.specs.Never.{never}
+use Rattle.std.specs.Prelude.{◌≡◌, List, ℕ, ◌+◌, ◌≤◌, length}
 use Rattle.line_spec.specs.Lines.{longest}
-use Rattle.base_fields.specs.Laws.{length-field}
 use Rattle.frame_body.specs.declared.Edition.{Edition}
 use Rattle.frame_body.specs.declared.Edition.TheVariants.{One, Two}
-use Rattle.frame_body.specs.Fields.{nonce_tag, digest_tag, cipher_tag, seal_tag, job_tag, nonce_length, digest_length, shortest, seal_length}
-use Rattle.frame_body.specs.Fields.{job_length, job_size, Own, job_field, body, associated, takes}
+use Rattle.frame_body.specs.Fields.{nonce_length, digest_length, shortest, seal_length}
+use Rattle.frame_body.specs.Fields.{job_size, Own}
 
 -- how long field 05 is (order W6), which edition one has not: what is longer in edition two is longer by so much
 abbrev pub job_field_length : Edition → ℕ

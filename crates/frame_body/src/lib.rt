@@ -66,26 +66,15 @@ pub enum Edition {
     Two,
 }
 
-// What some bytes are as a body.
-#[derive(Clone, Copy)]
-pub enum BodyJudged {
-    // The fields of this edition; so long is the line ciphertext. Together they give all places.
-    Fields(Edition, usize),
-    // Fields not as they must be.
-    Shape,
-}
-
 // The decision over the tag byte, which picks the rule of the field: may its value have n bytes?
+#[tactic(auto, unfolding(crate::specs::Fields::takes))]
 pub fn rule_takes(tag: u8, n: usize) -> bool
     ensures { result ≡ takes tag n }
 {
     match tag {
         NONCE_TAG => n == NONCE_LENGTH,
         DIGEST_TAG => n == DIGEST_LENGTH,
-        CIPHER_TAG => match n {
-            SHORTEST_LINE..=LONGEST_LINE => true,
-            _ => false,
-        },
+        CIPHER_TAG => matches!(n, SHORTEST_LINE..=LONGEST_LINE),
         SEAL_TAG => n == SEAL_LENGTH,
         JOB_TAG => n == JOB_LENGTH,
         _ => false,
@@ -118,7 +107,7 @@ fn field_at(b: &[u8], at: usize, tag: u8) -> usize
     ensures { Found b.now tag at result }
 {
     if at + HEAD_LENGTH <= b.len() && b[at] == tag {
-        let n = b[at + 1] as usize * HIGH_BYTE + b[at + 2] as usize;
+        let n = usize::from(u16::from_be_bytes([b[at + 1], b[at + 2]]));
         if rule_takes(b[at], n) {
             return at + HEAD_LENGTH + n;
         }
@@ -127,21 +116,23 @@ fn field_at(b: &[u8], at: usize, tag: u8) -> usize
 }
 
 // Judges the bytes from a place on as the line ciphertext's field and the seal's, with nothing behind, of a body of this edition.
-fn judge_rest(b: &[u8], at: usize, edition: Edition) -> BodyJudged
+fn judge_rest(b: &[u8], at: usize, edition: Edition) -> Option<(Edition, usize)>
     requires { at ≤ length b.now + high_byte * high_byte }
     ensures { result ≡ judged (after_job (own_of edition [] []) [] (drop at b.now)) }
 {
     let seal = field_at(b, at, CIPHER_TAG);
     let end = field_at(b, seal, SEAL_TAG);
-    if end != b.len() {
-        return BodyJudged::Shape;
+    if end == b.len() {
+        Some((edition, seal - at - HEAD_LENGTH))
+    } else {
+        None
     }
-    BodyJudged::Fields(edition, seal - at - HEAD_LENGTH)
 }
 
-// Judges bytes as a body: the fields in their order and once each, and nothing behind. Past the end of b no field stands, so where one is
+// Judges bytes as a body: the fields in their order and once each, and nothing behind. Where they stand, the edition and the length of the line
+// ciphertext, which together give all places. Past the end of b no field stands, so where one is
 // missing none is found behind it either; a job that is found makes edition two.
-pub fn judge_body(b: &[u8]) -> BodyJudged
+pub fn judge_body(b: &[u8]) -> Option<(Edition, usize)>
     ensures { result ≡ judged (fields_of b.now) }
 {
     let digest = field_at(b, 0, NONCE_TAG);

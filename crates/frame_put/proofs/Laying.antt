@@ -1,4 +1,5 @@
 -- Room for the fields of a body one behind the other, and what is laid whole, as `put_body` goes. Assumes nothing.
+use Rattle.std.specs.Prelude.{Ok}
 use mathlib.Core.Path.{◌≡◌, sym, ap, ◌∙◌}
 use mathlib.Core.Bool.{true}
 use mathlib.Core.List.{List, [], ◌++◌, append-nil}
@@ -18,7 +19,6 @@ use Rattle.frame_body.proofs.Lengths.{length-associated}
 use Rattle.frame_put.specs.Fitting.{fitting-sized}
 use Rattle.frame_put.specs.Answers.{fitting, put_answer, put_out, associated_answer, associated_out}
 use Rattle.frame_put.specs.Outcomes.{put-done, associated-done}
-use Rattle.frame_put.specs.declared.Put.TheVariants.{Done}
 
 -- field 02, and in edition two field 05 behind it, written at a place with room
 module _ (o : List ℕ) (at : ℕ) (e : Edition) (digest job : List ℕ) (d : length digest ≡ digest_length) (j : length job ≡ job_size e)
@@ -112,16 +112,16 @@ ready own digest cipher seal o e h = record { sized = fitting-sized own digest c
 -- what is laid whole is what the answers speak of
 pub put_whole : {own : Own} {digest cipher seal o out : List ℕ} {k : ℕ} → Sized own digest cipher seal
     → Laid o out (field nonce_tag own.nonce ++ associated own.edition digest own.job ++ field cipher_tag cipher ++ field seal_tag seal) k
-    → (Done k ≡ put_answer own digest cipher seal o) × (out ≡ put_out own digest cipher seal o)
+    → (Ok k ≡ put_answer own digest cipher seal o) × (out ≡ put_out own digest cipher seal o)
 unfolding body
 put_whole {own} {digest} {cipher} {seal} {o} z l =
-    let told = put-done own digest cipher seal o z l.fits in (ap Done l.end ∙ sym told.0, l.held ∙ sym told.1)
+    let told = put-done own digest cipher seal o z l.fits in (ap Ok l.end ∙ sym told.0, l.held ∙ sym told.1)
 
 module _ (e : Edition) (digest job o : List ℕ) (d : length digest ≡ digest_length) (j : length job ≡ job_size e) where
   pub associated-whole : {out : List ℕ} {k : ℕ} → Laid o out (associated e digest job) k
-      → (Done k ≡ associated_answer e digest job o) × (out ≡ associated_out e digest job o)
+      → (Ok k ≡ associated_answer e digest job o) × (out ≡ associated_out e digest job o)
   associated-whole l =
-      let told = associated-done e digest job o d j l.fits in (ap Done l.end ∙ sym told.0, l.held ∙ sym told.1)
+      let told = associated-done e digest job o d j l.fits in (ap Ok l.end ∙ sym told.0, l.held ∙ sym told.1)
 
   -- room for it from the start
   pub room-alone : associated_length e ≤ length o → Space [] (associated e digest job) o

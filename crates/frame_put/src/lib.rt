@@ -13,11 +13,9 @@ use frame_body::{
     SEAL_TAG, job_field_length, rule_takes,
 };
 
-// What writing a body comes to.
+// Why a body is not written.
 #[derive(Clone, Copy)]
-pub enum Put {
-    // The number of bytes written.
-    Done(usize),
+pub enum PutRefusal {
     // A value with a length that its tag's rule doesn't take, or a job in edition one.
     Shape,
     // A buffer shorter than the body.
@@ -25,19 +23,19 @@ pub enum Put {
 }
 
 // Whether digest and job have lengths that their tags' rules take; edition one has no job.
+#[tactic(auto, unfolding(crate::specs::Answers::fitting_associated))]
 fn fit_associated(edition: Edition, digest: &[u8], job: &[u8]) -> bool
     ensures { result ≡ fitting_associated edition digest.now job.now }
 {
-    if !rule_takes(DIGEST_TAG, digest.len()) {
-        return false;
-    }
-    match edition {
-        Edition::One => job.len() == 0,
-        Edition::Two => rule_takes(JOB_TAG, job.len()),
-    }
+    rule_takes(DIGEST_TAG, digest.len())
+        && match edition {
+            Edition::One => job.is_empty(),
+            Edition::Two => rule_takes(JOB_TAG, job.len()),
+        }
 }
 
 // Whether each value has a length that its tag's rule takes.
+#[tactic(auto, unfolding(crate::specs::Answers::fitting))]
 fn fit(
     edition: Edition,
     nonce: &[u8],
@@ -48,16 +46,10 @@ fn fit(
 ) -> bool
     ensures { result ≡ fitting (own_of edition nonce.now job.now) digest.now cipher.now seal.now }
 {
-    if !rule_takes(NONCE_TAG, nonce.len()) {
-        return false;
-    }
-    if !fit_associated(edition, digest, job) {
-        return false;
-    }
-    if !rule_takes(CIPHER_TAG, cipher.len()) {
-        return false;
-    }
-    rule_takes(SEAL_TAG, seal.len())
+    rule_takes(NONCE_TAG, nonce.len())
+        && fit_associated(edition, digest, job)
+        && rule_takes(CIPHER_TAG, cipher.len())
+        && rule_takes(SEAL_TAG, seal.len())
 }
 
 // Writes field 02, and in edition two field 05 behind it, at a place of out that has room, and gives the place behind.
@@ -83,36 +75,41 @@ pub fn put_body(
     cipher: &[u8],
     seal: &[u8],
     out: &mut [u8],
-) -> Put
+) -> Result<usize, PutRefusal>
     ensures value { result ≡ put_answer (own_of edition nonce.now job.now) digest.now cipher.now seal.now
         out.old }
     ensures out_after { out.new ≡ put_out (own_of edition nonce.now job.now) digest.now cipher.now
         seal.now out.old }
 {
     if !fit(edition, nonce, digest, job, cipher, seal) {
-        return Put::Shape;
+        return Err(PutRefusal::Shape);
     }
     if out.len() < BESIDE_CIPHER + job_field_length(edition) + cipher.len() {
-        return Put::NoRoom;
+        return Err(PutRefusal::NoRoom);
     }
     let digest_at = put_field(out, 0, NONCE_TAG, nonce);
     let cipher_at = lay_associated(out, digest_at, edition, digest, job);
     let seal_at = put_field(out, cipher_at, CIPHER_TAG, cipher);
     let end = put_field(out, seal_at, SEAL_TAG, seal);
-    Put::Done(end)
+    Ok(end)
 }
 
 // Writes the associated data, field 02 whole and in edition two field 05 whole behind it, to the start of out; the rest of out stays. A
 // refusal leaves out as it was.
-pub fn put_associated(edition: Edition, digest: &[u8], job: &[u8], out: &mut [u8]) -> Put
+pub fn put_associated(
+    edition: Edition,
+    digest: &[u8],
+    job: &[u8],
+    out: &mut [u8],
+) -> Result<usize, PutRefusal>
     ensures value { result ≡ associated_answer edition digest.now job.now out.old }
     ensures out_after { out.new ≡ associated_out edition digest.now job.now out.old }
 {
     if !fit_associated(edition, digest, job) {
-        return Put::Shape;
+        return Err(PutRefusal::Shape);
     }
     if out.len() < ASSOCIATED_LENGTH + job_field_length(edition) {
-        return Put::NoRoom;
+        return Err(PutRefusal::NoRoom);
     }
-    Put::Done(lay_associated(out, 0, edition, digest, job))
+    Ok(lay_associated(out, 0, edition, digest, job))
 }

@@ -1,5 +1,4 @@
 pub mod Places
 pub mod Unstuffing
 pub mod Written
-pub mod Answered
 pub mod Single

@@ -2,7 +2,7 @@
 use mathlib.Core.Path.{◌≡◌, refl, sym, ap, ◌∙◌}
 use mathlib.Core.List.{List, [], ◌∷◌}
 use mathlib.Core.Bool.{Bool, true, false, cond}
-use Prim.Native.Nat.{ℕ, suc, ◌+◌, ◌^◌, ◌≤◌, ◌<◌}
+use Prim.Native.Nat.{ℕ, suc, ◌+◌, ◌≤◌, ◌<◌}
 use native.Mathlib.Omega.{arith}
 use native.Mathlib.Numerals.{add-one}
 use lib.ListN.{length, get_or, take, drop, set, length-drop, length-take, drop_of_length-le}
@@ -10,7 +10,7 @@ use lib.Seq.{take-suc, take_all, drop-cons, length-take-le}
 use borrow.Author.Tests.{eq-eqb, ne_eqb}
 use Rattle.base_lists.specs.Buffers.{over}
 use Rattle.base_lists.specs.Over.{over-more, over-length}
-use Rattle.base_lists.specs.Walk.{at, next}
+use Rattle.base_lists.specs.Walk.{at}
 use Rattle.frame_stuff_spec.specs.Stuffing.{escape, meant, unstuffed, unescaped}
 
 -- what is left of the body, outside an escape or inside one
@@ -45,9 +45,6 @@ module _ (s o : List ℕ) (room : length (unstuffed s) ≤ length o) where
   pub unwound-length : {out : List ℕ} {i k : ℕ} {e : Bool} → Unwound s o out i k e → length out ≡ length o
   unwound-length {k = k} h = ap length h.put ∙ over-length (take k (unstuffed s)) o (omega (arith, length-take k (unstuffed s)))
 
-  pub unwound-none : Unwound s o o 0 0 false
-  unwound-none = record { in-stretch = omega arith; in_body = omega arith; rest = refl; put = refl }
-
   -- a byte x of the body more
   pub unwound-more : (out : List ℕ) (i k x : ℕ) (e : Bool) → Unwound s o out i k e → i < length s
       → left e (drop i s) ≡ x ∷ unstuffed (drop (i + 1) s) → Unwound s o (set out k x) (i + 1) (k + 1) false
@@ -67,10 +64,6 @@ module _ (s o : List ℕ) (room : length (unstuffed s) ≤ length o) where
   pub fits : (out : List ℕ) (i k x : ℕ) (e : Bool) → Unwound s o out i k e
       → left e (drop i s) ≡ x ∷ unstuffed (drop (i + 1) s) → k < length out
   fits out i k x e h f = omega (arith, (heads (unstuffed s) k x (unstuffed (drop (i + 1) s)) (h.rest ∙ f)).below, unwound-length h)
-
-  pub fits-counted : (out : List ℕ) (i k x : ℕ) (e : Bool) → Unwound s o out i k e
-      → left e (drop i s) ≡ x ∷ unstuffed (drop (i + 1) s) → length o < 2 ^ 64 → k + 1 < 2 ^ 64
-  fits-counted out i k x e h f g = next (fits out i k x e h f) (rw (unwound-length h) g)
 
   -- an escape opens
   pub unwound-open : (out : List ℕ) (i k : ℕ) (e : Bool) → Unwound s o out i k e → i < length s

@@ -9,7 +9,7 @@ ghost use Rattle.frame_stuff_spec.specs.Stuffing.{stuff_byte, meant, unstuffed};
 ghost use Rattle.frame_stuff_spec.specs.Answers.{unstuff_answer, unstuff_out, stuff_answer, stuff_out};
 
 use frame_stuff_spec::{
-    ESCAPE, ESCAPED_ESCAPE, ESCAPED_MARK, MARK, Stuffed, Unstuffed, unstuffed_length,
+    ESCAPE, ESCAPED_ESCAPE, ESCAPED_MARK, MARK, StuffRefusal, UnstuffFault, unstuffed_length,
 };
 
 // The byte that an escaped one stands for.
@@ -24,41 +24,37 @@ fn write_body(s: &[u8], out: &mut [u8])
     requires { length (unstuffed s.now) ≤ length out.old }
     ensures { out.new ≡ over (unstuffed s.now) out.old }
 {
-    let mut i = 0;
     let mut k = 0;
     let mut escaped = false;
-    while i < s.len() {
-        let b = s[i];
+    for b in s {
         if escaped {
-            out[k] = meaning(b);
+            out[k] = meaning(*b);
             k += 1;
-            i += 1;
             escaped = false;
-        } else if b == ESCAPE {
-            i += 1;
+        } else if *b == ESCAPE {
             escaped = true;
         } else {
-            out[k] = b;
+            out[k] = *b;
             k += 1;
-            i += 1;
         }
     }
 }
 
 // Unstuffs the stretch s to the start of out; the rest of out stays. A refusal leaves out as it was.
-pub fn unstuff(s: &[u8], out: &mut [u8]) -> Unstuffed
+#[tactic(auto, unfolding(frame_stuff_spec::specs::Answers::unstuff_answer, frame_stuff_spec::specs::Answers::unstuff_out))]
+pub fn unstuff(s: &[u8], out: &mut [u8]) -> Result<usize, UnstuffFault>
     ensures value { result ≡ unstuff_answer s.now out.old }
     ensures out_after { out.new ≡ unstuff_out s.now out.old }
 {
     let answer = unstuffed_length(s);
-    let Unstuffed::Length(n) = answer else {
+    let Ok(n) = answer else {
         return answer;
     };
     if n > out.len() {
-        return Unstuffed::NoRoom;
+        return Err(UnstuffFault::NoRoom);
     }
     write_body(s, out);
-    Unstuffed::Length(n)
+    Ok(n)
 }
 
 // Writes the byte b, stuffed, at place k of out, and gives the place behind it.
@@ -67,33 +63,30 @@ fn write_byte(out: &mut [u8], k: usize, b: u8) -> usize
     ensures value { result ≡ k + length (stuff_byte b) }
     ensures out_after { out.new ≡ sets out.old k (stuff_byte b) }
 {
-    if b == MARK {
-        out[k] = ESCAPE;
-        out[k + 1] = ESCAPED_MARK;
-        return k + 2;
-    }
-    if b == ESCAPE {
-        out[k] = ESCAPE;
-        out[k + 1] = ESCAPED_ESCAPE;
-        return k + 2;
-    }
-    out[k] = b;
-    k + 1
+    let stands = match b {
+        MARK => ESCAPED_MARK,
+        ESCAPE => ESCAPED_ESCAPE,
+        _ => {
+            out[k] = b;
+            return k + 1;
+        }
+    };
+    out[k] = ESCAPE;
+    out[k + 1] = stands;
+    k + 2
 }
 
 // Stuffs the body to the start of out; the rest of out stays. A refusal leaves out as it was.
-pub fn stuff(body: &[u8], out: &mut [u8]) -> Stuffed
+pub fn stuff(body: &[u8], out: &mut [u8]) -> Result<usize, StuffRefusal>
     ensures value { result ≡ stuff_answer body.now out.old }
     ensures out_after { out.new ≡ stuff_out body.now out.old }
 {
     if out.len() / 2 < body.len() {
-        return Stuffed::NoRoom;
+        return Err(StuffRefusal::NoRoom);
     }
-    let mut i = 0;
     let mut k = 0;
-    while i < body.len() {
-        k = write_byte(out, k, body[i]);
-        i += 1;
+    for b in body {
+        k = write_byte(out, k, *b);
     }
-    Stuffed::Done(k)
+    Ok(k)
 }

@@ -1,10 +1,8 @@
 -- What the two rules count: the body's length exactly on well-stuffed stretches, and bad stuffing exactly on all others.
 -- The well-stuffed stretches are those that stuffing makes. Assumes nothing.
-use Rattle.std.specs.Prelude.{◌≡◌, refl, ◌⊎◌, List, [], ◌∷◌, ◌++◌, Bool, true, false, cond, ℕ, eqb, length}
+use Rattle.std.specs.Prelude.{◌≡◌, refl, ◌⊎◌, List, [], ◌∷◌, ◌++◌, Bool, true, false, cond, ℕ, eqb, length, Some, None, Option}
 use Rattle.std.proofs.Common.{sym, subst, ap, inl, inr, arith, eqb-true, ne_eqb}
 use Rattle.std.proofs.lemmas.Bool.{eqb-false}
-use Rattle.frame_stuff_spec.specs.declared.Count.{Count}
-use Rattle.frame_stuff_spec.specs.declared.Count.TheVariants.{Of, Bad}
 use Rattle.frame_stuff_spec.specs.Stuffing.{mark, escape, escaped_mark, escaped_escape, stuff_byte, stuffed}
 use Rattle.frame_stuff_spec.specs.Stuffing.{unstuffed, WellStuffed, none, plain, a-mark, an-escape}
 use Rattle.frame_stuff_spec.specs.Rules.{one_more, length_outside, length_inside}
@@ -45,38 +43,38 @@ in-escape (a-mark w) p q = p refl
 in-escape (an-escape w) p q = q refl
 
 -- what a count says of the stretch
-abbrev Tells : Count → List ℕ → Type 0
-Tells (Of n) s = WellStuffed s × (n ≡ length (unstuffed s))
-Tells Bad s = WellStuffed s → ⊥
+abbrev Tells : Option ℕ → List ℕ → Type 0
+Tells (Some n) s = WellStuffed s × (n ≡ length (unstuffed s))
+Tells None s = WellStuffed s → ⊥
 
-plain-tells : (b : ℕ) (s : List ℕ) → (b ≡ mark → ⊥) → (b ≡ escape → ⊥) → (c : Count) → Tells c s → Tells (one_more c) (b ∷ s)
+plain-tells : (b : ℕ) (s : List ℕ) → (b ≡ mark → ⊥) → (b ≡ escape → ⊥) → (c : Option ℕ) → Tells c s → Tells (one_more c) (b ∷ s)
 unfolding unstuffed
-plain-tells b s n e (Of k) t = (plain n e t.0, rw (ne_eqb b escape e) (omega (arith, t.1)))
-plain-tells b s n e Bad t = λ w. t (after-plain w e)
+plain-tells b s n e (Some k) t = (plain n e t.0, rw (ne_eqb b escape e) (omega (arith, t.1)))
+plain-tells b s n e None t = λ w. t (after-plain w e)
 
-mark-tells : (s : List ℕ) (c : Count) → Tells c s → Tells (one_more c) (escape ∷ escaped_mark ∷ s)
+mark-tells : (s : List ℕ) (c : Option ℕ) → Tells c s → Tells (one_more c) (escape ∷ escaped_mark ∷ s)
 unfolding unstuffed
-mark-tells s (Of k) t = (a-mark t.0, omega (arith, t.1))
-mark-tells s Bad t = λ w. t (after-escape w)
+mark-tells s (Some k) t = (a-mark t.0, omega (arith, t.1))
+mark-tells s None t = λ w. t (after-escape w)
 
-escape-tells : (s : List ℕ) (c : Count) → Tells c s → Tells (one_more c) (escape ∷ escaped_escape ∷ s)
+escape-tells : (s : List ℕ) (c : Option ℕ) → Tells c s → Tells (one_more c) (escape ∷ escaped_escape ∷ s)
 unfolding unstuffed
-escape-tells s (Of k) t = (an-escape t.0, omega (arith, t.1))
-escape-tells s Bad t = λ w. t (after-escape w)
+escape-tells s (Some k) t = (an-escape t.0, omega (arith, t.1))
+escape-tells s None t = λ w. t (after-escape w)
 
 empty : 0 ≡ length (unstuffed [])
 unfolding unstuffed
 empty = refl
 
-outside-step : (b : ℕ) (s : List ℕ) (c d : Count) → Tells c (escape ∷ s) → Tells d s
-    → (t : Bool) → eqb b mark ≡ t → (u : Bool) → eqb b escape ≡ u → Tells (cond t Bad (cond u c (one_more d))) (b ∷ s)
+outside-step : (b : ℕ) (s : List ℕ) (c d : Option ℕ) → Tells c (escape ∷ s) → Tells d s
+    → (t : Bool) → eqb b mark ≡ t → (u : Bool) → eqb b escape ≡ u → Tells (cond t None (cond u c (one_more d))) (b ∷ s)
 outside-step b s c d i o true p u q = λ w. no-mark w (eqb-true b mark p)
 outside-step b s c d i o false p true q = subst (λ (x : ℕ). Tells c (x ∷ s)) (sym (eqb-true b escape q)) i
 outside-step b s c d i o false p false q = plain-tells b s (eqb-false b mark p) (eqb-false b escape q) d o
 
-inside-step : (b : ℕ) (s : List ℕ) (d : Count) → Tells d s
+inside-step : (b : ℕ) (s : List ℕ) (d : Option ℕ) → Tells d s
     → (t : Bool) → eqb b escaped_mark ≡ t → (u : Bool) → eqb b escaped_escape ≡ u
-    → Tells (cond (cond t true u) (one_more d) Bad) (escape ∷ b ∷ s)
+    → Tells (cond (cond t true u) (one_more d) None) (escape ∷ b ∷ s)
 inside-step b s d o true p u q =
     subst (λ (x : ℕ). Tells (one_more d) (escape ∷ x ∷ s)) (sym (eqb-true b escaped_mark p)) (mark-tells s d o)
 inside-step b s d o false p true q =
@@ -97,33 +95,33 @@ mutual
       inside-step b s (length_outside s) (outside-tells s) (eqb b escaped_mark) refl (eqb b escaped_escape) refl
 
 -- the rules' count by cases on good stuffing
-counted : (s : List ℕ) (c : Count) → Tells c s → WellStuffed s → c ≡ Of (length (unstuffed s))
-counted s (Of n) t w = ap Of t.1
-counted s Bad t w = absurd (t w)
+counted : (s : List ℕ) (c : Option ℕ) → Tells c s → WellStuffed s → c ≡ Some (length (unstuffed s))
+counted s (Some n) t w = ap Some t.1
+counted s None t w = absurd (t w)
 
-refused : (s : List ℕ) (c : Count) → Tells c s → (WellStuffed s → ⊥) → c ≡ Bad
-refused s (Of n) t w = absurd (w t.0)
-refused s Bad t w = refl
+refused : (s : List ℕ) (c : Option ℕ) → Tells c s → (WellStuffed s → ⊥) → c ≡ None
+refused s (Some n) t w = absurd (w t.0)
+refused s None t w = refl
 
 -- a well-stuffed stretch is counted as long as its body
-pub rules-good : {s : List ℕ} → WellStuffed s → length_outside s ≡ Of (length (unstuffed s))
+pub rules-good : {s : List ℕ} → WellStuffed s → length_outside s ≡ Some (length (unstuffed s))
 rules-good {s} w = counted s (length_outside s) (outside-tells s) w
 
 -- any other is bad stuffing
-pub rules-bad : (s : List ℕ) → (WellStuffed s → ⊥) → length_outside s ≡ Bad
+pub rules-bad : (s : List ℕ) → (WellStuffed s → ⊥) → length_outside s ≡ None
 rules-bad s n = refused s (length_outside s) (outside-tells s) n
 
 -- only a well-stuffed stretch is counted
-pub good-rules : (s : List ℕ) (n : ℕ) → length_outside s ≡ Of n → WellStuffed s × (n ≡ length (unstuffed s))
-good-rules s n e = subst (λ (c : Count). Tells c s) e (outside-tells s)
+pub good-rules : (s : List ℕ) (n : ℕ) → length_outside s ≡ Some n → WellStuffed s × (n ≡ length (unstuffed s))
+good-rules s n e = subst (λ (c : Option ℕ). Tells c s) e (outside-tells s)
 
 -- and no well-stuffed stretch is bad stuffing
-pub bad-rules : (s : List ℕ) → length_outside s ≡ Bad → WellStuffed s → ⊥
-bad-rules s e = subst (λ (c : Count). Tells c s) e (outside-tells s)
+pub bad-rules : (s : List ℕ) → length_outside s ≡ None → WellStuffed s → ⊥
+bad-rules s e = subst (λ (c : Option ℕ). Tells c s) e (outside-tells s)
 
-decided : (s : List ℕ) (c : Count) → Tells c s → WellStuffed s ⊎ (WellStuffed s → ⊥)
-decided s (Of n) t = inl t.0
-decided s Bad t = inr t
+decided : (s : List ℕ) (c : Option ℕ) → Tells c s → WellStuffed s ⊎ (WellStuffed s → ⊥)
+decided s (Some n) t = inl t.0
+decided s None t = inr t
 
 -- every stretch is well stuffed or not
 pub well-or-not : (s : List ℕ) → WellStuffed s ⊎ (WellStuffed s → ⊥)

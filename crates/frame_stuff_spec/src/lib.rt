@@ -22,11 +22,9 @@ pub const ESCAPED_ESCAPE: u8 = 0x5D;
 // The longest stretch that is judged (document 01, number 7: 274; order W6: 288 for every reader).
 pub const LONGEST_STRETCH: usize = 288;
 
-// What a stretch's bytes come to.
+// Why a stretch's bytes come to no body.
 #[derive(Clone, Copy)]
-pub enum Unstuffed {
-    // The length of the body.
-    Length(usize),
+pub enum UnstuffFault {
     // Bad stuffing.
     Bad,
     // A stretch over the longest one.
@@ -35,89 +33,69 @@ pub enum Unstuffed {
     NoRoom,
 }
 
-// What stuffing a body comes to.
+// Why a body is not stuffed.
 #[derive(Clone, Copy)]
-pub enum Stuffed {
-    // The number of bytes written.
-    Done(usize),
+pub enum StuffRefusal {
     // A buffer with fewer than twice the body's bytes.
     NoRoom,
 }
 
-// What the two rules count: so many bytes, or bad stuffing.
-#[derive(Clone, Copy)]
-enum Count {
-    Of(usize),
-    Bad,
-}
-
 // One byte more.
-fn one_more(count: Count) -> Count
+fn one_more(count: Option<usize>) -> Option<usize>
     requires { AtMost longest_stretch count }
     ensures { result ≡ one_more count }
 {
     match count {
-        Count::Of(n) => Count::Of(n + 1),
-        Count::Bad => Count::Bad,
+        Some(n) => Some(n + 1),
+        None => None,
     }
 }
 
 // The rule outside an escape.
 #[cycle(length_inside_length_outside)]
-fn length_outside(s: &[u8]) -> Count
+#[tactic(auto, unfolding(crate::specs::Rules::length_outside))]
+fn length_outside(s: &[u8]) -> Option<usize>
     requires { length s.now ≤ longest_stretch }
     ensures { result ≡ length_outside s.now }
 {
-    if s.len() == 0 {
-        return Count::Of(0);
+    match s {
+        [] => Some(0),
+        [MARK, ..] => None,
+        [ESCAPE, rest @ ..] => length_inside(rest),
+        [_, rest @ ..] => one_more(length_outside(rest)),
     }
-    let b = s[0];
-    if b == MARK {
-        return Count::Bad;
-    }
-    if b == ESCAPE {
-        return length_inside(&s[1..]);
-    }
-    one_more(length_outside(&s[1..]))
 }
 
 // Whether a byte stands for one inside an escape.
 fn stands(b: u8) -> bool
     ensures { result ≡ stands b }
 {
-    if b == ESCAPED_MARK {
-        return true;
-    }
-    if b == ESCAPED_ESCAPE {
-        return true;
-    }
-    false
+    matches!(b, ESCAPED_MARK | ESCAPED_ESCAPE)
 }
 
 // The rule inside an escape: the byte before was the escape byte.
 #[cycle(length_inside_length_outside)]
-fn length_inside(s: &[u8]) -> Count
+#[tactic(auto, unfolding(crate::specs::Rules::length_inside))]
+fn length_inside(s: &[u8]) -> Option<usize>
     requires { length s.now ≤ longest_stretch }
     ensures { result ≡ length_inside s.now }
 {
-    if s.len() == 0 {
-        return Count::Bad;
+    match s {
+        [b, rest @ ..] if stands(*b) => one_more(length_outside(rest)),
+        _ => None,
     }
-    if stands(s[0]) {
-        return one_more(length_outside(&s[1..]));
-    }
-    Count::Bad
 }
 
 // The unstuffed length of the stretch s.
-pub fn unstuffed_length(s: &[u8]) -> Unstuffed
+#[tactic(auto, unfolding(crate::specs::Answers::length_answer))]
+pub fn unstuffed_length(s: &[u8]) -> Result<usize, UnstuffFault>
     ensures { result ≡ length_answer s.now }
 {
     if s.len() > LONGEST_STRETCH {
-        return Unstuffed::TooLong;
+        return Err(UnstuffFault::TooLong);
     }
     match length_outside(s) {
-        Count::Of(n) => Unstuffed::Length(n),
-        Count::Bad => Unstuffed::Bad,
+        Some(n) => Ok(n),
+        None => Err(UnstuffFault::Bad),
     }
 }

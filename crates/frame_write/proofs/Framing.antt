@@ -1,4 +1,5 @@
 -- A frame written from the start of a buffer as `put_frame` goes: a mark, the stuffed body in the part behind it, a mark. Assumes nothing.
+use Rattle.std.specs.Prelude.{Ok, Err, Result}
 use mathlib.Core.Path.{◌≡◌, ap, ◌∙◌}
 use mathlib.Core.List.{List, [], ◌∷◌}
 use Prim.Native.Nat.{ℕ, ◌+◌, ◌-◌, ◌*◌, ◌≤◌}
@@ -8,8 +9,7 @@ use lib.ListN.{length, set, take, drop, length-set, length-take, length-drop}
 use borrow.Rule.Slice.PartMut.{put_mid}
 use Rattle.base_lists.specs.Buffers.{over}
 use Rattle.base_lists.specs.Over.{over-part, over-more, over-length}
-use Rattle.frame_stuff_spec.specs.declared.Stuffed.{Stuffed}
-use Rattle.frame_stuff_spec.specs.declared.Stuffed.TheVariants as stuffed-is
+use Rattle.frame_stuff_spec.specs.declared.StuffRefusal.{StuffRefusal}
 use Rattle.frame_stuff_spec.specs.Stuffing.{mark, stuffed}
 use Rattle.frame_stuff_spec.specs.Lengths.{stuffed-at-most}
 use Rattle.frame_stuff_spec.specs.Answers.{stuff_answer, stuff_out}
@@ -31,7 +31,7 @@ module _ (b o : List ℕ) (room : 2 * length b + 2 ≤ length o) where
   length_part = rw (length-take, length-drop, length-set) (omega arith)
 
   -- there is room to stuff
-  pub stuffs : stuff_answer b part ≡ stuffed-is.Done (length (stuffed b))
+  pub stuffs : stuff_answer b part ≡ Ok (length (stuffed b))
   stuffs = (stuff-done b part (omega (arith, length_part))).0
 
   module _ (w : List ℕ) (e : w ≡ stuff_out b part) where
@@ -56,5 +56,5 @@ module _ (b o : List ℕ) (room : 2 * length b + 2 ≤ length o) where
     closed n i = rw (filled_is, i, add-one) (over-more (mark ∷ stuffed b) (mark ∷ []) o (omega (arith, stuffed-at-most b)))
 
 -- so no refusal comes back
-pub never-refused : {r : Stuffed} {n : ℕ} → r ≡ stuffed-is.Done n → r ≡ stuffed-is.NoRoom → ⊥
+pub never-refused : {r : Result ℕ StuffRefusal} {n : ℕ} {f : StuffRefusal} → r ≡ Ok n → r ≡ Err f → ⊥
 never-refused p q = let z : ◌≡◌ {A = ℕ} 0 1 = cc (p, q) in omega arith

@@ -1,12 +1,12 @@
 -- The steps of `sealed_body` on plain lists: the associated data, the sealed line and the body, each in its scratch. Assumes nothing.
+use Rattle.std.specs.Prelude.{Ok}
 use mathlib.Core.Path.{◌≡◌, ap, ◌∙◌}
 use mathlib.Core.List.{List}
-use Prim.Native.Nat.{ℕ, ◌-◌, ◌≤◌}
+use Prim.Native.Nat.{ℕ, ◌≤◌}
 use native.Mathlib.Omega.{arith}
 use lib.ListN.{length, take, drop}
 use Rattle.base_lists.specs.Buffers.{over}
 use Rattle.base_lists.specs.Over.{take-over}
-use Rattle.ingage_answers.specs.declared.Sealed.TheVariants as sealed-is
 use Rattle.ingage_spec.specs.Instances.{named, FIRST, first}
 use Rattle.ingage_answers.specs.Answers.{SealCall, seal_call, seal_named}
 use Rattle.ingage_answers.specs.Naming.{seal-first}
@@ -30,16 +30,16 @@ module _ {t : Told} {own : Own} {line : List ℕ} (z : Sealable t own line) wher
 
   -- the first bytes of a scratch that has room for the longest are the associated data
   pub associated-put : (o x : List ℕ) → length o ≡ associated_length Two → x ≡ associated_out own.edition t.font own.job o
-      → (n : ℕ) → n ≡ associated_length own.edition → take (n - 0) (drop 0 x) ≡ assoc
+      → (n : ℕ) → n ≡ associated_length own.edition → take n (drop 0 x) ≡ assoc
   associated-put o x e h n k =
       let room : length assoc ≤ length o = omega (arith, length-assoc, job-field-most own.edition) in
       let held : x ≡ over assoc o = h ∙ (associated-done own.edition t.font own.job o z.font-is z.job_is room).1 in
-      rw held (take-over assoc o (n - 0) (omega (arith, length-assoc)))
+      rw held (take-over assoc o n (omega (arith, length-assoc)))
 
   -- seal makes the sealed line
   module _ (A cipher seal : List ℕ) (e : A ≡ assoc) (l : length line ≤ length cipher) (k : length seal ≡ first.seal) where
     sealed-call : seal_call first t.key own.nonce A line cipher seal ≡ record {
-      answer = sealed-is.Done (sealed_line t own line).calls;
+      answer = Ok (sealed_line t own line).calls;
       out = over (sealed_line t own line).text cipher;
       seal = (sealed_line t own line).seal;
     }
@@ -62,12 +62,12 @@ module _ {t : Told} {own : Own} {line : List ℕ} (z : Sealable t own line) wher
     sealed-seal x h = h ∙ ap (λ (w : SealCall). w.seal) (seal-first t.key own.nonce A line cipher seal ∙ sealed-call)
 
   -- the first bytes of the scratch are the ciphertext
-  cipher-taken : (o x : List ℕ) → x ≡ over (sealed_line t own line).text o → take (length line - 0) (drop 0 x) ≡ (sealed_line t own line).text
-  cipher-taken o x e = rw e (take-over (sealed_line t own line).text o (length line - 0) (omega (arith, length-cipher z)))
+  cipher-taken : (o x : List ℕ) → x ≡ over (sealed_line t own line).text o → take (length line) (drop 0 x) ≡ (sealed_line t own line).text
+  cipher-taken o x e = rw e (take-over (sealed_line t own line).text o (length line) (omega (arith, length-cipher z)))
 
   -- and put_body the sealed body
   pub body-put : (c cipher seal o x : List ℕ) → cipher ≡ over (sealed_line t own line).text c → seal ≡ (sealed_line t own line).seal
-      → longest_body Two ≤ length o → x ≡ put_out own t.font (take (length line - 0) (drop 0 cipher)) seal o → x ≡ over (sealed_body t own line) o
+      → longest_body Two ≤ length o → x ≡ put_out own t.font (take (length line) (drop 0 cipher)) seal o → x ≡ over (sealed_body t own line) o
   unfolding sealed_body
   body-put c cipher seal o x e s l h =
       h

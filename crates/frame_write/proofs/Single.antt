@@ -1,4 +1,5 @@
 -- The promises of `sizes_right`, `write_edition`, `write` and `write_two`, as the check reads them (`Post`), admit a single answer. Assumes nothing.
+use Rattle.std.specs.Prelude.{Result}
 use mathlib.Core.Path.{◌≡◌, sym, ◌∙◌}
 use mathlib.Core.Bool.{Bool}
 use Prim.Native.Nat.{ℕ}
@@ -6,6 +7,7 @@ use contract.Lifetimes.{Lfts}
 use denote.Triple.Clauses.{AtExit}
 use borrow.Fn.Kinds.{Dens, ended_of}
 use Rattle.frame_write.specs.declared.Written.{Written}
+use Rattle.frame_write.specs.declared.FrameRefusal.{FrameRefusal}
 use Rattle.frame_write.proofs.sizes_right.Kinds as sizes-kinds
 use Rattle.frame_write.proofs.sizes_right.Reads as sizes-reads
 use Rattle.frame_write.proofs.write_edition.Kinds as edition-kinds
@@ -25,15 +27,15 @@ pub sizes-right-single : (κs : Lfts 4) (a : Dens κs sizes-kinds.ps) (r r' : Bo
     → sizes-reads.Post κs a r x → sizes-reads.Post κs a r' x' → r ≡ r'
 sizes-right-single κs a r r' x x' p q = p ∙ sym q
 
-pub write-edition-single : (κs : Lfts 6) (a : Dens κs edition-kinds.ps) (r r' : Written) (x x' : AtExit (ended_of 6 edition-kinds.ps edition-kinds.r) κs)
+pub write-edition-single : (κs : Lfts 6) (a : Dens κs edition-kinds.ps) (r r' : Result Written FrameRefusal) (x x' : AtExit (ended_of 6 edition-kinds.ps edition-kinds.r) κs)
     → edition-reads.Post κs a r x → edition-reads.Post κs a r' x' → (r ≡ r') × (x.1.1.1.1.1.1.1.0.now ≡ x'.1.1.1.1.1.1.1.0.now)
 write-edition-single κs a r r' x x' p q = (p.0 ∙ sym q.0, p.1 ∙ sym q.1)
 
-pub write-single : (κs : Lfts 5) (a : Dens κs write-kinds.ps) (r r' : Written) (x x' : AtExit (ended_of 5 write-kinds.ps write-kinds.r) κs)
+pub write-single : (κs : Lfts 5) (a : Dens κs write-kinds.ps) (r r' : Result Written FrameRefusal) (x x' : AtExit (ended_of 5 write-kinds.ps write-kinds.r) κs)
     → write-reads.Post κs a r x → write-reads.Post κs a r' x' → (r ≡ r') × (x.1.1.1.1.1.0.now ≡ x'.1.1.1.1.1.0.now)
 write-single κs a r r' x x' p q = (p.0 ∙ sym q.0, p.1 ∙ sym q.1)
 
-pub write-two-single : (κs : Lfts 6) (a : Dens κs two-kinds.ps) (r r' : Written) (x x' : AtExit (ended_of 6 two-kinds.ps two-kinds.r) κs)
+pub write-two-single : (κs : Lfts 6) (a : Dens κs two-kinds.ps) (r r' : Result Written FrameRefusal) (x x' : AtExit (ended_of 6 two-kinds.ps two-kinds.r) κs)
     → two-reads.Post κs a r x → two-reads.Post κs a r' x' → (r ≡ r') × (x.1.1.1.1.1.1.0.now ≡ x'.1.1.1.1.1.1.0.now)
 write-two-single κs a r r' x x' p q = (p.0 ∙ sym q.0, p.1 ∙ sym q.1)
 

@@ -11,18 +11,23 @@ ghost use Rattle.frame_spec.specs.Told.{told};
 ghost use Rattle.line_layout.specs.declared.Layout.TheVariants.{Neither};
 ghost use Rattle.frame_spec.specs.Frames.{sealed_body, framed};
 ghost use Rattle.frame_spec.specs.Lengths.{Sealable};
-ghost use Rattle.frame_write.specs.Answers.{sizes_right, length_right, write_call, write_number, length_of, count_of};
+ghost use Rattle.frame_write.specs.Answers.{sizes_right, length_right, refusal_of, write_call, write_number, length_of, count_of};
 
 use frame_body::{Edition, job_field_length, job_size};
 use frame_spec::{BESIDE_LINE, FRAME_ROOM, INSTANCE, KEY_LENGTH};
-use frame_stuff_spec::{MARK, Stuffed};
-use line_layout::{Layout, LineJudged, judge_line};
+use frame_stuff_spec::MARK;
+use line_layout::{Layout, LineFault, judge_line};
 
-// What writing a frame comes to.
+// What a frame that is written comes to: its length, and the calls of the permutation.
 #[derive(Clone, Copy)]
-pub enum Written {
-    // The frame's length, and the calls of the permutation.
-    Done { length: usize, calls: usize },
+pub struct Written {
+    pub length: usize,
+    pub calls: usize,
+}
+
+// Why none is.
+#[derive(Clone, Copy)]
+pub enum FrameRefusal {
     // Key, nonce, font digest or, in edition two, job not of its size.
     Sizes,
     // A line not of 1 to 65 bytes.
@@ -37,31 +42,39 @@ pub enum Written {
     NoRoom,
 }
 
+// A line that is refused is refused alike here.
+impl From<LineFault> for FrameRefusal {
+    ghost from_gives = { λ fault refusal. refusal ≡ refusal_of fault };
+
+    fn from(fault: LineFault) -> FrameRefusal {
+        match fault {
+            LineFault::Unlisted => FrameRefusal::Unlisted,
+            LineFault::Trade => FrameRefusal::Trade,
+            LineFault::Layout => FrameRefusal::Layout,
+        }
+    }
+}
+
 // Whether key, nonce, font digest and, in edition two, job have their sizes, whatever the layout.
+#[tactic(auto, unfolding(crate::specs::Answers::sizes_right))]
 pub fn sizes_right(edition: Edition, key: &[u8], nonce: &[u8], font: &[u8], job: &[u8]) -> bool
     ensures { result ≡ sizes_right (told key.now font.now Neither) (own_of edition nonce.now job.now) }
 {
-    if key.len() != KEY_LENGTH {
-        return false;
-    }
-    if nonce.len() != frame_body::NONCE_LENGTH {
-        return false;
-    }
-    if job.len() != job_size(edition) {
-        return false;
-    }
-    font.len() == frame_body::DIGEST_LENGTH
+    key.len() == KEY_LENGTH
+        && nonce.len() == frame_body::NONCE_LENGTH
+        && job.len() == job_size(edition)
+        && font.len() == frame_body::DIGEST_LENGTH
 }
 
 // Whether the line has 1 to 65 bytes.
+#[tactic(auto, unfolding(crate::specs::Answers::length_right))]
 fn length_right(line: &[u8]) -> bool
     ensures { result ≡ length_right line.now }
 {
-    let n = line.len();
-    match n {
-        frame_body::SHORTEST_LINE..=frame_body::LONGEST_LINE => true,
-        _ => false,
-    }
+    matches!(
+        line.len(),
+        frame_body::SHORTEST_LINE..=frame_body::LONGEST_LINE
+    )
 }
 
 // The body of the sealed line, from the start of a scratch that has room for the longest.
@@ -80,26 +93,26 @@ fn sealed_body(
         line.now) (replicate (longest_body Two) 0) }
 {
     let mut assoc = [0u8; frame_body::LONGEST_ASSOCIATED];
-    frame_put::put_associated(edition, font, job, &mut assoc);
+    let _ = frame_put::put_associated(edition, font, job, &mut assoc);
     let length = frame_body::ASSOCIATED_LENGTH + job_field_length(edition);
     let mut cipher = [0u8; frame_body::LONGEST_LINE];
     let mut seal = [0u8; frame_body::SEAL_LENGTH];
-    ingage_call::seal(
+    let _ = ingage_call::seal(
         INSTANCE,
         key,
         nonce,
-        &assoc[0..length],
+        &assoc[..length],
         line,
         &mut cipher,
         &mut seal,
     );
     let mut out = [0u8; frame_body::LONGEST_BODY];
-    frame_put::put_body(
+    let _ = frame_put::put_body(
         edition,
         nonce,
         font,
         job,
-        &cipher[0..line.len()],
+        &cipher[..line.len()],
         &seal,
         &mut out,
     );
@@ -113,7 +126,7 @@ fn put_frame(body: &[u8], out: &mut [u8]) -> usize
     ensures out_after { out.new ≡ over (framed body.now) out.old }
 {
     out[0] = MARK;
-    let Stuffed::Done(n) = frame_stuff::stuff(body, &mut out[1..]) else {
+    let Ok(n) = frame_stuff::stuff(body, &mut out[1..]) else {
         // Never: there is room for twice the body.
         return 0;
     };
@@ -132,36 +145,31 @@ pub fn write_edition(
     job: &[u8],
     line: &[u8],
     frame: &mut [u8],
-) -> Written
+) -> Result<Written, FrameRefusal>
     ensures value { result ≡ (write_call (told key.now font.now layout) (own_of edition nonce.now job.now)
         line.now frame.old).answer }
     ensures frame_after { frame.new ≡ (write_call (told key.now font.now layout) (own_of edition nonce.now job.now)
         line.now frame.old).frame }
 {
     if !sizes_right(edition, key, nonce, font, job) {
-        return Written::Sizes;
+        return Err(FrameRefusal::Sizes);
     }
     if !length_right(line) {
-        return Written::TooLong;
+        return Err(FrameRefusal::TooLong);
     }
-    match judge_line(layout, line) {
-        LineJudged::Unlisted => return Written::Unlisted,
-        LineJudged::Trade => return Written::Trade,
-        LineJudged::Layout => return Written::Layout,
-        LineJudged::Accepted => {}
-    }
+    judge_line(layout, line)?;
     let more = job_field_length(edition);
     if frame.len() < FRAME_ROOM + 2 * more {
-        return Written::NoRoom;
+        return Err(FrameRefusal::NoRoom);
     }
     let scratch = sealed_body(edition, key, nonce, font, job, line);
-    Written::Done {
+    Ok(Written {
         length: put_frame(
-            &scratch[0..frame_body::BESIDE_CIPHER + more + line.len()],
+            &scratch[..frame_body::BESIDE_CIPHER + more + line.len()],
             frame,
         ),
         calls: line.len() + BESIDE_LINE + more,
-    }
+    })
 }
 
 // The same in edition one.
@@ -172,14 +180,13 @@ pub fn write(
     layout: Layout,
     line: &[u8],
     frame: &mut [u8],
-) -> Written
+) -> Result<Written, FrameRefusal>
     ensures value { result ≡ (write_call (told key.now font.now layout) (own_of One nonce.now []) line.now
         frame.old).answer }
     ensures frame_after { frame.new ≡ (write_call (told key.now font.now layout) (own_of One nonce.now []) line.now
         frame.old).frame }
 {
-    let none = [0u8; 0];
-    write_edition(Edition::One, key, nonce, font, layout, &none, line, frame)
+    write_edition(Edition::One, key, nonce, font, layout, &[], line, frame)
 }
 
 // The same in edition two, with the job.
@@ -191,7 +198,7 @@ pub fn write_two(
     job: &[u8],
     line: &[u8],
     frame: &mut [u8],
-) -> Written
+) -> Result<Written, FrameRefusal>
     ensures value { result ≡ (write_call (told key.now font.now layout) (own_of Two nonce.now job.now) line.now
         frame.old).answer }
     ensures frame_after { frame.new ≡ (write_call (told key.now font.now layout) (own_of Two nonce.now job.now)
@@ -200,53 +207,37 @@ pub fn write_two(
     write_edition(Edition::Two, key, nonce, font, layout, job, line, frame)
 }
 
-// What a refusal counts.
-const NO_CALLS: usize = 0;
-
 // The number of what `write` answers.
-pub fn write_number(answer: Written) -> u32
+pub fn write_number(answer: Result<Written, FrameRefusal>) -> u32
     ensures { result ≡ write_number answer }
 {
     match answer {
-        Written::Done {
-            length: _,
-            calls: _,
-        } => 0,
-        Written::Sizes => 2,
-        Written::TooLong => 3,
-        Written::Unlisted => 9,
-        Written::Trade => 13,
-        Written::Layout => 17,
-        Written::NoRoom => 4,
+        Ok(_) => 0,
+        Err(FrameRefusal::Sizes) => 2,
+        Err(FrameRefusal::TooLong) => 3,
+        Err(FrameRefusal::Unlisted) => 9,
+        Err(FrameRefusal::Trade) => 13,
+        Err(FrameRefusal::Layout) => 17,
+        Err(FrameRefusal::NoRoom) => 4,
     }
 }
 
 // The frame's length, 0 on a refusal.
-pub fn write_length(answer: Written) -> usize
+pub fn write_length(answer: Result<Written, FrameRefusal>) -> usize
     ensures { result ≡ length_of answer }
 {
     match answer {
-        Written::Done { length, calls: _ } => length,
-        Written::Sizes => 0,
-        Written::TooLong => 0,
-        Written::Unlisted => 0,
-        Written::Trade => 0,
-        Written::Layout => 0,
-        Written::NoRoom => 0,
+        Ok(frame) => frame.length,
+        Err(_) => 0,
     }
 }
 
-// The count of what `write` answers.
-pub fn write_count(answer: Written) -> usize
+// The count of what `write` answers, 0 on a refusal.
+pub fn write_count(answer: Result<Written, FrameRefusal>) -> usize
     ensures { result ≡ count_of answer }
 {
     match answer {
-        Written::Done { length: _, calls } => calls,
-        Written::Sizes => NO_CALLS,
-        Written::TooLong => NO_CALLS,
-        Written::Unlisted => NO_CALLS,
-        Written::Trade => NO_CALLS,
-        Written::Layout => NO_CALLS,
-        Written::NoRoom => NO_CALLS,
+        Ok(frame) => frame.calls,
+        Err(_) => 0,
     }
 }

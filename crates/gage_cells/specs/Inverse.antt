@@ -1,10 +1,6 @@
 -- Each of substitution and its inverse undoes the other, at every state size and for every leader (document 003, Corollary 1).
 -- Assumes nothing.
-use Rattle.std.specs.Prelude.{◌≡◌, refl, List, [], ◌∷◌, ℕ, ◌/◌, ◌<◌, ◌%◌}
-use Rattle.std.proofs.Common.{ap, ap₂, arith}
-use Rattle.base_lists.specs.Below.{Below}
-use Rattle.gage_cells.specs.Cells.{star, table, cells, bytes, follow, recover, substitute, restore}
-use Rattle.gage_cells.specs.Quasigroup.{star-undoes, table-closed}
+use Rattle.std.specs.Prelude.{List, [], ◌∷◌, ℕ, ◌<◌}
 
 -- cells that make whole bytes
 abbrev pub Fours : List ℕ → Type 0

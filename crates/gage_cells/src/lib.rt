@@ -24,6 +24,7 @@ const LOWER: u8 = 0x55;
 const TABLE: [[u8; 4]; 4] = [[1, 0, 3, 2], [0, 2, 1, 3], [2, 3, 0, 1], [3, 1, 2, 0]];
 
 // x * y, by the two bits of each; of numbers that are no cells, what the formula gives.
+#[tactic(auto, unfolding(crate::specs::Pair::product))]
 pub fn star(x: u8, y: u8) -> u8
     ensures { result ≡ product x y }
 {
@@ -35,16 +36,7 @@ pub fn star(x: u8, y: u8) -> u8
 fn has_products(t: [[u8; 4]; 4]) -> bool
     ensures { result ≡ has_products t }
 {
-    let mut i: u8 = 0;
-    while i < 16 {
-        let x = i / 4;
-        let y = i % 4;
-        if t[x as usize][y as usize] != star(x, y) {
-            return false;
-        }
-        i += 1;
-    }
-    true
+    (0..16u8).all(|i| t[i as usize / 4][i as usize % 4] == star(i / 4, i % 4))
 }
 
 // Whether the table of products has them: it does.

@@ -29,6 +29,7 @@ const LEADERS: [u8; MOST_ROUNDS] = [
 ];
 
 // The table: the leader of round i, counted from 0, is its entry i.
+#[tactic(auto, unfolding(crate::specs::Leaders::leaders))]
 pub fn table() -> [u8; MOST_ROUNDS]
     ensures { result ≡ leaders }
 {
@@ -39,11 +40,5 @@ pub fn table() -> [u8; MOST_ROUNDS]
 pub fn is_count(k: usize) -> bool
     ensures { result ≡ counted k }
 {
-    if k < 1 {
-        return false;
-    }
-    if k > MOST_ROUNDS {
-        return false;
-    }
-    true
+    (1..=MOST_ROUNDS).contains(&k)
 }

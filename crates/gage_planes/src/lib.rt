@@ -4,7 +4,6 @@
 #![tactic(auto)]
 
 use gage_planes_spec::{State, Windows};
-use gage_spec::Answer;
 
 mod around;
 mod drawn;
@@ -13,7 +12,6 @@ mod windows;
 ghost use Rattle.std.specs.Prelude.{◌≡◌, ◌+◌, ◌-◌, ◌≤◌, ◌<◌, ◌^◌};
 ghost use Rattle.gage_leaders.specs.Leaders.{MOST-ROUNDS};
 ghost use Rattle.gage_spec.specs.Permutation.{judged};
-ghost use Rattle.gage_spec.specs.declared.Answer.TheVariants.{Done};
 ghost use Rattle.gage_planes_spec.specs.Planes.{rejoined};
 ghost use Rattle.gage_planes_spec.specs.Rounds.{LEAST, MOST, permuted};
 
@@ -27,7 +25,7 @@ const ONES: u64 = 0xFFFFFFFFFFFFFFFF;
 
 // k rounds of a state of at most 50 bytes.
 fn permuted_drawn(t: State, n: usize, k: usize) -> State
-    requires { (judged n k ≡ Done) × (LEAST ≤ n) × (n ≤ MOST) × (1 ≤ k) × (k ≤ MOST-ROUNDS) }
+    requires { (judged n k ≡ Ok tt) × (LEAST ≤ n) × (n ≤ MOST) × (1 ≤ k) × (k ≤ MOST-ROUNDS) }
     ensures { result ≡ permuted n k t }
 {
     let q = drawn::permuted(t.low, n, k);
@@ -40,7 +38,7 @@ fn permuted_drawn(t: State, n: usize, k: usize) -> State
 
 // k rounds of a state of 64 bytes.
 fn permuted_around(t: State, k: usize) -> State
-    requires { (judged 64 k ≡ Done) × (1 ≤ k) × (k ≤ MOST-ROUNDS) }
+    requires { (judged 64 k ≡ Ok tt) × (1 ≤ k) × (k ≤ MOST-ROUNDS) }
     ensures { result ≡ permuted 64 k t }
 {
     let q = around::permuted(t.low, k);
@@ -52,7 +50,7 @@ fn permuted_around(t: State, k: usize) -> State
 
 // k rounds of a state of 68 to 72 bytes, h being half of it.
 fn permuted_windows(t: State, h: u64, k: usize) -> State
-    requires { (judged (h + h) k ≡ Done) × (34 ≤ h) × (h ≤ 36) × (1 ≤ k) × (k ≤ MOST-ROUNDS) }
+    requires { (judged (h + h) k ≡ Ok tt) × (34 ≤ h) × (h ≤ 36) × (1 ≤ k) × (k ≤ MOST-ROUNDS) }
     ensures { result ≡ permuted (h + h) k t }
 {
     let w = windows::split(t, h);
@@ -64,7 +62,7 @@ fn permuted_windows(t: State, h: u64, k: usize) -> State
 pub fn permuted(t: State, n: usize, k: usize) -> State
     ensures { result ≡ permuted n k t }
 {
-    let Answer::Done = gage_spec::judge(n, k) else {
+    let Ok(()) = gage_spec::judge(n, k) else {
         return t;
     };
     if n <= MOST {

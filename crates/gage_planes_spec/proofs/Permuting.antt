@@ -1,11 +1,10 @@
 -- What each form of the rounds on planes makes of a state in planes is `permuted`, and a permuted state tells the permutation's bytes. Assumes nothing.
-use Rattle.std.specs.Prelude.{◌≡◌, ℕ, ◌+◌, ◌-◌, ◌^◌, ◌≤◌, length}
+use Rattle.std.specs.Prelude.{◌≡◌, ℕ, ◌+◌, ◌-◌, ◌^◌, ◌≤◌, length, Ok}
 use Rattle.std.proofs.Common.{sym, ◌∙◌, arith}
 use Rattle.std.proofs.Math.Path.{ap}
 use Rattle.base_lists.specs.Below.{Below, below_all}
 use Rattle.gage_spec.specs.Permutation.{permute, judged, after}
 use Rattle.gage_spec.specs.States.{length-permute, permute-below}
-use Rattle.gage_spec.specs.declared.Answer.TheVariants.{Done}
 use Rattle.base_digits.specs.Held.{WORD}
 use Rattle.gage_planes_spec.specs.declared.Planes.{Planes}
 use Rattle.gage_planes_spec.specs.declared.State.{State}
@@ -22,7 +21,7 @@ use Rattle.gage_planes_spec.specs.Rounds.{permuted, Permuted, PermutedBoth}
 pub told-bytes : (n : ℕ) (t : State) → Below 256 (told n t)
 told-bytes n t = below_all 256 (told n t) (λ k h. told_below n t k (omega (arith, length-told n t)))
 
-module _ (n k : ℕ) (t : State) (is : judged n k ≡ Done) where
+module _ (n k : ℕ) (t : State) (is : judged n k ≡ Ok tt) where
   done : permuted n k t ≡ state_of (permute k (told n t))
   unfolding permuted
   done = ap (λ a. after a (state_of (permute k (told n t))) t) is

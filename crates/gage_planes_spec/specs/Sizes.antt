@@ -1,25 +1,22 @@
 -- The sizes that are permitted, by the form of their planes: at most 50 bytes, 64, or twice 34 to 36; and what is made of another size or count. Assumes
 -- nothing.
-use Rattle.std.specs.Prelude.{◌≡◌, refl, Bool, true, false, cond, ◌&&◌, [], ◌∷◌, ℕ, ◌+◌, ◌/◌, ◌≤◌, ◌<◌, T, leb, eqb, replicate}
-use Rattle.std.proofs.Common.{sym, ap, ⊎_elim, arith, leb→le, eqb→eq, leb-true, eqb-true}
-use types.Run.{OneOf}
-use denote.Enum.Declared.{tag_of}
+use Rattle.std.specs.Prelude.{◌≡◌, refl, Bool, true, false, cond, ◌&&◌, [], ◌∷◌, ℕ, ◌+◌, ◌/◌, ◌≤◌, ◌<◌, T, leb, eqb, replicate, Ok, Err, Result, ⊤}
+use Rattle.std.proofs.Common.{sym, ap, arith, leb→le, eqb→eq, leb-true, eqb-true}
 use Rattle.base_lists.specs.Table.{at, both, both_left, both_right}
 use Rattle.gage_spec.specs.Permutation.{LARGEST, MOST-ROUNDS, among, permitted, judged_number, judged}
 use Rattle.gage_spec.specs.Tables.{permitted-size}
-use Rattle.gage_spec.specs.declared.Answer.{Answer}
-use Rattle.gage_spec.specs.declared.Answer.TheVariants.{Done, Size, Rounds}
-use Rattle.gage_spec.specs.contracts.Answer as answer-type
+use Rattle.gage_spec.specs.declared.PermuteRefusal.{PermuteRefusal}
+use Rattle.gage_spec.specs.declared.PermuteRefusal.TheVariants.{Size, Rounds}
 use Rattle.gage_planes_spec.specs.declared.State.{State}
 use Rattle.gage_planes_spec.specs.Rounds.{permuted}
 
 -- what is done has a permitted size and a count of rounds
-pub allowed : (n k : ℕ) → judged n k ≡ Done → (permitted n ≡ true) × (29 ≤ n) × (n ≤ LARGEST) × (1 ≤ k) × (k ≤ MOST-ROUNDS)
+pub allowed : (n k : ℕ) → judged n k ≡ Ok tt → (permitted n ≡ true) × (29 ≤ n) × (n ≤ LARGEST) × (1 ≤ k) × (k ≤ MOST-ROUNDS)
 unfolding judged
 allowed n k e = go (permitted n) refl (leb 1 k) refl (leb k MOST-ROUNDS) refl e
   where
     go : (p : Bool) → permitted n ≡ p → (a : Bool) → leb 1 k ≡ a → (b : Bool) → leb k MOST-ROUNDS ≡ b
-        → cond p (cond (a && b) Done Rounds) Size ≡ Done → (permitted n ≡ true) × (29 ≤ n) × (n ≤ LARGEST) × (1 ≤ k) × (k ≤ MOST-ROUNDS)
+        → ◌≡◌ {A = Result ⊤ PermuteRefusal} (cond p (cond (a && b) (Ok tt) (Err Rounds)) (Err Size)) (Ok tt) → (permitted n ≡ true) × (29 ≤ n) × (n ≤ LARGEST) × (1 ≤ k) × (k ≤ MOST-ROUNDS)
     go true p true a true b f = (p, (permitted-size n p).0, (permitted-size n p).1, leb-true 1 k a, leb-true k MOST-ROUNDS b)
     go true p true a false b f = absurd (omega (arith, ap judged_number f))
     go true p false a t b f = absurd (omega (arith, ap judged_number f))
@@ -50,8 +47,7 @@ wide-size n p large other =
     go false a b c d e t = absurd (let z : ◌≡◌ {A = ℕ} 0 1 = cc a in omega arith)
 
 -- a refusal leaves the state as it was
-pub stays : (n k : ℕ) (t : State) (r : Answer) → r ≡ judged n k → OneOf (1 ∷ 2 ∷ []) (tag_of answer-type.the_type r) → t ≡ permuted n k t
+pub stays : (n k : ℕ) (t : State) (r : Result ⊤ PermuteRefusal) → r ≡ judged n k → (r ≡ Ok tt → ⊥) → t ≡ permuted n k t
 unfolding permuted
-stays n k t Done g o = absurd (⊎_elim (λ h. omega (arith, h)) (λ h. omega (arith, h)) o)
-stays n k t Size g o = rw (sym g)
-stays n k t Rounds g o = rw (sym g)
+stays n k t (Ok tt) g o = absurd (o refl)
+stays n k t (Err f) g o = rw (sym g)

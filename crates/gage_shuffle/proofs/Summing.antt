@@ -1,21 +1,11 @@
--- A sum of bits, each with its weight, from the left: what it is at most, and that it is the definition's sum from the right. Assumes nothing.
+-- A sum of bits, each with its weight, from the left is the definition's sum from the right. Assumes nothing.
 use mathlib.Core.Path.{◌≡◌, ◌∙◌}
 use mathlib.Core.List.{[], ◌∷◌}
-use Prim.Native.Nat.{ℕ, ◌+◌, ◌*◌, ◌/◌, ◌%◌, ◌≤◌}
-use native.Mathlib.Nat.{add-le-add, mul-le-mul_right, mul-one}
+use Prim.Native.Nat.{ℕ, ◌+◌, ◌*◌, ◌/◌, ◌%◌}
+use native.Mathlib.Nat.{mul-one}
 use native.Mathlib.Omega.{arith}
 use lib.ListN.{get_or}
 use Rattle.gage_shuffle.specs.Shuffling.{weights, weighed, returned}
-
--- one bit without a weight, one with its weight, and one more
-pub first : (x : ℕ) → x % 2 ≤ 1
-first x = omega arith
-
-pub one : (x w : ℕ) → x % 2 * w ≤ 1 * w
-one x w = mul-le-mul_right w (first x)
-
-pub and : (x w : ℕ) {s m : ℕ} → s ≤ m → s + x % 2 * w ≤ m + 1 * w
-and x w h = add-le-add h (one x w)
 
 -- the same sum from the right
 from-right : (a b c d e f g h : ℕ) → a + b + c + d + e + f + g + h ≡ a + (b + (c + (d + (e + (f + (g + (h + 0)))))))

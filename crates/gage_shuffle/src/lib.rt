@@ -64,11 +64,7 @@ fn join(e: [u8; WRAPPED], at: usize, s: [u8; LARGEST], from: usize, count: usize
     ensures { Joined e at s from count result }
 {
     let mut r = e;
-    let mut i = 0;
-    while i < count {
-        r[at + i] = s[from + i];
-        i += 1;
-    }
+    r[at..at + count].copy_from_slice(&s[from..from + count]);
     r
 }
 
@@ -88,8 +84,7 @@ fn unshuffle_wrapped(s: [u8; LARGEST], n: usize) -> [u8; LARGEST]
 {
     let e = wrapped(s, n, n - AHEAD);
     let mut out = s;
-    let mut i = 0;
-    while i < n {
+    for i in 0..n {
         out[i] = give_back(
             e[i + 7],
             e[i + 6],
@@ -100,22 +95,21 @@ fn unshuffle_wrapped(s: [u8; LARGEST], n: usize) -> [u8; LARGEST]
             e[i + 1],
             e[i],
         );
-        i += 1;
     }
     out
 }
 
 // Whether a state of n bytes is one that is shuffled.
+#[tactic(auto, unfolding(crate::specs::Widths::wide))]
 fn is_wide(n: usize) -> bool
     ensures { result ≡ wide n }
 {
-    if n < SMALLEST {
-        return false;
-    }
-    n <= LARGEST
+    (SMALLEST..=LARGEST).contains(&n)
 }
 
 // The first n bytes of a state before a shuffle, where a state may have as many; else it stays.
+// It goes by value with its size, no slice: the promise, `on_first n`, is of such a state.
+#[tactic(auto, using(std::proofs::lemmas::Bool::Decides::nat_tests), unfolding(crate::specs::Widths::wide, crate::specs::Widths::where_wide))]
 pub fn unshuffle(s: [u8; LARGEST], n: usize) -> [u8; LARGEST]
     ensures { result ≡ where_wide n (on_first n unshuffle s) s }
 {

@@ -1,26 +1,26 @@
 -- What the public calls answer to a size and a count of rounds that are allowed, and to others: the laws that callers cite. Assumes nothing.
-use Rattle.std.specs.Prelude.{◌≡◌, true, false, List, ◌++◌, ℕ, ◌≤◌, length, take, drop}
+use Rattle.std.specs.Prelude.{◌≡◌, true, false, List, ◌++◌, ℕ, ◌≤◌, length, take, drop, Ok, Err}
 use Rattle.std.proofs.Common.{◌∙◌, take-append-drop, length-take-le, take_at, drop_at}
 use Rattle.gage_spec.specs.Permutation.{permitted, counted, judged, answered}
-use Rattle.gage_spec.specs.declared.Answer.TheVariants.{Done, Size, Rounds}
+use Rattle.gage_spec.specs.declared.PermuteRefusal.TheVariants.{Size, Rounds}
 use Rattle.gage_spec.specs.declared.Permuted.{Permuted}
 
 -- the size is judged first
 module _ (n k : ℕ) where
-  pub judged-size : permitted n ≡ false → judged n k ≡ Size
+  pub judged-size : permitted n ≡ false → judged n k ≡ Err Size
   unfolding judged
   judged-size h = rw h
 
-  pub judged-rounds : permitted n ≡ true → counted k ≡ false → judged n k ≡ Rounds
+  pub judged-rounds : permitted n ≡ true → counted k ≡ false → judged n k ≡ Err Rounds
   unfolding judged
   judged-rounds h g = rw (h, g)
 
-  pub judged-done : permitted n ≡ true → counted k ≡ true → judged n k ≡ Done
+  pub judged-done : permitted n ≡ true → counted k ≡ true → judged n k ≡ Ok tt
   unfolding judged
   judged-done h g = rw (h, g)
 
 module _ (f : ℕ → List ℕ → List ℕ) (s : List ℕ) (n k : ℕ) where
-  pub answered-done : judged n k ≡ Done → answered f s n k ≡ record { answer = Done; state = f k (take n s) ++ drop n s }
+  pub answered-done : judged n k ≡ Ok tt → answered f s n k ≡ record { answer = Ok tt; state = f k (take n s) ++ drop n s }
   unfolding answered
   answered-done h = rw h
 
@@ -31,9 +31,9 @@ module _ (f : ℕ → List ℕ → List ℕ) (s : List ℕ) (n k : ℕ) where
       rw (e, answered-done (judged-done n k h g)) (take_at (f k (take n s)) (drop n s) n (same (take n s) ∙ length-take-le n s l))
 
 -- where g undoes f, the answer of g to f's is the state as it was
-pub answered-back : (f g : ℕ → List ℕ → List ℕ) (s : List ℕ) (n k : ℕ) → judged n k ≡ Done → n ≤ length s
+pub answered-back : (f g : ℕ → List ℕ → List ℕ) (s : List ℕ) (n k : ℕ) → judged n k ≡ Ok tt → n ≤ length s
     → length (f k (take n s)) ≡ length (take n s) → g k (f k (take n s)) ≡ take n s
-    → answered g (answered f s n k).state n k ≡ record { answer = Done; state = s }
+    → answered g (answered f s n k).state n k ≡ record { answer = Ok tt; state = s }
 answered-back f g s n k h l same undone =
     let long : length (f k (take n s)) ≡ n = same ∙ length-take-le n s l in
     rw (

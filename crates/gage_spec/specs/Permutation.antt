@@ -1,13 +1,13 @@
 -- The round permutation of document 000, section 1.1.2 (Algorithm 2), its inverse, and what the public calls answer
 -- (document 01, 'The permutation'; order W9). Size and rounds are parameters. Assumes nothing: these are definitions.
-use Rattle.std.specs.Prelude.{ℕ, Bool, true, false, cond, List, [], ◌∷◌, ◌++◌, eqb, take, drop}
+use Rattle.std.specs.Prelude.{ℕ, Bool, true, false, cond, List, [], ◌∷◌, ◌++◌, eqb, take, drop, Ok, Err, Result, ⊤}
 pub use Rattle.gage_cells.specs.Sizes.{LARGEST}
 pub use Rattle.gage_leaders.specs.Leaders.{MOST-ROUNDS, counted}
 unfoldable pub use Rattle.gage_leaders.specs.Leaders.{leaders}
 use Rattle.gage_cells.specs.Cells.{table, substitute, restore}
 use Rattle.gage_shuffle.specs.Shuffling.{shuffle, unshuffle}
-use Rattle.gage_spec.specs.declared.Answer.{Answer}
-use Rattle.gage_spec.specs.declared.Answer.TheVariants.{Done, Size, Rounds}
+use Rattle.gage_spec.specs.declared.PermuteRefusal.{PermuteRefusal}
+use Rattle.gage_spec.specs.declared.PermuteRefusal.TheVariants.{Size, Rounds}
 use Rattle.gage_spec.specs.declared.Permuted.{Permuted}
 
 -- ROUNDS of document 000, section 1.1.2: what the digest and the cipher are built on
@@ -52,20 +52,19 @@ unfoldable pub permitted : ℕ → Bool
 permitted n = among n sizes
 
 -- document 01, 'Numbers returned', and order W9
-abbrev pub judged_number : Answer → ℕ
-judged_number Done = 0
-judged_number Size = 1
-judged_number Rounds = 18
+abbrev pub judged_number : Result ⊤ PermuteRefusal → ℕ
+judged_number (Ok tt) = 0
+judged_number (Err Size) = 1
+judged_number (Err Rounds) = 18
 
 -- the size is judged first
-unfoldable pub judged : ℕ → ℕ → Answer
-judged n k = cond (permitted n) (cond (counted k) Done Rounds) Size
+unfoldable pub judged : ℕ → ℕ → Result ⊤ PermuteRefusal
+judged n k = cond (permitted n) (cond (counted k) (Ok tt) (Err Rounds)) (Err Size)
 
 -- what there is after an answer: the new where it is done, else the old as it was
-abbrev pub after : {A : Type 0} → Answer → A → A → A
-after Done new old = new
-after Size new old = old
-after Rounds new old = old
+abbrev pub after : {A : Type 0} → Result ⊤ PermuteRefusal → A → A → A
+after (Ok tt) new old = new
+after (Err f) new old = old
 
 -- f with k rounds on the first n bytes
 unfoldable pub answered : (ℕ → List ℕ → List ℕ) → List ℕ → ℕ → ℕ → Permuted

@@ -13,14 +13,11 @@ pub const LARGEST: usize = gage_cells::LARGEST;
 pub const ROUNDS: usize = 32;
 
 // The permitted state sizes in bytes (document 01, 'The permutation', and order W8's 64).
-const SIZE_COUNT: usize = 10;
+const SIZES: [usize; 10] = [29, 30, 32, 34, 36, 40, 48, 64, 68, LARGEST];
 
-const SIZES: [usize; SIZE_COUNT] = [29, 30, 32, 34, 36, 40, 48, 64, 68, LARGEST];
-
-// Done, or refused: a state size that is not permitted, a count of rounds that is not 1 to 255.
+// Why a permutation is refused: a state size that is not permitted, a count of rounds that is not 1 to 255.
 #[derive(Clone, Copy)]
-pub enum Answer {
-    Done,
+pub enum PermuteRefusal {
     Size,
     Rounds,
 }
@@ -28,18 +25,18 @@ pub enum Answer {
 // What the permutation and its inverse give: the state changed where it is done, else as it was.
 #[derive(Clone, Copy)]
 pub struct Permuted {
-    pub answer: Answer,
+    pub answer: Result<(), PermuteRefusal>,
     pub state: [u8; LARGEST],
 }
 
 // Document 01's number of an answer.
-pub fn number(answer: Answer) -> u32
+pub fn number(answer: Result<(), PermuteRefusal>) -> u32
     ensures { result ≡ judged_number answer }
 {
     match answer {
-        Answer::Done => 0,
-        Answer::Size => 1,
-        Answer::Rounds => 18,
+        Ok(()) => 0,
+        Err(PermuteRefusal::Size) => 1,
+        Err(PermuteRefusal::Rounds) => 18,
     }
 }
 
@@ -47,28 +44,27 @@ pub fn number(answer: Answer) -> u32
 fn is_permitted(n: usize) -> bool
     ensures { result ≡ permitted n }
 {
-    let sizes = SIZES;
-    let mut i = 0;
-    while i < SIZE_COUNT {
-        if sizes[i] == n {
+    // `contains`, measured, takes 4.2 in a hundred more instructions for a digest by instance 1.
+    for size in SIZES {
+        if size == n {
             return true;
         }
-        i += 1;
     }
     false
 }
 
 // What is made of a size and a count of rounds: the size is judged first.
-pub fn judge(n: usize, k: usize) -> Answer
+#[tactic(auto, unfolding(crate::specs::Permutation::judged))]
+pub fn judge(n: usize, k: usize) -> Result<(), PermuteRefusal>
     ensures { result ≡ judged n k }
 {
     let size = is_permitted(n);
     let count = gage_leaders::is_count(k);
     if !size {
-        return Answer::Size;
+        return Err(PermuteRefusal::Size);
     }
     if !count {
-        return Answer::Rounds;
+        return Err(PermuteRefusal::Rounds);
     }
-    Answer::Done
+    Ok(())
 }

@@ -18,13 +18,8 @@ pub fn mix(s: [u8; LARGEST], block: &[u8]) -> [u8; LARGEST]
     ensures { result ≡ xored block.now s }
 {
     let mut out = s;
-    let mut i = 0;
-    while i < block.len() {
-        if i >= LARGEST {
-            return out;
-        }
-        out[i] = block[i] ^ out[i];
-        i += 1;
+    for i in 0..block.len().min(LARGEST) {
+        out[i] ^= block[i];
     }
     out
 }
@@ -36,11 +31,6 @@ pub fn last_block(rest: &[u8]) -> [u8; LARGEST_RATE]
 {
     let mut out = [0u8; LARGEST_RATE];
     base_lists::copy(rest, &mut out);
-    let n = rest.len();
-    if n < LARGEST_RATE {
-        out[n] = STOP;
-        return out;
-    }
-    out[LARGEST_RATE - 1] = STOP;
+    out[rest.len().min(LARGEST_RATE - 1)] = STOP;
     out
 }

@@ -1,7 +1,7 @@
 -- The first n bytes of a state, where n may be more than a state has, and worked on in a wide one. Assumes nothing.
 use mathlib.Core.Path.{◌≡◌, ap, ◌∙◌}
 use mathlib.Core.List.{List, ◌++◌}
-use Prim.Native.Nat.{ℕ, ◌-◌, ◌≤◌, min}
+use Prim.Native.Nat.{ℕ, ◌≤◌, min}
 use native.Mathlib.Decide.{dec_lt}
 use native.Mathlib.Omega.{arith}
 use lib.ListN.{length, take, drop, drop_of_length-le, length-take}
@@ -32,10 +32,9 @@ module _ (f : List ℕ → List ℕ) (keeps : (x : List ℕ) → length (f x) �
       let l : m ≤ length s = omega arith in
       ap (λ (k : ℕ). f (take m s) ++ drop k s) (keeps (take m s) ∙ length-take-le m s l)
 
-  pub put_first : (w out r : List ℕ) → w ≡ copied s o → take m out ≡ f (take m w) → r ≡ copied (take (m - 0) (drop 0 out)) s → r ≡ on_first n f s
+  pub put_first : (w out r : List ℕ) → w ≡ copied s o → take m out ≡ f (take m w) → r ≡ copied (take m out) s → r ≡ on_first n f s
   put_first w out r e h g =
       let l : m ≤ length s = omega arith in
-      let k : m - 0 ≡ m = omega arith in
       let same : take m w ≡ take m s = rw (e, take_all (length o) s (omega arith)) (take-append-le m s (drop (length s) o) l) in
       let short : length (take m out) ≤ length s = rw h (omega (arith, keeps (take m w), length-take m w)) in
-      g ∙ rw (k, take_all (length s) (take m out) short, h, same) (put_back ∙ rw within (first-within f n s long))
+      g ∙ rw (take_all (length s) (take m out) short, h, same) (put_back ∙ rw within (first-within f n s long))

@@ -11,65 +11,50 @@ use gage_cells::{LARGEST, WIDE, star, substituted_byte};
 // The bytes that the machine works on at once.
 const WORD: usize = 16;
 
-// How many of a state's bytes are its first n.
-fn within(n: usize) -> usize
-    ensures { result ≡ min n LARGEST }
-{
-    if n > LARGEST {
-        return LARGEST;
-    }
-    n
-}
-
 // The first n bytes of a wide state substituted with a leader; behind them whole words are worked on, whose bytes mean nothing.
 fn substitute_wide(w: [u8; WIDE], n: usize, leader: u8) -> [u8; WIDE]
     requires { n ≤ LARGEST }
     ensures { take n result ≡ substitute table (leader % 4) (take n w) }
 {
-    let end = (n + (WORD - 1)) / WORD * WORD;
+    let end = n.next_multiple_of(WORD);
     let mut out = w;
     let mut p = leader;
-    let mut i = 0;
-    while i < end {
+    for i in 0..end {
         let b = w[i];
         out[i] = substituted_byte(p, b);
         p = b;
-        i += 1;
     }
     out
 }
 
-// The first n bytes of s before a substitution with a leader: each cell from the one just recovered.
-fn restore_first(s: [u8; LARGEST], n: usize, leader: u8) -> [u8; LARGEST]
-    requires { (n ≤ LARGEST) × (leader < 4) }
-    ensures { result ≡ on_first n (restore table leader) s }
+// s before a substitution with a leader: each cell from the one just recovered.
+fn restore_all(s: &mut [u8], leader: u8)
+    requires { leader < 4 }
+    ensures { s.new ≡ restore table leader s.old }
 {
-    let mut out = s;
     let mut p = leader;
-    let mut i = 0;
-    while i < n {
-        let b = s[i];
+    for x in s.iter_mut() {
+        let b = *x;
         let a = star(p, b >> 6);
         let c = star(a, (b >> 4) & 3);
         let d = star(c, (b >> 2) & 3);
         let e = star(d, b & 3);
-        out[i] = (a << 6) ^ (c << 4) ^ (d << 2) ^ e;
+        *x = (a << 6) ^ (c << 4) ^ (d << 2) ^ e;
         p = e;
-        i += 1;
     }
-    out
 }
 
 // The substitution on the first n bytes of a state, with a leader mod 4.
+// It goes by value with its size, no slice: the promise, `on_first n`, is of such a state.
 pub fn substitute(s: [u8; LARGEST], n: usize, leader: u8) -> [u8; LARGEST]
     ensures { result ≡ on_first n (substitute table (leader % 4)) s }
 {
-    let first = within(n);
+    let first = n.min(LARGEST);
     let mut w = [0u8; WIDE];
     base_lists::copy(&s, &mut w);
     let out = substitute_wide(w, first, leader);
     let mut r = s;
-    base_lists::copy(&out[0..first], &mut r);
+    base_lists::copy(&out[..first], &mut r);
     r
 }
 
@@ -77,5 +62,7 @@ pub fn substitute(s: [u8; LARGEST], n: usize, leader: u8) -> [u8; LARGEST]
 pub fn restore(s: [u8; LARGEST], n: usize, leader: u8) -> [u8; LARGEST]
     ensures { result ≡ on_first n (restore table (leader % 4)) s }
 {
-    restore_first(s, within(n), leader & 3)
+    let mut r = s;
+    restore_all(&mut r[..n.min(LARGEST)], leader & 3);
+    r
 }

@@ -32,6 +32,7 @@ pub fn slid(p: Planes) -> Planes
 }
 
 // The left bit of every product of a cell of the planes y and z with one of u and v.
+#[tactic(auto, unfolding(gage_planes_spec::specs::Planes::upper))]
 fn upper(y: u64, z: u64, u: u64, v: u64) -> u64
     ensures { result ≡ upper y z u v }
 {
@@ -39,6 +40,7 @@ fn upper(y: u64, z: u64, u: u64, v: u64) -> u64
 }
 
 // Its right bit.
+#[tactic(auto, unfolding(gage_planes_spec::specs::Planes::lower))]
 fn lower(y: u64, z: u64, u: u64, v: u64) -> u64
     ensures { result ≡ lower y z u v }
 {
@@ -46,6 +48,7 @@ fn lower(y: u64, z: u64, u: u64, v: u64) -> u64
 }
 
 // A plane one byte further on, with other digits where a state begins.
+#[tactic(auto, unfolding(gage_planes_spec::specs::Planes::begun))]
 fn begun(x: u64, starts: u64, other: u64) -> u64
     ensures { result ≡ begun x starts other }
 {
@@ -95,6 +98,7 @@ pub fn turned(p: Planes, starts: u64, y: u64, z: u64) -> Planes
 }
 
 // A plane of as many digits as a number has, turned by j.
+#[tactic(auto, unfolding(gage_planes_spec::specs::Planes::rolled))]
 fn rolled(x: u64, j: u64) -> u64
     requires { (0 < j) × (j < 64) }
     ensures { result ≡ rolled x j }
@@ -126,6 +130,7 @@ pub fn turned_around(p: Planes, leader: u64) -> Planes
 }
 
 // The first n digits of x, m having as many ones, with those of y behind them.
+#[tactic(auto, unfolding(gage_planes_spec::specs::Planes::beside))]
 fn beside(x: u64, y: u64, m: u64, n: u64) -> u64
     requires { n < 64 }
     ensures { result ≡ beside x y m n }
@@ -167,6 +172,7 @@ pub fn cut(p: Planes, m: u64) -> Planes
 }
 
 // The lowest byte of x put below q.
+#[tactic(auto, unfolding(base_digits::specs::Joined::grown))]
 pub fn grown(q: u64, x: u64) -> u64
     ensures { result ≡ grown q x }
 {

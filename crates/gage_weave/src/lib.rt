@@ -30,6 +30,7 @@ const BY_TWO: u64 = 0x0000CCCC0000CCCC;
 const BY_FOUR: u64 = 0x00000000F0F0F0F0;
 
 // The digits where m has ones exchanged with those j further on.
+#[tactic(auto, unfolding(crate::specs::Weaving::exchanged))]
 fn exchanged(x: u64, j: u64, m: u64) -> u64
     requires { j < 64 }
     ensures { result ≡ exchanged x j m }
@@ -47,35 +48,20 @@ fn woven(x: u64) -> u64
     exchanged(z, 28, BY_FOUR)
 }
 
-fn wide(b: u8) -> u64
-    ensures { result ≡ b }
-{
-    b as u64
-}
-
-fn least(a: usize, b: usize) -> usize
-    ensures { result ≡ min a b }
-{
-    if a < b {
-        return a;
-    }
-    b
-}
-
 // The block of s at a place, its first byte lowest.
 fn word(s: &[u8], i: usize) -> u64
     requires { i + 8 ≤ length s.now }
     ensures { result ≡ joined (get_or s.now i 0 ∷ get_or s.now (i + 1) 0 ∷ get_or s.now (i + 2) 0 ∷ get_or s.now (i + 3) 0
         ∷ get_or s.now (i + 4) 0 ∷ get_or s.now (i + 5) 0 ∷ get_or s.now (i + 6) 0 ∷ get_or s.now (i + 7) 0 ∷ []) }
 {
-    let h = grown(0, wide(s[i + 7]));
-    let g = grown(h, wide(s[i + 6]));
-    let f = grown(g, wide(s[i + 5]));
-    let e = grown(f, wide(s[i + 4]));
-    let d = grown(e, wide(s[i + 3]));
-    let c = grown(d, wide(s[i + 2]));
-    let b = grown(c, wide(s[i + 1]));
-    grown(b, wide(s[i]))
+    let h = grown(0, s[i + 7] as u64);
+    let g = grown(h, s[i + 6] as u64);
+    let f = grown(g, s[i + 5] as u64);
+    let e = grown(f, s[i + 4] as u64);
+    let d = grown(e, s[i + 3] as u64);
+    let c = grown(d, s[i + 2] as u64);
+    let b = grown(c, s[i + 1] as u64);
+    grown(b, s[i] as u64)
 }
 
 // A shorter block as a number, its first byte lowest.
@@ -83,10 +69,8 @@ fn word_of(block: &[u8]) -> u64
     ensures { result ≡ joined block.now }
 {
     let mut w = 0;
-    let mut i = block.len();
-    while i > 0 {
-        i -= 1;
-        w = grown(w, wide(block[i]));
+    for b in block.iter().rev() {
+        w = grown(w, *b as u64);
     }
     w
 }
@@ -121,12 +105,11 @@ fn planes(s: &[u8]) -> Planes
         g: 0,
         h: 0,
     };
-    let n = least(s.len(), LOW);
-    let mut i = n / BLOCK * BLOCK;
-    let mut q = drawn(none, woven(word_of(&s[i..n])));
-    while i > 0 {
-        i -= BLOCK;
-        q = drawn(q, woven(word(s, i)));
+    let n = s.len().min(LOW);
+    let whole = n / BLOCK;
+    let mut q = drawn(none, woven(word_of(&s[whole * BLOCK..n])));
+    for i in (0..whole).rev() {
+        q = drawn(q, woven(word(s, i * BLOCK)));
     }
     q
 }
@@ -138,7 +121,7 @@ fn rest(s: &[u8]) -> u64
     if s.len() <= LOW {
         return 0;
     }
-    let end = least(s.len(), ROOM);
+    let end = s.len().min(ROOM);
     woven(word_of(&s[LOW..end]))
 }
 
@@ -168,6 +151,7 @@ fn xor_planes(p: Planes, q: Planes) -> Planes
 }
 
 // Digit j of a number.
+#[tactic(auto, unfolding(base_digits::specs::Digits::digit))]
 fn digit(x: u64, j: u64) -> u64
     requires { j < 64 }
     ensures { result ≡ digit x j }
@@ -211,7 +195,7 @@ pub fn mix(t: State, block: &[u8]) -> State
     ensures bytes { MixedIn block.now t result }
 {
     if block.len() == 1 {
-        return mix_byte(t, wide(block[0]));
+        return mix_byte(t, block[0] as u64);
     }
     mix_block(t, block)
 }
@@ -237,10 +221,8 @@ fn put(out: &mut [u8], x: u64)
     requires { length out.old ≤ 8 }
     ensures { out.new ≡ bytes_of x (length out.old) }
 {
-    let mut r = 0;
-    while r < out.len() {
-        out[r] = low_byte(x >> (8 * r as u64));
-        r += 1;
+    for (r, b) in out.iter_mut().enumerate() {
+        *b = low_byte(x >> (8 * r as u64));
     }
 }
 
@@ -258,14 +240,14 @@ fn first_byte(t: State) -> u8
 fn tell_blocks(t: State, out: &mut [u8])
     ensures { out.new ≡ over (told (min (length out.old) ROOM) t) out.old }
 {
-    let n = least(out.len(), ROOM);
-    let mut i = 0;
-    while i + BLOCK <= n {
-        let end = i + BLOCK;
-        put(&mut out[i..end], woven(eight(t, i)));
-        i = end;
+    let n = out.len().min(ROOM);
+    let whole = n / BLOCK * BLOCK;
+    for i in 0..n / BLOCK {
+        let at = i * BLOCK;
+        let end = at + BLOCK;
+        put(&mut out[at..end], woven(eight(t, at)));
     }
-    put(&mut out[i..n], woven(eight(t, i)));
+    put(&mut out[whole..n], woven(eight(t, whole)));
 }
 
 // A state's first bytes over out, 72 at most.

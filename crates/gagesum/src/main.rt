@@ -3,9 +3,9 @@
 #![tactic(auto)]
 
 use digest_call::DIGEST;
-use running_spec::{Finished, Record};
+use running_spec::Record;
 use std::io::Read;
-use tool_sums::{Named, Sum};
+use tool_sums::Sum;
 
 // The window in bytes.
 const WINDOW: usize = 512;
@@ -48,7 +48,7 @@ fn print(rt: &(impl Print + Eprint), digest: &[u8]) {
 fn give(rt: &(impl Print + Eprint), running: Record) {
     let mut digest = [0u8; DIGEST];
     match running_steps::give(running, &mut digest) {
-        Finished::Done(_) => print(rt, &digest),
+        Ok(_) => print(rt, &digest),
         // Never: the record was started and only fed, and there is room.
         _ => complain(rt, "gagesum: no digest\n"),
     }
@@ -97,7 +97,7 @@ fn main(rt: HostRuntime) {
         return;
     }
     match tool_sums::judge_word(&word[0..n]) {
-        Named::Instance(i) => digest_input(&rt, &mut rt.stdin(), i),
-        Named::Nothing => usage(&rt),
+        Some(i) => digest_input(&rt, &mut rt.stdin(), i),
+        None => usage(&rt),
     }
 }

@@ -14,7 +14,7 @@ use frame_body::{DIGEST_LENGTH, LONGEST_LINE};
 use frame_spec::KEY_LENGTH;
 use index_count::stretches_from;
 use index_entry::place_of;
-use index_spec::{Answer, MOST_ENTRIES, NUMBERS, Updated};
+use index_spec::{IndexRefusal, MOST_ENTRIES, NUMBERS, Updated};
 use line_layout::Layout;
 use read_call::{ALL_WORK, Asked, LONGEST_STREAM, read};
 use read_numbers::read_number;
@@ -81,16 +81,14 @@ fn add(
         stream.now from) }
 {
     let mut at = from;
-    let mut i = 0;
-    while i < n {
+    for i in 0..n {
         let next = next_entry(stream, at, key, font, editions, layout);
         table[count + i] = next.entry;
         at = next.closing;
-        i += 1;
     }
 }
 
-fn refused(answer: Answer, count: usize) -> Updated
+fn refused(answer: Result<(), IndexRefusal>, count: usize) -> Updated
     ensures { result ≡ answered answer count }
 {
     Updated { answer, count }
@@ -112,46 +110,46 @@ pub fn update(
         count }
 {
     if key.len() != KEY_LENGTH {
-        return refused(Answer::Sizes, count);
+        return refused(Err(IndexRefusal::Sizes), count);
     }
     if font.len() != DIGEST_LENGTH {
-        return refused(Answer::Sizes, count);
+        return refused(Err(IndexRefusal::Sizes), count);
     }
     if stream.len() > LONGEST_STREAM {
-        return refused(Answer::TooLong, count);
+        return refused(Err(IndexRefusal::TooLong), count);
     }
     if table.len() < MOST_ENTRIES {
-        return refused(Answer::NoRoom, count);
+        return refused(Err(IndexRefusal::NoRoom), count);
     }
     if count > MOST_ENTRIES {
-        return refused(Answer::Count, count);
+        return refused(Err(IndexRefusal::Count), count);
     }
     let from = last_place(table, count);
     if from > stream.len() {
-        return refused(Answer::Beyond, count);
+        return refused(Err(IndexRefusal::Beyond), count);
     }
     let n = stretches_from(stream, from);
     if n > MOST_ENTRIES - count {
-        return refused(Answer::Full, count);
+        return refused(Err(IndexRefusal::Full), count);
     }
     add(stream, from, key, font, editions, layout, table, count, n);
     Updated {
-        answer: Answer::Done,
+        answer: Ok(()),
         count: count + n,
     }
 }
 
 // The number of what bringing up to date answers.
-pub fn update_number(answer: Answer) -> u32
+pub fn update_number(answer: Result<(), IndexRefusal>) -> u32
     ensures { result ≡ update_number answer }
 {
     match answer {
-        Answer::Done => 0,
-        Answer::Sizes => 2,
-        Answer::TooLong => 3,
-        Answer::NoRoom => 4,
-        Answer::Count => 19,
-        Answer::Beyond => 10,
-        Answer::Full => 19,
+        Ok(()) => 0,
+        Err(IndexRefusal::Sizes) => 2,
+        Err(IndexRefusal::TooLong) => 3,
+        Err(IndexRefusal::NoRoom) => 4,
+        Err(IndexRefusal::Count) => 19,
+        Err(IndexRefusal::Beyond) => 10,
+        Err(IndexRefusal::Full) => 19,
     }
 }

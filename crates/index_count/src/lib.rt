@@ -12,6 +12,7 @@ pub fn stretches_from(stream: &[u8], from: usize) -> usize
 {
     let mut n: usize = 0;
     let mut at = from;
+    // A `while`: where a stretch closes decides where the next one is looked for, so no range and no part of the stream is gone through in order.
     while at < stream.len() {
         let span = next_span(stream, at);
         if span.first == span.closing {

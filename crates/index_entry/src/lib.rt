@@ -2,7 +2,7 @@
 // The promises cite specs/Lookups.antt.
 #![tactic(auto)]
 
-ghost use Rattle.std.specs.Prelude.{◌≡◌, min, length};
+ghost use Rattle.std.specs.Prelude.{◌≡◌};
 ghost use Rattle.index_spec.specs.Entries.{entry_place, entry_number};
 ghost use Rattle.index_entry.specs.Lookups.{looked_at, entry_at, no_line, line_at};
 
@@ -39,38 +39,29 @@ pub fn number_of(entry: u32) -> u32
     entry % NUMBERS
 }
 
-fn fewer(a: usize, b: usize) -> usize
-    ensures { result ≡ min a b }
+// The entries that a look-up sees: those below the count, the most that a table keeps, and the table's length.
+fn looked_at(table: &[u32], count: usize) -> &[u32]
+    ensures { result.now ≡ looked_at table.now count }
 {
-    if a < b {
-        return a;
-    }
-    b
-}
-
-// How many entries a look-up sees: those below the count, the most that a table keeps, and the table's length.
-fn looked_at(table: &[u32], count: usize) -> usize
-    ensures { result ≡ length (looked_at table.now count) }
-{
-    fewer(count, fewer(MOST_ENTRIES, table.len()))
+    &table[..count.min(MOST_ENTRIES).min(table.len())]
 }
 
 // The entry at an index, counted from 0.
+#[tactic(auto, unfolding(crate::specs::Lookups::entry_at))]
 pub fn entry_at(table: &[u32], count: usize, index: usize) -> Entry
     ensures { result ≡ entry_at table.now count index }
 {
-    if index >= looked_at(table, count) {
-        return Entry {
+    match looked_at(table, count).get(index) {
+        Some(entry) => Entry {
+            there: 1,
+            number: number_of(*entry),
+            place: place_of(*entry),
+        },
+        None => Entry {
             there: 0,
             number: 0,
             place: 0,
-        };
-    }
-    let entry = table[index];
-    Entry {
-        there: 1,
-        number: number_of(entry),
-        place: place_of(entry),
+        },
     }
 }
 
@@ -91,23 +82,17 @@ pub fn line_at(table: &[u32], count: usize, k: usize) -> Line
     if k == 0 {
         return no_line();
     }
-    let n = looked_at(table, count);
     let mut left = k - 1;
-    let mut i = 0;
-    while i < n {
-        let entry = table[i];
-        if number_of(entry) == LINE_NUMBER {
+    for (i, entry) in looked_at(table, count).iter().enumerate() {
+        if number_of(*entry) == LINE_NUMBER {
             if left == 0 {
                 return Line {
                     there: 1,
                     index: i as u32,
-                    place: place_of(entry),
+                    place: place_of(*entry),
                 };
             }
             left -= 1;
-            i += 1;
-        } else {
-            i += 1;
         }
     }
     no_line()

@@ -1,6 +1,6 @@
 -- `fresh-as-read` (order W10): a fresh build that is done holds, in order, exactly the stretches that a whole run of `read` sees, each with its place
 -- and its number. From the promises of `update` and `read` alone. Assumes nothing.
-use Rattle.std.specs.Prelude.{◌≡◌, refl, List, [], ◌∷◌, ◌++◌, map, ℕ, ◌+◌, ◌≤◌, length, take, drop}
+use Rattle.std.specs.Prelude.{◌≡◌, refl, List, [], ◌∷◌, ◌++◌, map, ℕ, ◌+◌, ◌≤◌, length, take, drop, Ok, Result, ⊤}
 use Rattle.std.proofs.Common.{sym, ap, ap₂, ◌∙◌, arith, length-append, length-take, take_at}
 use Rattle.std.proofs.lemmas.List.{length-map}
 use Rattle.std.proofs.lemmas.List.Edits.{sets, sets-eq}
@@ -11,8 +11,7 @@ use Rattle.read_spec.specs.Ceiling.{all_work}
 use Rattle.read_readings.specs.Readings.{Reading, readings}
 use Rattle.demand_reading.specs.Promises.{Seen}
 use Rattle.demand_reading.specs.Whole.{WholeRun}
-use Rattle.index_spec.specs.declared.Answer.{Answer}
-use Rattle.index_spec.specs.declared.Answer.TheVariants as answer-is
+use Rattle.index_spec.specs.declared.IndexRefusal.{IndexRefusal}
 use Rattle.index_spec.specs.declared.Updated.{Updated}
 use Rattle.index_spec.specs.Entries.{most_entries, entry_place, entry_number, recorded, entries_from}
 use Rattle.index_spec.specs.Updating.{judged_all, last_place, added, update_answer, update_number, count_of, table_of, answered}
@@ -26,7 +25,7 @@ pub record WasDone (t : Told) (editions : ℕ) (s table : List ℕ) (count : ℕ
   pub takes : Takes t s table count
   pub inside : last_place table count ≤ length s
   pub fits : count + length (added t editions s table count) ≤ most_entries
-  pub answer-is : r ≡ answered answer-is.Done (count + length (added t editions s table count))
+  pub answer-is : r ≡ answered (Ok tt) (count + length (added t editions s table count))
   pub table_is : table' ≡ sets table count (added t editions s table count)
 
 pub was-done : (key font : List ℕ) (editions : ℕ) (lay : Layout) (s table : List ℕ) (count : ℕ) (r : Updated) (table' : List ℕ)
@@ -39,7 +38,7 @@ was-done key font editions lay s table count r table' p h = go (update_answer t 
     w : List ℕ
     w = added t editions s table count
 
-    go : (a : Answer) → Case t editions s table count a → r ≡ answered a (count_of a count w) → table' ≡ table_of a table count w
+    go : (a : Result ⊤ IndexRefusal) → Case t editions s table count a → r ≡ answered a (count_of a count w) → table' ≡ table_of a table count w
         → WasDone t editions s table count r table'
     go _ (bad-sizes n) e d = absurd (omega (arith, ap (λ (x : Updated). update_number x.answer) e, h))
     go _ (too_long z n) e d = absurd (omega (arith, ap (λ (x : Updated). update_number x.answer) e, h))

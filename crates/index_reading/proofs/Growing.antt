@@ -1,7 +1,7 @@
 -- `updated-as-fresh` and `update-again` (order W10): a table built from a shorter stream, brought up to date after bytes were added at its end, is what a
 -- fresh build gives, and earlier entries keep their values; and with nothing more received nothing is changed. From the promise of `update` alone.
 -- Assumes nothing.
-use Rattle.std.specs.Prelude.{◌≡◌, not, cond, ℕ, ◌+◌, ◌≤◌, ltb, drop}
+use Rattle.std.specs.Prelude.{◌≡◌, not, cond, ℕ, ◌+◌, ◌≤◌, ltb, drop, Ok, Err}
 use Rattle.std.proofs.Math.Path.{refl, sym, ap, ap₂}
 use Rattle.std.proofs.Common.{◌∙◌, arith, length-take, take_at, le-ltb}
 use mathlib.Core.List.{List, [], ◌++◌, map, append_assoc, map-append}
@@ -14,7 +14,7 @@ use Rattle.read_readings.specs.Readings.{Reading, readings}
 use Rattle.read_readings.specs.Growing.{last_first}
 use Rattle.read_readings.proofs.Growing.{grown}
 use Rattle.read_call.specs.Answers.{longest_stream, sized_told}
-use Rattle.index_spec.specs.declared.Answer.TheVariants as answer-is
+use Rattle.index_spec.specs.declared.IndexRefusal.TheVariants as answer-is
 use Rattle.index_spec.specs.declared.Updated.{Updated}
 use Rattle.index_spec.specs.Entries.{most_entries, recorded, entries_from}
 use Rattle.index_spec.specs.Updating.{judged_all, last_place, added, update_answer, update_number}
@@ -29,9 +29,9 @@ use Rattle.index_reading.proofs.Fresh.{WasDone, was-done, take-sets}
 left-answer : (t : Told) (editions : ℕ) (s table : List ℕ) (count m : ℕ) → most_entries ≤ length table → count ≤ most_entries → last_place table count ≤ length s
     → count + length (added t editions s table count) ≡ m
     → update_answer t editions s table count
-    ≡ cond (not (sized_told t)) answer-is.Sizes
-    (cond (ltb longest_stream (length s)) answer-is.TooLong
-    (cond (ltb most_entries m) answer-is.Full answer-is.Done))
+    ≡ cond (not (sized_told t)) (Err answer-is.Sizes)
+    (cond (ltb longest_stream (length s)) (Err answer-is.TooLong)
+    (cond (ltb most_entries m) (Err answer-is.Full) (Ok tt)))
 unfolding update_answer
 left-answer t editions s table count m r c i e =
     rw (le-ltb (length table) most_entries r, le-ltb most_entries count c, le-ltb (length s) (last_place table count) i, e)
@@ -194,7 +194,7 @@ module _ (key font : List ℕ) (editions : ℕ) (lay : Layout) where
       let last : last_place table' r.count ≡ last_first (last_place table count) l = last-added s table count r table' k in
       let none : added t editions s table' r.count ≡ [] = none-added s table' r.count
       (ap (reads s) last ∙ last_none (judged_all t editions) s (last_place table count)) in
-      let answer : update_answer t editions s table' r.count ≡ answer-is.Done =
+      let answer : update_answer t editions s table' r.count ≡ Ok tt =
       left-answer t editions s table' r.count r.count (omega (
         arith,
         ap length k.table_is ∙ length-sets table count (added t editions s table count),

@@ -1,7 +1,7 @@
 -- `ten-exactly` and `nineteen-exactly` (order W10): 10 exactly where the last place recorded is beyond the stream, and 19 exactly where the count handed in
 -- is over 512 or there would be more than 512 entries, each after the refusals before it. From the promises of `update` and `read` alone.
 -- Assumes nothing.
-use Rattle.std.specs.Prelude.{◌≡◌, refl, ◌⊎◌, List, ℕ, zero, suc, ◌+◌, ◌-◌, ◌≤◌, ◌<◌, length, get_or}
+use Rattle.std.specs.Prelude.{◌≡◌, refl, ◌⊎◌, List, ℕ, zero, suc, ◌+◌, ◌-◌, ◌≤◌, ◌<◌, length, get_or, Result, ⊤}
 use Rattle.std.proofs.Common.{sym, ap, ◌∙◌, inl, inr, arith}
 use Rattle.std.proofs.Math.ListN.{length-map}
 use Rattle.base_lists.specs.Below.{Below}
@@ -13,7 +13,7 @@ use Rattle.read_readings.specs.Readings.{readings}
 use Rattle.read_call.specs.Answers.{longest_stream}
 use Rattle.demand_reading.specs.Promises.{Seen, Run}
 use Rattle.demand_reading.specs.Reaching.{Ended}
-use Rattle.index_spec.specs.declared.Answer.{Answer}
+use Rattle.index_spec.specs.declared.IndexRefusal.{IndexRefusal}
 use Rattle.index_spec.specs.declared.Updated.{Updated}
 use Rattle.index_spec.specs.Entries.{most_entries, entry_place, recorded, entries_from}
 use Rattle.index_spec.specs.Updating.{judged_all, last_place, added, update_answer, update_number}
@@ -75,7 +75,7 @@ module _ (key font : List ℕ) (editions : ℕ) (lay : Layout) (s table : List �
   number : update_number r.answer ≡ update_number (update_answer t editions s table count)
   number = ap (λ (x : Updated). update_number x.answer) p.0
 
-  ten-to : (x : Answer) → Case t editions s table count x → update_number x ≡ 10 → TenWhen t s table count
+  ten-to : (x : Result ⊤ IndexRefusal) → Case t editions s table count x → update_number x ≡ 10 → TenWhen t s table count
   ten-to _ (bad-sizes n) e = absurd (omega (arith, e))
   ten-to _ (too_long z n) e = absurd (omega (arith, e))
   ten-to _ (no_room z l n) e = absurd (omega (arith, e))
@@ -84,7 +84,7 @@ module _ (key font : List ℕ) (editions : ℕ) (lay : Layout) (s table : List �
   ten-to _ (full k l n) e = absurd (omega (arith, e))
   ten-to _ (done k l n) e = absurd (omega (arith, e))
 
-  ten-from : TenWhen t s table count → (x : Answer) → Case t editions s table count x → update_number x ≡ 10
+  ten-from : TenWhen t s table count → (x : Result ⊤ IndexRefusal) → Case t editions s table count x → update_number x ≡ 10
   ten-from w _ (bad-sizes n) = absurd (n w.takes.sizes)
   ten-from w _ (too_long z n) = absurd (omega (arith, n, w.takes.short))
   ten-from w _ (no_room z l n) = absurd (omega (arith, n, w.takes.room))
@@ -99,7 +99,7 @@ module _ (key font : List ℕ) (editions : ℕ) (lay : Layout) (s table : List �
     λ w. number ∙ ten-from w (update_answer t editions s table count) (update-case t editions s table count),
   )
 
-  nineteen-to : (x : Answer) → Case t editions s table count x → update_number x ≡ 19 → CountOver t s table count ⊎ WouldBeOver t s table count
+  nineteen-to : (x : Result ⊤ IndexRefusal) → Case t editions s table count x → update_number x ≡ 19 → CountOver t s table count ⊎ WouldBeOver t s table count
   nineteen-to _ (bad-sizes n) e = absurd (omega (arith, e))
   nineteen-to _ (too_long z n) e = absurd (omega (arith, e))
   nineteen-to _ (no_room z l n) e = absurd (omega (arith, e))
@@ -108,7 +108,7 @@ module _ (key font : List ℕ) (editions : ℕ) (lay : Layout) (s table : List �
   nineteen-to _ (full k l n) e = inr (record { takes = k; last-inside = l; more = omega (arith, n, added-count) })
   nineteen-to _ (done k l n) e = absurd (omega (arith, e))
 
-  count-from : CountOver t s table count → (x : Answer) → Case t editions s table count x → update_number x ≡ 19
+  count-from : CountOver t s table count → (x : Result ⊤ IndexRefusal) → Case t editions s table count x → update_number x ≡ 19
   count-from w _ (bad-sizes n) = absurd (n w.sizes)
   count-from w _ (too_long z n) = absurd (omega (arith, n, w.short))
   count-from w _ (no_room z l n) = absurd (omega (arith, n, w.room))
@@ -117,7 +117,7 @@ module _ (key font : List ℕ) (editions : ℕ) (lay : Layout) (s table : List �
   count-from w _ (full k l n) = refl
   count-from w _ (done k l n) = absurd (omega (arith, w.more, k.few))
 
-  full_from : WouldBeOver t s table count → (x : Answer) → Case t editions s table count x → update_number x ≡ 19
+  full_from : WouldBeOver t s table count → (x : Result ⊤ IndexRefusal) → Case t editions s table count x → update_number x ≡ 19
   full_from w _ (bad-sizes n) = absurd (n w.takes.sizes)
   full_from w _ (too_long z n) = absurd (omega (arith, n, w.takes.short))
   full_from w _ (no_room z l n) = absurd (omega (arith, n, w.takes.room))

@@ -8,10 +8,9 @@ pub const MOST_ENTRIES: usize = 512;
 // How many numbers a place is told apart by: an entry is its place times this, plus its number.
 pub const NUMBERS: u32 = 256;
 
-// What bringing a table up to date comes to.
+// Why a table is not brought up to date.
 #[derive(Clone, Copy)]
-pub enum Answer {
-    Done,
+pub enum IndexRefusal {
     // Key or font digest not of their sizes.
     Sizes,
     // A stream that is too long.
@@ -29,6 +28,6 @@ pub enum Answer {
 // That, and the count of the table's entries then; on a refusal as it was handed in.
 #[derive(Clone, Copy)]
 pub struct Updated {
-    pub answer: Answer,
+    pub answer: Result<(), IndexRefusal>,
     pub count: usize,
 }

@@ -1,7 +1,7 @@
 -- Demand 2 in document 01's words, of what the public calls promise (`seal_call`, `open_call`; ingage_call/proofs/Contracts.antt): on bytes, within the
 -- sizes and with room, open answers done exactly when ciphertext and seal are what seal makes of some message, and then gives that message.
 -- `Bytes` is a premise of these lists; that what `open` is passed meets it by its type is `open-bytes` in demand_reading/specs/Bytes.antt. Assumes nothing.
-use Rattle.std.specs.Prelude.{◌≡◌, refl, Bool, true, false, not, cond, ◌↔◌, List, ℕ, ◌≤◌, ltb, length}
+use Rattle.std.specs.Prelude.{◌≡◌, refl, Bool, true, false, not, cond, ◌↔◌, List, ℕ, ◌≤◌, ltb, length, Ok, Err}
 use Rattle.std.proofs.Common.{sym, ap, ◌∙◌, arith}
 use borrow.Author.Tests.{eq-eqb, le-ltb, ltb-false}
 use Rattle.base_lists.specs.Never.{never}
@@ -9,8 +9,7 @@ use Rattle.base_lists.specs.Below.{Below}
 use Rattle.base_lists.specs.Buffers.{over, cleared}
 use Rattle.base_lists.specs.Over.{over-whole}
 use Rattle.ingage_spec.specs.declared.Instance.{Instance}
-use Rattle.ingage_answers.specs.declared.Sealed.TheVariants as sealed
-use Rattle.ingage_answers.specs.declared.Opened.TheVariants as opened
+use Rattle.ingage_answers.specs.declared.OpenRefusal.TheVariants as opened
 use Rattle.ingage_spec.specs.Instances.{Fitting}
 use Rattle.ingage_spec.specs.Cipher.{Work, encrypted, decrypted, accepted}
 use Rattle.ingage_spec.proofs.RoundTrip.{seal-open, exactly, accepted-refl, accepted-eq}
@@ -22,7 +21,7 @@ use Rattle.ingage_answers.specs.Answers.{calls_of, SealCall, seal_call, OpenCall
 abbrev pub Makes : Instance → List ℕ → List ℕ → List ℕ → List ℕ → List ℕ → List ℕ → ℕ → Type 0
 Makes z key nonce A P C T n =
     (out seal : List ℕ) → Below 256 out → Below 256 seal → length out ≡ length C → length seal ≡ length T
-    → seal_call z key nonce A P out seal ≡ record { answer = sealed.Done n; out = C; seal = T }
+    → seal_call z key nonce A P out seal ≡ record { answer = Ok n; out = C; seal = T }
 
 -- key, nonce and seal have their sizes, nothing is too long, and there is room for the text
 pub record Within (z : Instance) (key nonce A text seal out : List ℕ) : Type 0 where
@@ -72,7 +71,7 @@ module _ (z : Instance) (key nonce A text seal out : List ℕ) (w : Within z key
     open-counted = rw (le-ltb z.rate 1 moves, not-long) (sym (open-calls z key nonce A text))
 
   pub sealed-within : seal_call z key nonce A text out seal ≡ record {
-    answer = sealed.Done (encrypted z key nonce A text).calls;
+    answer = Ok (encrypted z key nonce A text).calls;
     out = over (encrypted z key nonce A text).text out;
     seal = (encrypted z key nonce A text).seal;
   }
@@ -80,8 +79,8 @@ module _ (z : Instance) (key nonce A text seal out : List ℕ) (w : Within z key
   sealed-within = rw (sizes-right, not-long, le-ltb (length out) (length text) w.room)
 
   pub opened-within : open_call z key nonce A text seal out ≡ cond (not (accepted (decrypted z key nonce A text).seal seal))
-      (record { answer = opened.Seal (decrypted z key nonce A text).calls; out = cleared (length text) out })
-      (record { answer = opened.Done (decrypted z key nonce A text).calls; out = over (decrypted z key nonce A text).text out })
+      (record { answer = Err (opened.Seal (decrypted z key nonce A text).calls); out = cleared (length text) out })
+      (record { answer = Ok (decrypted z key nonce A text).calls; out = over (decrypted z key nonce A text).text out })
   unfolding open_call
   opened-within = rw (sizes-right, not-long, le-ltb (length out) (length text) w.room)
 
@@ -101,7 +100,7 @@ module _ (z : Instance) (fits : Fitting z) (key nonce A C T out : List ℕ) (w :
 
   made : (P : List ℕ) (n : ℕ) → length P ≡ length C → Makes z key nonce A P C T n → encrypted z key nonce A P ≡ record { text = C; seal = T; calls = n }
   made P n l m =
-      let p : seal_call z key nonce A P C T ≡ record { answer = sealed.Done n; out = C; seal = T } = m C T b.cipher-bytes b.seal-bytes refl refl in
+      let p : seal_call z key nonce A P C T ≡ record { answer = Ok n; out = C; seal = T } = m C T b.cipher-bytes b.seal-bytes refl refl in
       let q = sealed-within z key nonce A P T C (record {
         key-size = w.key-size;
         nonce-size = w.nonce-size;
@@ -120,26 +119,26 @@ module _ (z : Instance) (fits : Fitting z) (key nonce A C T out : List ℕ) (w :
 
   -- where open finds the seal of a message
   opens : (P : List ℕ) (n : ℕ) → encrypted z key nonce A P ≡ record { text = C; seal = T; calls = n }
-      → open_call z key nonce A C T out ≡ record { answer = opened.Done n; out = over P out }
+      → open_call z key nonce A C T out ≡ record { answer = Ok n; out = over P out }
   opens P n e =
       opened-within z key nonce A C T out w
       ∙ rw ((exactly z fits key nonce A w.key-size w.nonce-size P C T n).0 e, accepted-refl T)
 
   -- open gives the message of which seal makes C and T
   pub open_gives : (P : List ℕ) (n : ℕ) → length P ≡ length C → Makes z key nonce A P C T n
-      → open_call z key nonce A C T out ≡ record { answer = opened.Done n; out = over P out }
+      → open_call z key nonce A C T out ≡ record { answer = Ok n; out = over P out }
   open_gives P n l m = opens P n (made P n l m)
 
   -- and answers done only where there is one
-  pub open-found : (n : ℕ) → (open_call z key nonce A C T out).answer ≡ opened.Done n
+  pub open-found : (n : ℕ) → (open_call z key nonce A C T out).answer ≡ Ok n
       → (P : List ℕ) × Below 256 P × (length P ≡ length C) × Makes z key nonce A P C T n
   open-found n e =
       by-seal (accepted (decrypted z key nonce A C).seal T) refl
       (ap (λ (x : OpenCall). x.answer) (sym (opened-within z key nonce A C T out w)) ∙ e)
     where
       by-seal : (t : Bool) → accepted (decrypted z key nonce A C).seal T ≡ t
-          → (cond {A = OpenCall} (not t) (record { answer = opened.Seal (decrypted z key nonce A C).calls; out = cleared (length C) out })
-          (record { answer = opened.Done (decrypted z key nonce A C).calls; out = over (decrypted z key nonce A C).text out })).answer ≡ opened.Done n
+          → (cond {A = OpenCall} (not t) (record { answer = Err (opened.Seal (decrypted z key nonce A C).calls); out = cleared (length C) out })
+          (record { answer = Ok (decrypted z key nonce A C).calls; out = over (decrypted z key nonce A C).text out })).answer ≡ Ok n
           → (P : List ℕ) × Below 256 P × (length P ≡ length C) × Makes z key nonce A P C T n
       by-seal true s d =
           let P : List ℕ = (decrypted z key nonce A C).text in
@@ -154,7 +153,7 @@ module _ (z : Instance) (fits : Fitting z) (key nonce A C T out : List ℕ) (w :
           )
       by-seal false s d = absurd (let i : ◌≡◌ {A = ℕ} 0 1 = cc d in omega arith)
 
-  pub open-exactly : ((n : ℕ) × ((open_call z key nonce A C T out).answer ≡ opened.Done n))
+  pub open-exactly : ((n : ℕ) × ((open_call z key nonce A C T out).answer ≡ Ok n))
       ↔ ((n : ℕ) × (P : List ℕ) × Below 256 P × (length P ≡ length C) × Makes z key nonce A P C T n)
   open-exactly = (
     λ (n, e). let f = open-found n e in (n, f.0, f.1, f.2, f.3),

@@ -1,25 +1,24 @@
 -- The calls with an instance's number: 1 comes before every other refusal, and at a known number what is said over the sizes of an
 -- instance holds (`Exactly`). Assumes nothing.
-use Rattle.std.specs.Prelude.{◌≡◌, List, ℕ}
+use Rattle.std.specs.Prelude.{◌≡◌, List, ℕ, Err, Some, None}
 use Rattle.ingage_spec.specs.declared.Instance.{Instance}
-use Rattle.ingage_spec.specs.declared.Named.TheVariants.{Unknown, Known}
-use Rattle.ingage_answers.specs.declared.Sealed.TheVariants as sealed
-use Rattle.ingage_answers.specs.declared.Opened.TheVariants as opened
+use Rattle.ingage_answers.specs.declared.SealRefusal.TheVariants as sealed
+use Rattle.ingage_answers.specs.declared.OpenRefusal.TheVariants as opened
 use Rattle.ingage_spec.specs.Instances.{named, FIRST, first, first-named}
 use Rattle.ingage_answers.specs.Answers.{seal_call, seal_named, open_call, open_named}
 
 module _ (i : ℕ) (key nonce A text out seal : List ℕ) where
   -- a number that names none is 1, whatever else is wrong
-  pub seal-unnamed : named i ≡ Unknown → seal_named (named i) key nonce A text out seal ≡ record { answer = sealed.Instance; out = out; seal = seal }
+  pub seal-unnamed : named i ≡ None → seal_named (named i) key nonce A text out seal ≡ record { answer = Err sealed.Instance; out = out; seal = seal }
   unfolding seal_named
   seal-unnamed e = rw e
 
-  pub open-unnamed : named i ≡ Unknown → open_named (named i) key nonce A text seal out ≡ record { answer = opened.Instance; out = out }
+  pub open-unnamed : named i ≡ None → open_named (named i) key nonce A text seal out ≡ record { answer = Err opened.Instance; out = out }
   unfolding open_named
   open-unnamed e = rw e
 
   -- else the call is that of the instance
-  module _ (z : Instance) (e : named i ≡ Known z) where
+  module _ (z : Instance) (e : named i ≡ Some z) where
     pub seal-named : seal_named (named i) key nonce A text out seal ≡ seal_call z key nonce A text out seal
     unfolding seal_named
     seal-named = rw e

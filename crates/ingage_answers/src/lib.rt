@@ -13,20 +13,18 @@ const LONGEST_ASSOCIATED: usize = 1024;
 
 const LONGEST_TEXT: usize = 4096;
 
-// Done with so many calls of the permutation, or refused: Instance is a number that names none.
+// Why nothing is sealed: Instance is a number that names none. A seal that is given counts the calls of the permutation.
 #[derive(Clone, Copy)]
-pub enum Sealed {
-    Done(usize),
+pub enum SealRefusal {
     Instance,
     Sizes,
     TooLong,
     NoRoom,
 }
 
-// The same; Seal is a seal that is not the one worked out, with the calls of the finished work.
+// Why nothing is opened: the same, and a seal that is not the one worked out, with the calls of the finished work.
 #[derive(Clone, Copy)]
-pub enum Opened {
-    Done(usize),
+pub enum OpenRefusal {
     Instance,
     Sizes,
     TooLong,
@@ -62,55 +60,49 @@ pub fn calls(z: Instance, assoc: usize, text: usize) -> usize
 const NO_CALLS: usize = 0;
 
 // The number of what `seal` answers.
-pub fn seal_number(answer: Sealed) -> u32
+pub fn seal_number(answer: Result<usize, SealRefusal>) -> u32
     ensures { result ≡ seal_number answer }
 {
     match answer {
-        Sealed::Done(_) => 0,
-        Sealed::Instance => 1,
-        Sealed::Sizes => 2,
-        Sealed::TooLong => 3,
-        Sealed::NoRoom => 4,
+        Ok(_) => 0,
+        Err(SealRefusal::Instance) => 1,
+        Err(SealRefusal::Sizes) => 2,
+        Err(SealRefusal::TooLong) => 3,
+        Err(SealRefusal::NoRoom) => 4,
     }
 }
 
 // The count of what `seal` answers.
-pub fn seal_count(answer: Sealed) -> usize
+pub fn seal_count(answer: Result<usize, SealRefusal>) -> usize
     ensures { result ≡ seal_count answer }
 {
-    match answer {
-        Sealed::Done(calls) => calls,
-        Sealed::Instance => NO_CALLS,
-        Sealed::Sizes => NO_CALLS,
-        Sealed::TooLong => NO_CALLS,
-        Sealed::NoRoom => NO_CALLS,
-    }
+    answer.unwrap_or(NO_CALLS)
 }
 
 // The number of what `open` answers.
-pub fn open_number(answer: Opened) -> u32
+pub fn open_number(answer: Result<usize, OpenRefusal>) -> u32
     ensures { result ≡ open_number answer }
 {
     match answer {
-        Opened::Done(_) => 0,
-        Opened::Instance => 1,
-        Opened::Sizes => 2,
-        Opened::TooLong => 3,
-        Opened::NoRoom => 4,
-        Opened::Seal(_) => 5,
+        Ok(_) => 0,
+        Err(OpenRefusal::Instance) => 1,
+        Err(OpenRefusal::Sizes) => 2,
+        Err(OpenRefusal::TooLong) => 3,
+        Err(OpenRefusal::NoRoom) => 4,
+        Err(OpenRefusal::Seal(_)) => 5,
     }
 }
 
 // The count of what `open` answers.
-pub fn open_count(answer: Opened) -> usize
+pub fn open_count(answer: Result<usize, OpenRefusal>) -> usize
     ensures { result ≡ open_count answer }
 {
     match answer {
-        Opened::Done(calls) => calls,
-        Opened::Instance => NO_CALLS,
-        Opened::Sizes => NO_CALLS,
-        Opened::TooLong => NO_CALLS,
-        Opened::NoRoom => NO_CALLS,
-        Opened::Seal(calls) => calls,
+        Ok(calls) => calls,
+        Err(OpenRefusal::Instance) => NO_CALLS,
+        Err(OpenRefusal::Sizes) => NO_CALLS,
+        Err(OpenRefusal::TooLong) => NO_CALLS,
+        Err(OpenRefusal::NoRoom) => NO_CALLS,
+        Err(OpenRefusal::Seal(calls)) => calls,
     }
 }

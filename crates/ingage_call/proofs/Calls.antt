@@ -1,4 +1,5 @@
 -- The public calls' refusals and what they give when done, from what each step has promised. Assumes nothing.
+use Rattle.std.specs.Prelude.{Ok, Err, Some, None, Option}
 use mathlib.Core.Path.{◌≡◌, refl, sym, ap, ◌∙◌}
 use mathlib.Core.Bool.{Bool, true, false, cond}
 use mathlib.Core.List.{List, append-nil}
@@ -15,10 +16,8 @@ use Rattle.gage_spec.specs.Permutation.{LARGEST}
 use Rattle.gage_sponge.specs.Padding.{block_count}
 use Rattle.gage_sponge.specs.Absorbing.{Run, from}
 use Rattle.ingage_spec.specs.declared.Instance.{Instance}
-use Rattle.ingage_answers.specs.declared.Sealed.TheVariants as sealed
-use Rattle.ingage_answers.specs.declared.Opened.TheVariants as opened
-use Rattle.ingage_spec.specs.declared.Named.{Named}
-use Rattle.ingage_spec.specs.declared.Named.TheVariants.{Unknown, Known}
+use Rattle.ingage_answers.specs.declared.SealRefusal.TheVariants as sealed
+use Rattle.ingage_answers.specs.declared.OpenRefusal.TheVariants as opened
 use Rattle.ingage_spec.specs.Instances.{Fitting, named, named-fits}
 use Rattle.ingage_spec.specs.Cipher.{begun, encrypting, decrypting, finished, seal_of, encrypted, decrypted, accepted}
 use Rattle.ingage_answers.specs.Answers.{sized, too_long, calls_of, SealCall, seal_call, seal_named, OpenCall, open_call, open_named}
@@ -47,31 +46,31 @@ open-met e = (ap (λ (y : OpenCall). y.answer) (sym e), ap (λ (y : OpenCall). y
 module _ (z : Instance) (key nonce A text out seal : List ℕ) where
   -- refusals, in their order
   module _ (wrong : sized z (length key) (length nonce) (length seal) ≡ false) where
-    pub seal-sizes : seal_call z key nonce A text out seal ≡ record { answer = sealed.Sizes; out = out; seal = seal }
+    pub seal-sizes : seal_call z key nonce A text out seal ≡ record { answer = Err sealed.Sizes; out = out; seal = seal }
     unfolding seal_call
     seal-sizes = rw wrong
 
-    pub open-sizes : open_call z key nonce A text seal out ≡ record { answer = opened.Sizes; out = out }
+    pub open-sizes : open_call z key nonce A text seal out ≡ record { answer = Err opened.Sizes; out = out }
     unfolding open_call
     open-sizes = rw wrong
 
   module _ (right : sized z (length key) (length nonce) (length seal) ≡ true) where
     module _ (long : too_long (length A) (length text) ≡ true) where
-      pub seal-long : seal_call z key nonce A text out seal ≡ record { answer = sealed.TooLong; out = out; seal = seal }
+      pub seal-long : seal_call z key nonce A text out seal ≡ record { answer = Err sealed.TooLong; out = out; seal = seal }
       unfolding seal_call
       seal-long = rw (right, long)
 
-      pub open-long : open_call z key nonce A text seal out ≡ record { answer = opened.TooLong; out = out }
+      pub open-long : open_call z key nonce A text seal out ≡ record { answer = Err opened.TooLong; out = out }
       unfolding open_call
       open-long = rw (right, long)
 
     module _ (short : too_long (length A) (length text) ≡ false) where
       module _ (none : length out < length text) where
-        pub seal-room : seal_call z key nonce A text out seal ≡ record { answer = sealed.NoRoom; out = out; seal = seal }
+        pub seal-room : seal_call z key nonce A text out seal ≡ record { answer = Err sealed.NoRoom; out = out; seal = seal }
         unfolding seal_call
         seal-room = rw (right, short, lt-ltb (length out) (length text) none)
 
-        pub open-room : open_call z key nonce A text seal out ≡ record { answer = opened.NoRoom; out = out }
+        pub open-room : open_call z key nonce A text seal out ≡ record { answer = Err opened.NoRoom; out = out }
         unfolding open_call
         open-room = rw (right, short, lt-ltb (length out) (length text) none)
 
@@ -134,7 +133,7 @@ module _ (z : Instance) (fits : Fitting z) (key nonce A text seal out : List ℕ
   pub seal-done : (e : State) (f T out' seal' : List ℕ) (count : ℕ) → told n e ≡ (encrypting R (from (told n s)) text k).run.state
       → out' ≡ over (take (length text) (encrypting R (from (told n s)) text k).text) out
       → take n f ≡ (finished (from (told n e))).state → T ≡ seal_of z (take n f) → seal' ≡ copied T seal → count ≡ calls_of z (length A) (length text)
-      → seal_call z key nonce A text out seal ≡ record { answer = sealed.Done count; out = out'; seal = seal' }
+      → seal_call z key nonce A text out seal ≡ record { answer = Ok count; out = out'; seal = seal' }
   unfolding encrypted finished
   seal-done e f T out' seal' count state write done place put calls =
       let same = encrypting-from R start text k in
@@ -166,13 +165,13 @@ module _ (z : Instance) (fits : Fitting z) (key nonce A text seal out : List ℕ
     counted = calls ∙ open-counted z key nonce A text seal out w fits.moves
 
     pub open_done : accepted T seal ≡ true
-        → open_call z key nonce A text seal out ≡ record { answer = opened.Done count; out = out' }
+        → open_call z key nonce A text seal out ≡ record { answer = Ok count; out = out' }
     open_done t =
         let m : accepted (decrypted z key nonce A text).seal seal ≡ true = rw worked-out at t in
         opened-within z key nonce A text seal out w ∙ rw (m, counted, given)
 
     pub open-wrong : (zeros : List ℕ) → accepted T seal ≡ false → zeros ≡ cleared (length text) out'
-        → open_call z key nonce A text seal out ≡ record { answer = opened.Seal count; out = zeros }
+        → open_call z key nonce A text seal out ≡ record { answer = Err (opened.Seal count); out = zeros }
     open-wrong zeros t e =
         let m : accepted (decrypted z key nonce A text).seal seal ≡ false = rw worked-out at t in
         let b : zeros ≡ cleared (length text) out =
@@ -181,19 +180,19 @@ module _ (z : Instance) (fits : Fitting z) (key nonce A text seal out : List ℕ
         opened-within z key nonce A text seal out w ∙ rw (m, counted, b)
 
 -- what a number is found to name
-module _ (i : ℕ) {r : Named} (found : r ≡ named i) (key nonce A text out seal : List ℕ) where
-  pub seal-unknown : r ≡ Unknown → seal_named (named i) key nonce A text out seal ≡ record { answer = sealed.Instance; out = out; seal = seal }
+module _ (i : ℕ) {r : Option Instance} (found : r ≡ named i) (key nonce A text out seal : List ℕ) where
+  pub seal-unknown : r ≡ None → seal_named (named i) key nonce A text out seal ≡ record { answer = Err sealed.Instance; out = out; seal = seal }
   seal-unknown e = seal-unnamed i key nonce A text out seal (sym found ∙ e)
 
-  pub open_unknown : r ≡ Unknown → open_named (named i) key nonce A text seal out ≡ record { answer = opened.Instance; out = out }
+  pub open_unknown : r ≡ None → open_named (named i) key nonce A text seal out ≡ record { answer = Err opened.Instance; out = out }
   open_unknown e = open-unnamed i key nonce A text out seal (sym found ∙ e)
 
-  module _ {z : Instance} (e : r ≡ Known z) where
+  module _ {z : Instance} (e : r ≡ Some z) where
     pub seal-known : {x : SealCall} → seal_call z key nonce A text out seal ≡ x → seal_named (named i) key nonce A text out seal ≡ x
     seal-known h = seal-named i key nonce A text out seal z (sym found ∙ e) ∙ h
 
     pub open-known : {x : OpenCall} → open_call z key nonce A text seal out ≡ x → open_named (named i) key nonce A text seal out ≡ x
     open-known h = open-named i key nonce A text out seal z (sym found ∙ e) ∙ h
 
-pub fits-known : (i : ℕ) {r : Named} {z : Instance} → r ≡ named i → r ≡ Known z → Fitting z
+pub fits-known : (i : ℕ) {r : Option Instance} {z : Instance} → r ≡ named i → r ≡ Some z → Fitting z
 fits-known i {r} {z} found e = named-fits i z (sym found ∙ e)

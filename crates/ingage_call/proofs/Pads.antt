@@ -33,15 +33,9 @@ end-between R at n end h e = (omega arith, omega arith, omega arith)
 pub cut_short : (k : ℕ) (l : List ℕ) → length (take k l) ≤ k
 cut_short k l = omega (arith, length-take k l)
 
--- the count of blocks and the turns of a loop over them
+-- the count of blocks
 pub most-blocks : (R n : ℕ) → n / R + 1 ≤ n + 1
 most-blocks R n = omega (arith, div-le_self n R)
-
-pub most-turns : (R n i : ℕ) → i < n / R + 1 → i + 1 ≤ n + 1
-most-turns R n i h = omega (arith, div-le_self n R)
-
-pub fewer-turns : (k i : ℕ) → i < k → k - (i + 1) < k - i
-fewer-turns k i h = omega arith
 
 pub block_of : (R : ℕ) (m : List ℕ) (i : ℕ) → 1 ≤ R → R < LARGEST-RATE → i < block_count R m → take R (last_block (piece R m i)) ≡ block R m i
 unfolding piece last_block padded

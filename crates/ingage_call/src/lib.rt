@@ -9,9 +9,9 @@ ghost use Rattle.std.specs.Prelude.{◌≡◌};
 ghost use Rattle.ingage_spec.specs.Instances.{named};
 ghost use Rattle.ingage_answers.specs.Answers.{sized, seal_named, open_named};
 
-use ingage_answers::{Opened, Sealed, is_too_long};
-use ingage_spec::{Instance, Named};
-use texts::Way;
+use ingage_answers::{OpenRefusal, SealRefusal, is_too_long};
+use ingage_spec::Instance;
+use texts::{Cipher, Way};
 
 // Whether key, nonce and seal have the instance's sizes.
 fn is_sized(z: Instance, key: usize, nonce: usize, seal: usize) -> bool
@@ -36,7 +36,7 @@ pub fn seal(
     message: &[u8],
     out: &mut [u8],
     seal: &mut [u8],
-) -> Sealed
+) -> Result<usize, SealRefusal>
     ensures answer { result ≡ (seal_named (named instance) key.now nonce.now assoc.now message.now
         out.old seal.old).answer }
     ensures ciphertext { out.new ≡ (seal_named (named instance) key.now nonce.now assoc.now
@@ -44,23 +44,24 @@ pub fn seal(
     ensures seal { seal.new ≡ (seal_named (named instance) key.now nonce.now assoc.now message.now
         out.old seal.old).seal }
 {
-    let Named::Known(z) = ingage_table::sizes_of(instance) else {
-        return Sealed::Instance;
+    let Some(z) = ingage_table::sizes_of(instance) else {
+        return Err(SealRefusal::Instance);
     };
     if !is_sized(z, key.len(), nonce.len(), seal.len()) {
-        return Sealed::Sizes;
+        return Err(SealRefusal::Sizes);
     }
     if is_too_long(assoc.len(), message.len()) {
-        return Sealed::TooLong;
+        return Err(SealRefusal::TooLong);
     }
     if out.len() < message.len() {
-        return Sealed::NoRoom;
+        return Err(SealRefusal::NoRoom);
     }
-    let s = texts::begin(z, key, nonce, assoc);
-    let e = texts::pass(z, s, Way::Encrypt, message, out);
-    let f = texts::finish(z, e);
-    base_lists::copy(texts::seal_of(z, &f), seal);
-    Sealed::Done(ingage_answers::calls(z, assoc.len(), message.len()))
+    let sealer = Cipher { z };
+    let s = sealer.begin(key, nonce, assoc);
+    let e = sealer.pass(s, Way::Encrypt, message, out);
+    let f = sealer.finish(e);
+    base_lists::copy(sealer.seal_of(&f), seal);
+    Ok(ingage_answers::calls(z, assoc.len(), message.len()))
 }
 
 // Opens a ciphertext at an instance: where its seal is the one worked out, the message goes over the start of out; where it is not, as many bytes of
@@ -73,31 +74,32 @@ pub fn open(
     cipher: &[u8],
     seal: &[u8],
     out: &mut [u8],
-) -> Opened
+) -> Result<usize, OpenRefusal>
     ensures answer { result ≡ (open_named (named instance) key.now nonce.now assoc.now cipher.now
         seal.now out.old).answer }
     ensures message { out.new ≡ (open_named (named instance) key.now nonce.now assoc.now cipher.now
         seal.now out.old).out }
 {
-    let Named::Known(z) = ingage_table::sizes_of(instance) else {
-        return Opened::Instance;
+    let Some(z) = ingage_table::sizes_of(instance) else {
+        return Err(OpenRefusal::Instance);
     };
     if !is_sized(z, key.len(), nonce.len(), seal.len()) {
-        return Opened::Sizes;
+        return Err(OpenRefusal::Sizes);
     }
     if is_too_long(assoc.len(), cipher.len()) {
-        return Opened::TooLong;
+        return Err(OpenRefusal::TooLong);
     }
     if out.len() < cipher.len() {
-        return Opened::NoRoom;
+        return Err(OpenRefusal::NoRoom);
     }
     let count = ingage_answers::calls(z, assoc.len(), cipher.len());
-    let s = texts::begin(z, key, nonce, assoc);
-    let d = texts::pass(z, s, Way::Decrypt, cipher, out);
-    let f = texts::finish(z, d);
-    if !base_lists::compare(texts::seal_of(z, &f), seal) {
+    let opener = Cipher { z };
+    let s = opener.begin(key, nonce, assoc);
+    let d = opener.pass(s, Way::Decrypt, cipher, out);
+    let f = opener.finish(d);
+    if !base_lists::compare(opener.seal_of(&f), seal) {
         base_lists::clear(out, cipher.len());
-        return Opened::Seal(count);
+        return Err(OpenRefusal::Seal(count));
     }
-    Opened::Done(count)
+    Ok(count)
 }

@@ -1,8 +1,8 @@
 // The texts of InGAGE's Algorithms 5 and 6 (ingage_spec/specs/Cipher.antt) over the sizes of an instance. A state stays in planes from block
 // to block. One loop passes the blocks of every text: a block, the last one too, is its
 // piece of the text, padded.
-ghost use Rattle.std.specs.Prelude.{◌≡◌, true, ◌+◌, ◌≤◌, min, length, take};
-ghost use Rattle.gage_spec.specs.Permutation.{permitted};
+ghost use Rattle.std.specs.Prelude.{◌≡◌, ◌+◌, ◌≤◌, min, length, take};
+ghost use Rattle.std.proofs.Props.{props};
 ghost use Rattle.base_lists.specs.Buffers.{over};
 ghost use Rattle.gage_sponge.specs.Padding.{block_count, last_block};
 ghost use Rattle.gage_sponge.specs.Absorbing.{xored, from};
@@ -26,85 +26,12 @@ pub enum Way {
     Decrypt,
 }
 
-// Half the rounds, as after each block.
-fn half(s: State, n: usize) -> State
-    requires { permitted n ≡ true }
-    ensures { told n result ≡ half (told n s) }
-{
-    gage_planes::permuted(s, n, ROUNDS / 2)
-}
-
 // Where the piece of a text that starts at a place ends: a block further, or at the text's end.
 fn end_of(length: usize, at: usize, rate: usize) -> usize
     requires { at ≤ length }
     ensures { result ≡ min (at + rate) length }
 {
-    if length - at < rate {
-        return length;
-    }
-    at + rate
-}
-
-// A block XORed into the state, for the associated data and for both texts: its first bytes, as many as the rate has.
-fn mix_block(z: Instance, s: State, b: [u8; LARGEST_RATE]) -> State
-    requires { Fitting z }
-    ensures { MixedIn (take z.rate b) s result }
-{
-    let rate = z.rate;
-    gage_weave::mix(s, &b[0..rate])
-}
-
-// Step 4 of absorbing, for one piece p of the associated data: its block is XORed in.
-fn absorb_piece(z: Instance, s: State, p: &[u8]) -> State
-    requires { Fitting z }
-    ensures { told z.state result ≡ xored (marked_block z.rate p.now) (told z.state s) }
-{
-    mix_block(z, s, ingage_steps::associated_block(z.rate, p))
-}
-
-// Steps 3 and 4 of encrypting, for one piece p of the message: its ciphertext fills out, and the piece, padded, is XORed in. The piece is
-// shorter than a block only where the message ends, so that out never needs room for the padding.
-fn encrypt_piece(z: Instance, s: State, p: &[u8], out: &mut [u8]) -> State
-    requires { Fitting z × (length p.now ≤ z.rate) × (length out.old ≡ length p.now) }
-    ensures state { told z.state result ≡ xored (take z.rate (last_block p.now)) (told z.state s) }
-    ensures text { out.new ≡ masked p.now (told z.state s) }
-{
-    let x = mix_block(z, s, gage_sponge::last_block(p));
-    gage_weave::tell(x, out);
-    x
-}
-
-// The same for one piece c of the ciphertext: its piece of the message fills out, and is then padded and XORed in from there, as in sealing.
-fn decrypt_piece(z: Instance, s: State, c: &[u8], out: &mut [u8]) -> State
-    requires { Fitting z × (length c.now ≤ z.rate) × (length out.old ≡ length c.now) }
-    ensures state { told z.state result ≡ xored (take z.rate (last_block (masked c.now (told z.state s)))) (told z.state s) }
-    ensures text { out.new ≡ masked c.now (told z.state s) }
-{
-    let m = gage_weave::mix(s, c);
-    gage_weave::tell(m, out);
-    mix_block(z, s, gage_sponge::last_block(out))
-}
-
-// One piece of a text, XORed in the way its text goes.
-fn mix_piece(z: Instance, s: State, way: Way, p: &[u8], out: &mut [u8]) -> State
-    requires { Fitting z × (length p.now ≤ z.rate) × (length out.old ≡ given way (length p.now)) }
-    ensures state { told z.state result ≡ xored (piece_block way z.rate p.now (told z.state s)) (told z.state s) }
-    ensures text { out.new ≡ piece_text way p.now (told z.state s) }
-{
-    match way {
-        Way::Absorb => absorb_piece(z, s, p),
-        Way::Encrypt => encrypt_piece(z, s, p, out),
-        Way::Decrypt => decrypt_piece(z, s, p, out),
-    }
-}
-
-// The same, and the permutation after it: the one place where half the rounds run.
-fn pass_piece(z: Instance, s: State, way: Way, p: &[u8], out: &mut [u8]) -> State
-    requires { Fitting z × (length p.now ≤ z.rate) × (length out.old ≡ given way (length p.now)) }
-    ensures state { told z.state result ≡ (passed (piece_block way z.rate p.now (told z.state s)) (from (told z.state s))).state }
-    ensures text { out.new ≡ piece_text way p.now (told z.state s) }
-{
-    half(mix_piece(z, s, way, p, out), z.state)
+    at + rate.min(length - at)
 }
 
 // How much has been given out where a text was passed up to a place: of associated data nothing is.
@@ -118,75 +45,146 @@ fn given(way: Way, at: usize) -> usize
     }
 }
 
-// A text passed block by block, the associated data, a message or a ciphertext: what is given out goes over the start of out.
-pub fn pass(z: Instance, s: State, way: Way, text: &[u8], out: &mut [u8]) -> State
-    requires { Fitting z × (given way (length text.now) ≤ length out.old) }
-    ensures state { told z.state result ≡ (flow way z (from (told z.state s)) text.now
-        (block_count z.rate text.now)).run.state }
-    ensures text { out.new ≡ over (flow way z (from (told z.state s)) text.now (block_count z.rate text.now)).text
-        out.old }
-{
-    let rate = z.rate;
-    let count = text.len() / rate + 1;
-    let mut r = s;
-    let mut i = 0;
-    while i < count {
-        let at = i * rate;
-        let end = end_of(text.len(), at, rate);
-        let from = given(way, at);
-        let to = given(way, end);
-        let next = pass_piece(z, r, way, &text[at..end], &mut out[from..to]);
-        r = next;
-        i += 1;
+// The cipher at an instance whose sizes fit together.
+#[derive(Clone, Copy)]
+pub struct Cipher {
+    pub z: Instance,
+    ghost fits: { Fitting z } by { Prim.hlevel props },
+}
+
+impl Cipher {
+    // Half the rounds, as after each block.
+    fn half(self, s: State) -> State
+        ensures { told self.z.state result ≡ half (told self.z.state s) }
+    {
+        gage_planes::permuted(s, self.z.state, ROUNDS / 2)
     }
-    r
-}
 
-// 'Absorb associated data A'.
-fn absorb(z: Instance, s: State, assoc: &[u8]) -> State
-    requires { Fitting z }
-    ensures { told z.state result ≡ (absorbed z (from (told z.state s)) assoc.now).state }
-{
-    let mut nothing = [0u8; 0];
-    let r = pass(z, s, Way::Absorb, assoc, &mut nothing);
-    ingage_steps::after_associated(r, z.state)
-}
+    // A block XORed into the state, for the associated data and for both texts: its first bytes, as many as the rate has.
+    fn mix_block(self, s: State, b: [u8; LARGEST_RATE]) -> State
+        ensures { MixedIn (take self.z.rate b) s result }
+    {
+        let rate = self.z.rate;
+        gage_weave::mix(s, &b[0..rate])
+    }
 
-// The first bytes of an array woven, as many as the instance's state has.
-fn woven(z: Instance, s: [u8; LARGEST]) -> State
-    requires { Fitting z }
-    ensures { told z.state result ≡ take z.state s }
-{
-    let n = z.state;
-    let bytes = s;
-    gage_weave::weave(&bytes[0..n])
-}
+    // Step 4 of absorbing, for one piece p of the associated data: its block is XORed in.
+    fn absorb_piece(self, s: State, p: &[u8]) -> State
+        ensures { told self.z.state result ≡ xored (marked_block self.z.rate p.now) (told self.z.state s) }
+    {
+        self.mix_block(s, ingage_steps::associated_block(self.z.rate, p))
+    }
 
-// The state when the message comes: 'Initialize state S', then the associated data.
-pub fn begin(z: Instance, key: &[u8], nonce: &[u8], assoc: &[u8]) -> State
-    requires { Fitting z × (length key.now ≡ z.key) × (length nonce.now ≡ z.nonce) }
-    ensures { told z.state result ≡ (begun z key.now nonce.now assoc.now).state }
-{
-    absorb(z, woven(z, ingage_steps::start(z, key, nonce)), assoc)
-}
+    // Steps 3 and 4 of encrypting, for one piece p of the message: its ciphertext fills out, and the piece, padded, is XORed in. The piece is
+    // shorter than a block only where the message ends, so that out never needs room for the padding.
+    fn encrypt_piece(self, s: State, p: &[u8], out: &mut [u8]) -> State
+        requires { (length p.now ≤ self.z.rate) × (length out.old ≡ length p.now) }
+        ensures state { told self.z.state result ≡ xored (take self.z.rate (last_block p.now)) (told self.z.state s) }
+        ensures text { out.new ≡ masked p.now (told self.z.state s) }
+    {
+        let x = self.mix_block(s, gage_sponge::last_block(p));
+        gage_weave::tell(x, out);
+        x
+    }
 
-// The step before 'Finalization', and its step 1: the bytes of the finished state, and some behind them that mean nothing.
-pub fn finish(z: Instance, s: State) -> [u8; LARGEST]
-    requires { Fitting z }
-    ensures { take z.state result ≡ (finished (from (told z.state s))).state }
-{
-    let f = ingage_steps::finish(s, z.state);
-    let mut out = [0u8; LARGEST];
-    gage_weave::tell(f, &mut out);
-    out
-}
+    // The same for one piece c of the ciphertext: its piece of the message fills out, and is then padded and XORed in from there, as in sealing.
+    fn decrypt_piece(self, s: State, c: &[u8], out: &mut [u8]) -> State
+        requires { (length c.now ≤ self.z.rate) × (length out.old ≡ length c.now) }
+        ensures state { told self.z.state result ≡ xored (take self.z.rate (last_block (masked c.now (told self.z.state s)))) (told self.z.state s) }
+        ensures text { out.new ≡ masked c.now (told self.z.state s) }
+    {
+        let m = gage_weave::mix(s, c);
+        gage_weave::tell(m, out);
+        self.mix_block(s, gage_sponge::last_block(out))
+    }
 
-// 'Finalization', step 2: the part of a finished state that is the seal.
-pub fn seal_of(z: Instance, s: &[u8]) -> &[u8]
-    requires { Fitting z × (z.state ≤ length s.now) }
-    ensures { result.now ≡ seal_of z (take z.state s.now) }
-{
-    let from = z.rate;
-    let to = from + z.seal;
-    &s[from..to]
+    // One piece of a text, XORed in the way its text goes.
+    fn mix_piece(self, s: State, way: Way, p: &[u8], out: &mut [u8]) -> State
+        requires { (length p.now ≤ self.z.rate) × (length out.old ≡ given way (length p.now)) }
+        ensures state { told self.z.state result ≡ xored (piece_block way self.z.rate p.now (told self.z.state s)) (told self.z.state s) }
+        ensures text { out.new ≡ piece_text way p.now (told self.z.state s) }
+    {
+        match way {
+            Way::Absorb => self.absorb_piece(s, p),
+            Way::Encrypt => self.encrypt_piece(s, p, out),
+            Way::Decrypt => self.decrypt_piece(s, p, out),
+        }
+    }
+
+    // The same, and the permutation after it: the one place where half the rounds run.
+    fn pass_piece(self, s: State, way: Way, p: &[u8], out: &mut [u8]) -> State
+        requires { (length p.now ≤ self.z.rate) × (length out.old ≡ given way (length p.now)) }
+        ensures state { told self.z.state result ≡ (passed (piece_block way self.z.rate p.now (told self.z.state s)) (from (told self.z.state s))).state }
+        ensures text { out.new ≡ piece_text way p.now (told self.z.state s) }
+    {
+        self.half(self.mix_piece(s, way, p, out))
+    }
+
+    // A text passed block by block, the associated data, a message or a ciphertext: what is given out goes over the start of out.
+    pub fn pass(self, s: State, way: Way, text: &[u8], out: &mut [u8]) -> State
+        requires { given way (length text.now) ≤ length out.old }
+        ensures state { told self.z.state result ≡ (flow way self.z (from (told self.z.state s)) text.now
+            (block_count self.z.rate text.now)).run.state }
+        ensures text { out.new ≡ over (flow way self.z (from (told self.z.state s)) text.now (block_count self.z.rate text.now)).text
+            out.old }
+    {
+        let rate = self.z.rate;
+        let count = text.len() / rate + 1;
+        let mut r = s;
+        for i in 0..count {
+            let at = i * rate;
+            let end = end_of(text.len(), at, rate);
+            let from = given(way, at);
+            let to = given(way, end);
+            let next = self.pass_piece(r, way, &text[at..end], &mut out[from..to]);
+            r = next;
+        }
+        r
+    }
+
+    // 'Absorb associated data A'.
+    fn absorb(self, s: State, assoc: &[u8]) -> State
+        ensures { told self.z.state result ≡ (absorbed self.z (from (told self.z.state s)) assoc.now).state }
+    {
+        let mut nothing = [0u8; 0];
+        let r = self.pass(s, Way::Absorb, assoc, &mut nothing);
+        ingage_steps::after_associated(r, self.z.state)
+    }
+
+    // The first bytes of an array woven, as many as the instance's state has.
+    fn woven(self, s: [u8; LARGEST]) -> State
+        ensures { told self.z.state result ≡ take self.z.state s }
+    {
+        let n = self.z.state;
+        let bytes = s;
+        gage_weave::weave(&bytes[0..n])
+    }
+
+    // The state when the message comes: 'Initialize state S', then the associated data.
+    pub fn begin(self, key: &[u8], nonce: &[u8], assoc: &[u8]) -> State
+        requires { (length key.now ≡ self.z.key) × (length nonce.now ≡ self.z.nonce) }
+        ensures { told self.z.state result ≡ (begun self.z key.now nonce.now assoc.now).state }
+    {
+        self.absorb(self.woven(ingage_steps::start(self.z, key, nonce)), assoc)
+    }
+
+    // The step before 'Finalization', and its step 1: the bytes of the finished state, and some behind them that mean nothing.
+    pub fn finish(self, s: State) -> [u8; LARGEST]
+        ensures { take self.z.state result ≡ (finished (from (told self.z.state s))).state }
+    {
+        let f = ingage_steps::finish(s, self.z.state);
+        let mut out = [0u8; LARGEST];
+        gage_weave::tell(f, &mut out);
+        out
+    }
+
+    // 'Finalization', step 2: the part of a finished state that is the seal.
+    pub fn seal_of(self, s: &[u8]) -> &[u8]
+        requires { self.z.state ≤ length s.now }
+        ensures { result.now ≡ seal_of self.z (take self.z.state s.now) }
+    {
+        let from = self.z.rate;
+        let to = from + self.z.seal;
+        &s[from..to]
+    }
 }

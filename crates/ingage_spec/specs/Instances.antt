@@ -1,5 +1,6 @@
 -- The instances of InGAGE (document 000, Table 2.1), one row each, and the rule that every row keeps, by which the cipher's steps fit
 -- its state: one test computed over the whole table. Assumes nothing.
+use Rattle.std.specs.Prelude.{Some, None, Option}
 use Rattle.std.specs.Prelude.{ℕ, suc, ◌+◌, ◌-◌, ◌*◌, ◌/◌, ◌≤◌, ◌<◌, ◌≡◌, refl, Bool, true, false, cond, List, [], ◌∷◌, T, leb, ltb, length, get_or, replicate}
 use Rattle.std.proofs.Common.{arith, subst, leb→le, ltb→lt, ltb-false}
 use Rattle.base_lists.specs.Buffers.{same}
@@ -9,8 +10,6 @@ use Rattle.gage_spec.specs.Permutation.{LARGEST, among, permitted}
 use Rattle.gage_spec.specs.Tables.{is_true, permitted-size}
 use Rattle.gage_sponge.specs.Padding.{LARGEST-RATE}
 use Rattle.ingage_spec.specs.declared.Instance.{Instance}
-use Rattle.ingage_spec.specs.declared.Named.{Named}
-use Rattle.ingage_spec.specs.declared.Named.TheVariants.{Unknown, Known}
 
 -- the bits of a byte
 abbrev pub BYTE : ℕ
@@ -45,8 +44,8 @@ row_of i = get_or instances (i - 1) []
 unfoldable pub instance_of : ℕ → Instance
 instance_of i = in_bytes (row_of i)
 
-unfoldable pub named : ℕ → Named
-named i = cond (unknown i) Unknown (Known (instance_of i))
+unfoldable pub named : ℕ → Option Instance
+named i = cond (unknown i) None (Some (instance_of i))
 
 -- the first, by which frames are sealed
 abbrev pub FIRST : ℕ
@@ -125,16 +124,16 @@ known-whole i e =
     same-eq (in_bits (instance_of i)) (row_of i) (is_true (same (in_bits (instance_of i)) (row_of i)) t)
 
 -- and so does every instance that a number names
-pub named-fits : (i : ℕ) (z : Instance) → named i ≡ Known z → Fitting z
+pub named-fits : (i : ℕ) (z : Instance) → named i ≡ Some z → Fitting z
 unfolding named
 named-fits i z e = by (unknown i) refl e
   where
-    by : (b : Bool) → unknown i ≡ b → cond b Unknown (Known (instance_of i)) ≡ Known z → Fitting z
+    by : (b : Bool) → unknown i ≡ b → cond b None (Some (instance_of i)) ≡ Some z → Fitting z
     by true h g = absurd (let z : ◌≡◌ {A = ℕ} 0 1 = cc g in omega arith)
     by false h g = let e : instance_of i ≡ z = cc g in rw (← e) (known-fits i h)
 
 -- the first row
-pub first-named : named FIRST ≡ Known first
+pub first-named : named FIRST ≡ Some first
 unfolding named unknown instance_of
 first-named = refl
 

@@ -12,10 +12,3 @@ pub struct Instance {
     pub state: usize,
     pub rate: usize,
 }
-
-// What a number names: no instance, or one with its sizes.
-#[derive(Clone, Copy)]
-pub enum Named {
-    Unknown,
-    Known(Instance),
-}

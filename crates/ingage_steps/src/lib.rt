@@ -21,6 +21,7 @@ const AFTER_ASSOCIATED: u8 = 0x01;
 const AFTER_MESSAGE: u8 = 0x02;
 
 // All rounds of the permutation on the first n bytes of s.
+#[tactic(auto, unfolding(crate::specs::Arrays::whole_of))]
 fn whole(s: [u8; LARGEST], n: usize) -> [u8; LARGEST]
     ensures { result ≡ whole_of n s }
 {
@@ -57,6 +58,7 @@ fn put(s: [u8; LARGEST], at: usize, b: &[u8]) -> [u8; LARGEST]
 
 // 'Initialize state S': N||K||0* permuted, and 0||K||0* XORed in. N||K||0* is 0||K||0*, which is needed again after the permutation, with
 // the nonce put in front.
+#[tactic(auto, unfolding(crate::specs::Arrays::start_of))]
 pub fn start(z: Instance, key: &[u8], nonce: &[u8]) -> [u8; LARGEST]
     ensures { result ≡ start_of z key.now nonce.now }
 {
@@ -83,6 +85,7 @@ pub fn associated_block(rate: usize, p: &[u8]) -> [u8; LARGEST_RATE]
 }
 
 // v XORed into the last byte of a state of n bytes.
+#[tactic(auto, unfolding(crate::specs::Arrays::last_mixed))]
 fn mark(t: State, n: usize, v: u8) -> State
     ensures { result ≡ last_mixed v n t }
 {
@@ -98,6 +101,7 @@ pub fn after_associated(t: State, n: usize) -> State
 }
 
 // The step before 'Finalization', and its step 1.
+#[tactic(auto, unfolding(crate::specs::Arrays::finish_of))]
 pub fn finish(t: State, n: usize) -> State
     ensures { result ≡ finish_of n t }
 {

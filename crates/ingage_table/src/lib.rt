@@ -4,7 +4,7 @@
 ghost use Rattle.std.specs.Prelude.{◌≡◌};
 ghost use Rattle.ingage_spec.specs.Instances.{named};
 
-use ingage_spec::{Instance, Named};
+use ingage_spec::Instance;
 
 // The bits of a byte.
 const BYTE: usize = 8;
@@ -22,18 +22,18 @@ const INSTANCES: [[usize; 5]; INSTANCE_COUNT] = [
 ];
 
 // The instance that a number names, with its sizes: instances are counted from 1.
-pub fn sizes_of(instance: usize) -> Named
+pub fn sizes_of(instance: usize) -> Option<Instance>
     ensures { result ≡ named instance }
 {
     if instance < 1 {
-        return Named::Unknown;
+        return None;
     }
     if instance > INSTANCE_COUNT {
-        return Named::Unknown;
+        return None;
     }
     let rows = INSTANCES;
     let row = rows[instance - 1];
-    Named::Known(Instance {
+    Some(Instance {
         key: row[0] / BYTE,
         nonce: row[1] / BYTE,
         seal: row[2] / BYTE,

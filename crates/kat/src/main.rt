@@ -4,10 +4,8 @@
 
 ghost use Rattle.std.specs.Prelude.{◌≤◌, length};
 
-use base_hex::Digit;
-use digest_call::{DIGEST, Digested};
-use ingage_answers::Sealed;
-use ingage_spec::{Instance, Named};
+use digest_call::DIGEST;
+use ingage_spec::Instance;
 
 // The longest message of a hash file, and the longest text and associated data of an aead file, in bytes.
 const LONGEST_MESSAGE: usize = 1024;
@@ -20,17 +18,16 @@ const SEAL: usize = 16;
 // The longest word that is looked at.
 const WORD: usize = 8;
 
-// How an entry ended: written whole, or standard output did not take it, or there is nothing to write for what was asked.
+// Why a file is not written whole: standard output does not take it, or there is nothing to write for what was asked.
 #[derive(Clone, Copy)]
-pub enum Entry {
-    Written,
+pub enum Fault {
     Unwritten,
     Unknown,
 }
 
-// Each of these answers false where standard output does not take it whole: a file with a hole in it is no file of known answers.
-fn say(rt: &impl Print, text: &[u8]) -> bool {
-    rt.write_all(text).is_ok()
+// Each of these fails where standard output does not take it whole: a file with a hole in it is no file of known answers.
+fn say(rt: &impl Print, text: &[u8]) -> Result<(), Fault> {
+    rt.write_all(text).map_err(|_| Fault::Unwritten)
 }
 
 fn complain(rt: &impl Eprint, text: &str) {
@@ -38,45 +35,28 @@ fn complain(rt: &impl Eprint, text: &str) {
 }
 
 // Upper-case hexadecimal digits of at most LONGEST_MESSAGE bytes.
-fn hex(rt: &impl Print, value: &[u8]) -> bool {
+fn hex(rt: &impl Print, value: &[u8]) -> Result<(), Fault> {
     let mut digits = [0u8; 2 * LONGEST_MESSAGE];
     let n = base_hex::put_hex(value, &mut digits);
     // Never: no more digits are put than there is room for.
     if n > digits.len() {
-        return false;
+        return Err(Fault::Unwritten);
     }
-    say(rt, &digits[0..n])
+    say(rt, &digits[..n])
 }
 
 // One value: its name, ` = `, and the digits.
-fn row(rt: &impl Print, name: &[u8], value: &[u8]) -> bool {
-    if !say(rt, name) {
-        return false;
-    }
-    if !say(rt, b" = ") {
-        return false;
-    }
-    if !hex(rt, value) {
-        return false;
-    }
+fn row(rt: &impl Print, name: &[u8], value: &[u8]) -> Result<(), Fault> {
+    say(rt, name)?;
+    say(rt, b" = ")?;
+    hex(rt, value)?;
     say(rt, b"\n")
 }
 
-fn count(rt: &impl Print, n: usize) -> bool {
-    if !say(rt, b"Count = ") {
-        return false;
-    }
-    if rt.print(n).is_err() {
-        return false;
-    }
+fn count(rt: &impl Print, n: usize) -> Result<(), Fault> {
+    say(rt, b"Count = ")?;
+    rt.print(n).map_err(|_| Fault::Unwritten)?;
     say(rt, b"\n")
-}
-
-fn written_if(whole: bool) -> Entry {
-    if whole {
-        return Entry::Written;
-    }
-    Entry::Unwritten
 }
 
 // 00 01 02 ..
@@ -87,38 +67,33 @@ fn ramp() -> [u8; LONGEST_MESSAGE] {
 }
 
 // The rows of an entry of a hash file.
-fn hash_rows(rt: &impl Print, number: usize, message: &[u8], digest: &[u8]) -> bool {
-    if !count(rt, number) {
-        return false;
-    }
-    if !row(rt, b"Msg", message) {
-        return false;
-    }
-    if !row(rt, b"MD", digest) {
-        return false;
-    }
+fn hash_rows(rt: &impl Print, number: usize, message: &[u8], digest: &[u8]) -> Result<(), Fault> {
+    count(rt, number)?;
+    row(rt, b"Msg", message)?;
+    row(rt, b"MD", digest)?;
     say(rt, b"\n")
 }
 
 // One entry of a hash file.
-fn hash_entry(rt: &impl Print, instance: usize, number: usize, message: &[u8]) -> Entry {
+fn hash_entry(
+    rt: &impl Print,
+    instance: usize,
+    number: usize,
+    message: &[u8],
+) -> Result<(), Fault> {
     let mut out = [0u8; DIGEST];
-    match digest_call::digest(instance, message, &mut out) {
-        Digested::Done(_) => written_if(hash_rows(rt, number, message, &out)),
-        _ => Entry::Unknown,
-    }
+    let Ok(_) = digest_call::digest(instance, message, &mut out) else {
+        return Err(Fault::Unknown);
+    };
+    hash_rows(rt, number, message, &out)
 }
 
-fn hash(rt: &impl Print, instance: usize) -> Entry {
+fn hash(rt: &impl Print, instance: usize) -> Result<(), Fault> {
     let bytes = ramp();
     for n in 0..LONGEST_MESSAGE + 1 {
-        match hash_entry(rt, instance, n + 1, &bytes[0..n]) {
-            Entry::Written => {}
-            Entry::Unwritten => return Entry::Unwritten,
-            Entry::Unknown => return Entry::Unknown,
-        }
+        hash_entry(rt, instance, n + 1, &bytes[..n])?;
     }
-    Entry::Written
+    Ok(())
 }
 
 // What an entry of an aead file seals.
@@ -129,33 +104,19 @@ fn sealed_of(
     nonce: &[u8],
     message: &[u8],
     associated: &[u8],
-) -> bool {
-    if !count(rt, number) {
-        return false;
-    }
-    if !row(rt, b"Key", key) {
-        return false;
-    }
-    if !row(rt, b"Nonce", nonce) {
-        return false;
-    }
-    if !row(rt, b"PT", message) {
-        return false;
-    }
+) -> Result<(), Fault> {
+    count(rt, number)?;
+    row(rt, b"Key", key)?;
+    row(rt, b"Nonce", nonce)?;
+    row(rt, b"PT", message)?;
     row(rt, b"AD", associated)
 }
 
 // The seal stands after the ciphertext.
-fn sealed_to(rt: &impl Print, cipher: &[u8], seal: &[u8]) -> bool {
-    if !say(rt, b"CT = ") {
-        return false;
-    }
-    if !hex(rt, cipher) {
-        return false;
-    }
-    if !hex(rt, seal) {
-        return false;
-    }
+fn sealed_to(rt: &impl Print, cipher: &[u8], seal: &[u8]) -> Result<(), Fault> {
+    say(rt, b"CT = ")?;
+    hex(rt, cipher)?;
+    hex(rt, seal)?;
     say(rt, b"\n\n")
 }
 
@@ -169,18 +130,14 @@ fn sealed_entry(
     message: &[u8],
     associated: &[u8],
     out: &mut [u8],
-) -> Entry {
+) -> Result<(), Fault> {
     let mut seal = [0u8; SEAL];
-    match ingage_call::seal(instance, key, nonce, associated, message, out, &mut seal) {
-        Sealed::Done(_) => {
-            if !sealed_of(rt, number, key, nonce, message, associated) {
-                return Entry::Unwritten;
-            }
-            written_if(sealed_to(rt, out, &seal))
-        }
-        // Never: sizes, lengths and room are right here.
-        _ => Entry::Unknown,
-    }
+    // Never refused: sizes, lengths and room are right here.
+    let Ok(_) = ingage_call::seal(instance, key, nonce, associated, message, out, &mut seal) else {
+        return Err(Fault::Unknown);
+    };
+    sealed_of(rt, number, key, nonce, message, associated)?;
+    sealed_to(rt, out, &seal)
 }
 
 fn aead_entry(
@@ -191,12 +148,12 @@ fn aead_entry(
     nonce: &[u8],
     message: &[u8],
     associated: &[u8],
-) -> Entry {
+) -> Result<(), Fault> {
     let mut out = [0u8; LONGEST_TEXT];
     let p = message.len();
     // Never: no text of the file is longer.
     if p > LONGEST_TEXT {
-        return Entry::Unknown;
+        return Err(Fault::Unknown);
     }
     sealed_entry(
         rt,
@@ -206,7 +163,7 @@ fn aead_entry(
         nonce,
         message,
         associated,
-        &mut out[0..p],
+        &mut out[..p],
     )
 }
 
@@ -218,63 +175,58 @@ fn counted_entry(
     bytes: &[u8],
     p: usize,
     a: usize,
-) -> Entry
+) -> Result<(), Fault>
     requires { (p ≤ 32) × (a ≤ 32) × (32 ≤ length bytes.now) }
 {
     let k = z.key;
     let n = z.nonce;
     // Never: key and nonce of every instance are no longer than the longest text.
-    if k > LONGEST_TEXT {
-        return Entry::Unknown;
-    }
-    if n > LONGEST_TEXT {
-        return Entry::Unknown;
+    if k > LONGEST_TEXT || n > LONGEST_TEXT {
+        return Err(Fault::Unknown);
     }
     aead_entry(
         rt,
         instance,
         p * (LONGEST_TEXT + 1) + a + 1,
-        &bytes[0..k],
-        &bytes[0..n],
-        &bytes[0..p],
-        &bytes[0..a],
+        &bytes[..k],
+        &bytes[..n],
+        &bytes[..p],
+        &bytes[..a],
     )
 }
 
 // The entries of one text, over every length of associated data.
-fn aead_text(rt: &impl Print, instance: usize, z: Instance, bytes: &[u8], p: usize) -> Entry
+fn aead_text(
+    rt: &impl Print,
+    instance: usize,
+    z: Instance,
+    bytes: &[u8],
+    p: usize,
+) -> Result<(), Fault>
     requires { (p ≤ 32) × (32 ≤ length bytes.now) }
 {
     for a in 0..LONGEST_TEXT + 1 {
-        match counted_entry(rt, instance, z, bytes, p, a) {
-            Entry::Written => {}
-            Entry::Unwritten => return Entry::Unwritten,
-            Entry::Unknown => return Entry::Unknown,
-        }
+        counted_entry(rt, instance, z, bytes, p, a)?;
     }
-    Entry::Written
+    Ok(())
 }
 
-fn aead(rt: &impl Print, instance: usize) -> Entry {
-    let Named::Known(z) = ingage_table::sizes_of(instance) else {
-        return Entry::Unknown;
+fn aead(rt: &impl Print, instance: usize) -> Result<(), Fault> {
+    let Some(z) = ingage_table::sizes_of(instance) else {
+        return Err(Fault::Unknown);
     };
     let bytes = ramp();
     for p in 0..LONGEST_TEXT + 1 {
-        match aead_text(rt, instance, z, &bytes, p) {
-            Entry::Written => {}
-            Entry::Unwritten => return Entry::Unwritten,
-            Entry::Unknown => return Entry::Unknown,
-        }
+        aead_text(rt, instance, z, &bytes, p)?;
     }
-    Entry::Written
+    Ok(())
 }
 
 // A number of one or two digits; 0 where it is none.
 fn number(word: &[u8]) -> usize {
     let mut n: usize = 0;
     for c in word {
-        let Digit::Value(v) = base_hex::value(*c) else {
+        let Some(v) = base_hex::value(*c) else {
             return 0;
         };
         if v > 9 {
@@ -288,12 +240,12 @@ fn number(word: &[u8]) -> usize {
     n
 }
 
-// What the last entry says of the file.
-fn ended(rt: &impl Eprint, last: Entry) {
-    match last {
-        Entry::Written => {}
-        Entry::Unwritten => complain(rt, "kat: not written whole\n"),
-        Entry::Unknown => complain(rt, "kat: no such instance\n"),
+// What the file's writing says of it.
+fn ended(rt: &impl Eprint, written: Result<(), Fault>) {
+    match written {
+        Ok(()) => {}
+        Err(Fault::Unwritten) => complain(rt, "kat: not written whole\n"),
+        Err(Fault::Unknown) => complain(rt, "kat: no such instance\n"),
     }
 }
 

@@ -1,5 +1,5 @@
 -- The rule of a line in one pass over its bytes, as `judge_line` goes, and that it finds what the rule says. Assumes nothing.
-use Rattle.std.specs.Prelude.{◌≡◌, Bool, not, cond, List, [], ◌∷◌, ltb}
+use Rattle.std.specs.Prelude.{◌≡◌, Bool, not, cond, List, [], ◌∷◌, ltb, Ok, Err, Result, ⊤}
 use Rattle.std.proofs.Math.Path.{refl}
 use Rattle.std.proofs.Common.{sym, ap, ◌∙◌}
 use Rattle.std.proofs.Math.Bool.{true, false}
@@ -9,8 +9,8 @@ use Rattle.std.proofs.Math.Dec.{eqb}
 use Rattle.std.proofs.Math.ListN.{length}
 use borrow.Author.Tests.{eqb-true, eqb-false, eq-eqb, ne_eqb, ltb-false}
 use Rattle.base_lists.specs.Never.{never}
-use Rattle.line_spec.specs.declared.TradeJudged.{TradeJudged}
-use Rattle.line_spec.specs.declared.TradeJudged.TheVariants.{Accepted, Unlisted, Trade}
+use Rattle.line_spec.specs.declared.TradeFault.{TradeFault}
+use Rattle.line_spec.specs.declared.TradeFault.TheVariants.{Unlisted, Trade}
 use Rattle.line_judge.specs.declared.Met.{Met}
 use Rattle.line_judge.specs.declared.Met.TheVariants.{Nothing, Digit, Inside, Closed, Broken}
 use Rattle.line_spec.specs.Lines.{is_listed, is_digit, is_transit, nine, all_listed, any_digit, all_digits, transits, before, transits_right, is_trade, line_rule}
@@ -46,17 +46,17 @@ unfoldable pub passing : Met → ℕ → Met
 passing m b = cond (is_transit b) (at_transit m) (cond (is_digit b) (at_digit m) (at_other m))
 
 -- what a line of listed bytes is found to be, at its end
-abbrev pub judged_by : Met → TradeJudged
-judged_by Nothing = Trade
-judged_by Digit = Accepted
-judged_by (Inside n) = Trade
-judged_by Closed = Accepted
-judged_by Broken = Trade
+abbrev pub judged_by : Met → Result ⊤ TradeFault
+judged_by Nothing = Err Trade
+judged_by Digit = Ok tt
+judged_by (Inside n) = Err Trade
+judged_by Closed = Ok tt
+judged_by Broken = Err Trade
 
 -- the bytes that are left, once the others are passed
-unfoldable pub passed : Met → List ℕ → TradeJudged
+unfoldable pub passed : Met → List ℕ → Result ⊤ TradeFault
 passed m [] = judged_by m
-passed m (b ∷ s) = cond (is_listed b) (passed (passing m b) s) Unlisted
+passed m (b ∷ s) = cond (is_listed b) (passed (passing m b) s) (Err Unlisted)
 
 -- what the rule asks of the bytes that are left behind the first transit symbol and n digits
 closing : ℕ → List ℕ → Bool
@@ -195,8 +195,8 @@ module _ (b : ℕ) (s : List ℕ) where
       go false p false q = other_step m p q
 
 -- 9, over the whole line, then 13
-found : Bool → Bool → TradeJudged
-found listed right = cond (not listed) Unlisted (cond (not right) Trade Accepted)
+found : Bool → Bool → Result ⊤ TradeFault
+found listed right = cond (not listed) (Err Unlisted) (cond (not right) (Err Trade) (Ok tt))
 
 none_left : (m : Met) → judged_by m ≡ found true (left m [])
 unfolding found is_trade transits_right transits any_digit closing
@@ -212,7 +212,7 @@ passed_is m [] = none_left m
 passed_is m (b ∷ s) = go (passed_is (passing m b) s) (is_listed b)
   where
     go : passed (passing m b) s ≡ found (all_listed s) (left (passing m b) s) → (l : Bool)
-        → cond l (passed (passing m b) s) Unlisted ≡ found (cond l (all_listed s) false) (left m (b ∷ s))
+        → cond l (passed (passing m b) s) (Err Unlisted) ≡ found (cond l (all_listed s) false) (left m (b ∷ s))
     go h true = h ∙ ap (found (all_listed s)) (step b s m)
     go h false = refl
 

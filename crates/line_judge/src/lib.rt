@@ -6,7 +6,7 @@ ghost use Rattle.std.specs.Prelude.{◌≡◌};
 ghost use Rattle.line_spec.specs.Lines.{line_rule};
 ghost use Rattle.line_judge.specs.Passing.{at_transit, at_digit, at_other, passing, judged_by};
 
-use line_spec::{FIRST_DIGIT, LAST_DIGIT, TRANSIT, TradeJudged, listed};
+use line_spec::{FIRST_DIGIT, LAST_DIGIT, TRANSIT, TradeFault, listed};
 
 // How many digits stand between two transit symbols (order W2).
 pub const BETWEEN: usize = 9;
@@ -31,16 +31,9 @@ fn at_transit(met: Met) -> Met
     ensures { result ≡ at_transit met }
 {
     match met {
-        Met::Nothing => Met::Inside(0),
-        Met::Digit => Met::Inside(0),
-        Met::Inside(n) => {
-            if n == BETWEEN {
-                return Met::Closed;
-            }
-            Met::Broken
-        }
-        Met::Closed => Met::Broken,
-        Met::Broken => Met::Broken,
+        Met::Nothing | Met::Digit => Met::Inside(0),
+        Met::Inside(BETWEEN) => Met::Closed,
+        Met::Inside(_) | Met::Closed | Met::Broken => Met::Broken,
     }
 }
 
@@ -49,16 +42,10 @@ fn at_digit(met: Met) -> Met
     ensures { result ≡ at_digit met }
 {
     match met {
-        Met::Nothing => Met::Digit,
-        Met::Digit => Met::Digit,
-        Met::Inside(n) => {
-            if n < BETWEEN {
-                return Met::Inside(n + 1);
-            }
-            Met::Broken
-        }
+        Met::Nothing | Met::Digit => Met::Digit,
+        Met::Inside(n) if n < BETWEEN => Met::Inside(n + 1),
+        Met::Inside(_) | Met::Broken => Met::Broken,
         Met::Closed => Met::Closed,
-        Met::Broken => Met::Broken,
     }
 }
 
@@ -67,15 +54,13 @@ fn at_other(met: Met) -> Met
     ensures { result ≡ at_other met }
 {
     match met {
-        Met::Nothing => Met::Nothing,
-        Met::Digit => Met::Digit,
         Met::Inside(_) => Met::Broken,
-        Met::Closed => Met::Closed,
-        Met::Broken => Met::Broken,
+        other => other,
     }
 }
 
 // One byte more.
+#[tactic(auto, unfolding(crate::specs::Passing::passing, line_spec::specs::Lines::is_transit, line_spec::specs::Lines::is_digit))]
 fn pass(met: Met, b: u8) -> Met
     ensures { result ≡ passing met b }
 {
@@ -87,31 +72,25 @@ fn pass(met: Met, b: u8) -> Met
 }
 
 // What a line of listed bytes is found to be, at its end.
-fn judged_by(met: Met) -> TradeJudged
+fn judged_by(met: Met) -> Result<(), TradeFault>
     ensures { result ≡ judged_by met }
 {
     match met {
-        Met::Nothing => TradeJudged::Trade,
-        Met::Digit => TradeJudged::Accepted,
-        Met::Inside(_) => TradeJudged::Trade,
-        Met::Closed => TradeJudged::Accepted,
-        Met::Broken => TradeJudged::Trade,
+        Met::Digit | Met::Closed => Ok(()),
+        Met::Nothing | Met::Inside(_) | Met::Broken => Err(TradeFault::Trade),
     }
 }
 
 // Judges a line by the rule, in one pass over its bytes.
-pub fn judge_line(line: &[u8]) -> TradeJudged
+pub fn judge_line(line: &[u8]) -> Result<(), TradeFault>
     ensures { result ≡ line_rule line.now }
 {
     let mut met = Met::Nothing;
-    let mut i = 0;
-    while i < line.len() {
-        let b = line[i];
-        if !listed(b) {
-            return TradeJudged::Unlisted;
+    for b in line {
+        if !listed(*b) {
+            return Err(TradeFault::Unlisted);
         }
-        met = pass(met, b);
-        i += 1;
+        met = pass(met, *b);
     }
     judged_by(met)
 }

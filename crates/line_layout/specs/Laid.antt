@@ -1,6 +1,6 @@
 -- What the layouts share, over the account's digit count d: a line of layout d as a statement on lists, its 12 + d bytes, that it meets the
 -- rule of a line, and that no line is of two layouts. Assumes nothing.
-use Rattle.std.specs.Prelude.{◌≡◌, refl, ◌↔◌, Bool, true, false, cond, List, [], ◌∷◌, ◌++◌, ℕ, suc, ◌+◌, eqb, length, get_or, take, drop}
+use Rattle.std.specs.Prelude.{◌≡◌, refl, ◌↔◌, Bool, true, false, cond, List, [], ◌∷◌, ◌++◌, ℕ, suc, ◌+◌, eqb, length, get_or, take, drop, Ok}
 use Rattle.std.proofs.Common.{sym, ap, ◌∙◌, arith, length-append, length-drop, take-append-drop, drop_of_length-le, take_at, drop-drop, get_or-append-add, length-take-le, eq-eqb, eqb-true}
 use Rattle.std.proofs.lemmas.List.{get_or_at}
 use Rattle.std.proofs.Math.Seq.{drop-append-add}
@@ -12,10 +12,8 @@ use Rattle.line_spec.specs.Bytewise.{is-transit}
 use Rattle.line_spec.specs.Trade.{Digits, two-transits, are-digits, digits_are, digits-free}
 use Rattle.line_spec.specs.Rule.{AllListed, a-digit, a-symbol}
 use Rattle.line_spec.proofs.Rule.{rule-accepted}
-use Rattle.line_spec.specs.declared.TradeJudged.TheVariants.{Accepted}
 use Rattle.line_layout.specs.declared.Layout.{Layout}
 use Rattle.line_layout.specs.declared.Layout.TheVariants.{A, B}
-use Rattle.line_layout.specs.declared.LineJudged.TheVariants as judged-is
 use Rattle.line_layout.specs.Layouts.{digits_a, digits_b, part, is_laid, has_layout, layout_rule}
 use Rattle.line_layout.specs.Rule as ruled
 use Rattle.line_layout.specs.Tests.{by_last}
@@ -132,7 +130,7 @@ free-join : (s t : List ℕ) → Free transit s → Free transit t → Free tran
 free-join [] t x y = y
 free-join (b ∷ s) t x y = (x.0, free-join s t x.1 y)
 
-pub laid-accepted : (d : ℕ) (s : List ℕ) → is_laid d s ≡ true → line_rule s ≡ Accepted
+pub laid-accepted : (d : ℕ) (s : List ℕ) → is_laid d s ≡ true → line_rule s ≡ Ok tt
 laid-accepted d s e =
     let o = is-laid-out d s e in
     let end = o.account ++ (on_us ∷ []) in
@@ -147,14 +145,14 @@ laid-accepted d s e =
     rule-accepted s (rw o.whole listed) (two-transits [] o.bank end o.whole tt free o.bank-is.0 o.bank-is.1)
 
 -- under a layout of d digits exactly the lines laid out so are accepted
-accepted-laid : (l : Layout) (d : ℕ) (s : List ℕ) → has_layout l s ≡ is_laid d s → (layout_rule l s ≡ judged-is.Accepted) ↔ LaidOut d s
+accepted-laid : (l : Layout) (d : ℕ) (s : List ℕ) → has_layout l s ≡ is_laid d s → (layout_rule l s ≡ Ok tt) ↔ LaidOut d s
 accepted-laid l d s h = (
   (λ e. is-laid-out d s (sym h ∙ (ruled.accepted-both l s e).1)),
   (λ o. let y = laid-out-is d s o in ruled.rule-accepted l s (laid-accepted d s y) (h ∙ y)),
 )
 
-pub accepted-a : (s : List ℕ) → (layout_rule A s ≡ judged-is.Accepted) ↔ LaidOut digits_a s
+pub accepted-a : (s : List ℕ) → (layout_rule A s ≡ Ok tt) ↔ LaidOut digits_a s
 accepted-a s = accepted-laid A digits_a s refl
 
-pub accepted-b : (s : List ℕ) → (layout_rule B s ≡ judged-is.Accepted) ↔ LaidOut digits_b s
+pub accepted-b : (s : List ℕ) → (layout_rule B s ≡ Ok tt) ↔ LaidOut digits_b s
 accepted-b s = accepted-laid B digits_b s refl

@@ -1,13 +1,13 @@
 -- The layouts of a line (order W7), over the account's digit count: transit, nine digits, transit, d digits, on-us, and nothing else. Layout A
 -- is d = 10, B is d = 12. `layout_rule` is the rule of a line with the layout named. Assumes nothing: these are definitions.
-use Rattle.std.specs.Prelude.{Bool, true, false, cond, List, ℕ, ◌+◌, eqb, length, get_or, take, drop}
+use Rattle.std.specs.Prelude.{Bool, true, false, cond, List, ℕ, ◌+◌, eqb, length, get_or, take, drop, Ok, Err, Result, ⊤}
 use Rattle.line_spec.specs.Lines.{nine, on_us, is_transit, all_digits, line_rule}
-use Rattle.line_spec.specs.declared.TradeJudged as lines
-use Rattle.line_spec.specs.declared.TradeJudged.TheVariants as line-is
+use Rattle.line_spec.specs.declared.TradeFault.{TradeFault}
+use Rattle.line_spec.specs.declared.TradeFault.TheVariants as line-is
 use Rattle.line_layout.specs.declared.Layout.{Layout}
 use Rattle.line_layout.specs.declared.Layout.TheVariants.{Neither, A, B, Unknown}
-use Rattle.line_layout.specs.declared.LineJudged.{LineJudged}
-use Rattle.line_layout.specs.declared.LineJudged.TheVariants as judged-is
+use Rattle.line_layout.specs.declared.LineFault.{LineFault}
+use Rattle.line_layout.specs.declared.LineFault.TheVariants as judged-is
 
 -- the account digits of layout A, and of B
 abbrev pub digits_a : ℕ
@@ -38,20 +38,20 @@ has_layout B s = is_laid digits_b s
 has_layout Unknown s = false
 
 -- what a line is found to be: 9 and 13 by the rule of a line, then 17
-abbrev pub by_layout : lines.TradeJudged → Bool → LineJudged
-by_layout line-is.Unlisted b = judged-is.Unlisted
-by_layout line-is.Trade b = judged-is.Trade
-by_layout line-is.Accepted b = cond b judged-is.Accepted judged-is.Layout
+abbrev pub by_layout : Result ⊤ TradeFault → Bool → Result ⊤ LineFault
+by_layout (Err line-is.Unlisted) b = Err judged-is.Unlisted
+by_layout (Err line-is.Trade) b = Err judged-is.Trade
+by_layout (Ok tt) b = cond b (Ok tt) (Err judged-is.Layout)
 
-unfoldable pub layout_rule : Layout → List ℕ → LineJudged
+unfoldable pub layout_rule : Layout → List ℕ → Result ⊤ LineFault
 layout_rule l s = by_layout (line_rule s) (has_layout l s)
 
 -- the number of each answer (document 01, 'Numbers returned'; orders W2 and W7)
-abbrev pub line_number : LineJudged → ℕ
-line_number judged-is.Accepted = 0
-line_number judged-is.Unlisted = 9
-line_number judged-is.Trade = 13
-line_number judged-is.Layout = 17
+abbrev pub line_number : Result ⊤ LineFault → ℕ
+line_number (Ok tt) = 0
+line_number (Err judged-is.Unlisted) = 9
+line_number (Err judged-is.Trade) = 13
+line_number (Err judged-is.Layout) = 17
 
 -- the layout that a number names: 0 neither, 1 A, 2 B, and every other one that no line has
 unfoldable pub layout_of : ℕ → Layout

@@ -30,10 +30,9 @@ pub enum Layout {
     Unknown,
 }
 
-// What a line is found to be.
+// Why bytes are no line of a layout.
 #[derive(Clone, Copy)]
-pub enum LineJudged {
-    Accepted,
+pub enum LineFault {
     // It holds a byte that is not listed.
     Unlisted,
     // Its bytes are listed, but it is not the trade's line.
@@ -43,6 +42,7 @@ pub enum LineJudged {
 }
 
 // The layout that a number names.
+#[tactic(auto, unfolding(crate::specs::Layouts::layout_of))]
 pub fn layout_of(number: usize) -> Layout
     ensures { result ≡ layout_of number }
 {
@@ -54,51 +54,33 @@ pub fn layout_of(number: usize) -> Layout
     }
 }
 
+#[tactic(auto, unfolding(line_spec::specs::Lines::is_digit))]
 fn is_digit(b: u8) -> bool
     ensures { result ≡ is_digit b }
 {
-    match b {
-        FIRST_DIGIT..=LAST_DIGIT => true,
-        _ => false,
-    }
+    matches!(b, FIRST_DIGIT..=LAST_DIGIT)
 }
 
 // Whether every byte is a digit.
 fn all_digits(part: &[u8]) -> bool
     ensures { result ≡ all_digits part.now }
 {
-    let mut i = 0;
-    while i < part.len() {
-        if !is_digit(part[i]) {
-            return false;
-        }
-        i += 1;
-    }
-    true
+    part.iter().all(|b| is_digit(*b))
 }
 
 // Whether a line is transit, nine digits, transit, so many account digits, on-us, and nothing else.
+#[tactic(auto, unfolding(crate::specs::Layouts::is_laid, line_spec::specs::Lines::is_transit))]
 fn is_laid(line: &[u8], digits: usize) -> bool
     requires { digits ≤ digits_b }
     ensures { result ≡ is_laid digits line.now }
 {
     let last = ACCOUNT + digits;
-    if line.len() != last + 1 {
-        return false;
-    }
-    if line[0] != TRANSIT {
-        return false;
-    }
-    if !all_digits(&line[1..SECOND]) {
-        return false;
-    }
-    if line[SECOND] != TRANSIT {
-        return false;
-    }
-    if !all_digits(&line[ACCOUNT..last]) {
-        return false;
-    }
-    line[last] == ON_US
+    line.len() == last + 1
+        && line[0] == TRANSIT
+        && all_digits(&line[1..SECOND])
+        && line[SECOND] == TRANSIT
+        && all_digits(&line[ACCOUNT..last])
+        && line[last] == ON_US
 }
 
 // Whether a line has the layout.
@@ -114,16 +96,18 @@ fn has_layout(layout: Layout, line: &[u8]) -> bool
 }
 
 // Judges a line by the rule, and by the layout where the rule accepts it.
-pub fn judge_line(layout: Layout, line: &[u8]) -> LineJudged
+#[tactic(auto, unfolding(crate::specs::Layouts::layout_rule))]
+pub fn judge_line(layout: Layout, line: &[u8]) -> Result<(), LineFault>
     ensures { result ≡ layout_rule layout line.now }
 {
     match line_judge::judge_line(line) {
-        line_spec::TradeJudged::Unlisted => return LineJudged::Unlisted,
-        line_spec::TradeJudged::Trade => return LineJudged::Trade,
-        line_spec::TradeJudged::Accepted => {}
+        Err(line_spec::TradeFault::Unlisted) => return Err(LineFault::Unlisted),
+        Err(line_spec::TradeFault::Trade) => return Err(LineFault::Trade),
+        Ok(()) => {}
     }
     if has_layout(layout, line) {
-        return LineJudged::Accepted;
+        Ok(())
+    } else {
+        Err(LineFault::Layout)
     }
-    LineJudged::Layout
 }

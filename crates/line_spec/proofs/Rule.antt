@@ -1,10 +1,11 @@
 -- The rule of a line as a statement on lists: a line is accepted exactly if each of its bytes is a digit, a symbol or the blank, and it is
 -- the trade's line. Assumes nothing.
-use Rattle.std.specs.Prelude.{◌≡◌, refl, ◌↔◌, Bool, true, false, not, cond, List, [], ◌∷◌, ℕ, ◌≤◌, eqb, leb}
+use Rattle.std.specs.Prelude.{◌≡◌, refl, ◌↔◌, Bool, true, false, not, cond, List, [], ◌∷◌, ℕ, eqb, leb, Ok, Err, Result, ⊤}
 use Rattle.std.proofs.Common.{arith, le-leb, leb-true, eqb-true}
 use Rattle.std.proofs.lemmas.Bool.{lt-leb}
 use Rattle.base_lists.specs.Never.{never}
-use Rattle.line_spec.specs.declared.TradeJudged.TheVariants.{Accepted, Unlisted, Trade}
+use Rattle.line_spec.specs.declared.TradeFault.{TradeFault}
+use Rattle.line_spec.specs.declared.TradeFault.TheVariants.{Unlisted, Trade}
 use Rattle.line_spec.specs.Lines.{first_digit, last_digit, transit, dash, blank, is_digit, is_listed, all_listed, is_trade, line_rule}
 use Rattle.line_spec.specs.Trade.{TradeLine, trade-is, is-trade}
 use Rattle.line_spec.specs.Rule.{Listed, a-digit, a-symbol, a-blank, AllListed}
@@ -56,28 +57,28 @@ is-all-listed [] e = tt
 is-all-listed (b ∷ s) e = both (is_listed b) (all_listed s) (is-listed b) (is-all-listed s) e
 
 -- the rule's answers, in their order
-pub rule-unlisted : (s : List ℕ) → (AllListed s → ⊥) → line_rule s ≡ Unlisted
+pub rule-unlisted : (s : List ℕ) → (AllListed s → ⊥) → line_rule s ≡ Err Unlisted
 unfolding line_rule
 rule-unlisted s n = rw (refuted (all_listed s) (is-all-listed s) n)
 
-pub rule-trade : (s : List ℕ) → AllListed s → (TradeLine s → ⊥) → line_rule s ≡ Trade
+pub rule-trade : (s : List ℕ) → AllListed s → (TradeLine s → ⊥) → line_rule s ≡ Err Trade
 unfolding line_rule
 rule-trade s a n = rw (all-listed-is s a, refuted (is_trade s) (is-trade s) n)
 
-pub rule-accepted : (s : List ℕ) → AllListed s → TradeLine s → line_rule s ≡ Accepted
+pub rule-accepted : (s : List ℕ) → AllListed s → TradeLine s → line_rule s ≡ Ok tt
 unfolding line_rule
 rule-accepted s a t = rw (all-listed-is s a, trade-is s t)
 
-pub accepted-rule : (s : List ℕ) → line_rule s ≡ Accepted → AllListed s × TradeLine s
+pub accepted-rule : (s : List ℕ) → line_rule s ≡ Ok tt → AllListed s × TradeLine s
 unfolding line_rule
 accepted-rule s = go (all_listed s) refl (is_trade s) refl
   where
-    go : (t : Bool) → all_listed s ≡ t → (u : Bool) → is_trade s ≡ u → cond (not t) Unlisted (cond (not u) Trade Accepted) ≡ Accepted
+    go : (t : Bool) → all_listed s ≡ t → (u : Bool) → is_trade s ≡ u → ◌≡◌ {A = Result ⊤ TradeFault} (cond (not t) (Err Unlisted) (cond (not u) (Err Trade) (Ok tt))) (Ok tt)
         → AllListed s × TradeLine s
     go true p true q e = (is-all-listed s p, is-trade s q)
     go true p false q e = absurd (let z : ◌≡◌ {A = ℕ} 0 1 = cc e in omega arith)
     go false p u q e = absurd (let z : ◌≡◌ {A = ℕ} 0 1 = cc e in omega arith)
 
 -- a line is accepted exactly if all its bytes are listed and it is the trade's
-pub trade-line : (s : List ℕ) → (line_rule s ≡ Accepted) ↔ (AllListed s × TradeLine s)
+pub trade-line : (s : List ℕ) → (line_rule s ≡ Ok tt) ↔ (AllListed s × TradeLine s)
 trade-line s = (accepted-rule s, λ (a, t). rule-accepted s a t)

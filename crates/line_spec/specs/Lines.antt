@@ -1,8 +1,8 @@
 -- Which bytes and which lines are accepted (document 01, 'A frame and a stream', and order W2). `line_rule` is the one name for the rule of
 -- a line. Assumes nothing: these are definitions.
-use Rattle.std.specs.Prelude.{Bool, true, false, not, cond, List, [], ◌∷◌, ℕ, suc, eqb, leb, length}
-use Rattle.line_spec.specs.declared.TradeJudged.{TradeJudged}
-use Rattle.line_spec.specs.declared.TradeJudged.TheVariants.{Accepted, Unlisted, Trade}
+use Rattle.std.specs.Prelude.{Bool, true, false, not, cond, List, [], ◌∷◌, ℕ, suc, eqb, leb, length, Ok, Err, Result, ⊤}
+use Rattle.line_spec.specs.declared.TradeFault.{TradeFault}
+use Rattle.line_spec.specs.declared.TradeFault.TheVariants.{Unlisted, Trade}
 
 -- the longest line in bytes (document 01, field 03)
 abbrev pub longest : ℕ
@@ -89,13 +89,13 @@ unfoldable pub is_trade : List ℕ → Bool
 is_trade s = cond (any_digit s) (transits_right s) false
 
 -- what a line is found to be: 9, over the whole line, then 13
-unfoldable pub line_rule : List ℕ → TradeJudged
+unfoldable pub line_rule : List ℕ → Result ⊤ TradeFault
 line_rule s =
-    cond (not (all_listed s)) Unlisted
-    (cond (not (is_trade s)) Trade Accepted)
+    cond (not (all_listed s)) (Err Unlisted)
+    (cond (not (is_trade s)) (Err Trade) (Ok tt))
 
 -- the number of each answer (document 01, 'Numbers returned'; order W2)
-abbrev pub trade_number : TradeJudged → ℕ
-trade_number Accepted = 0
-trade_number Unlisted = 9
-trade_number Trade = 13
+abbrev pub trade_number : Result ⊤ TradeFault → ℕ
+trade_number (Ok tt) = 0
+trade_number (Err Unlisted) = 9
+trade_number (Err Trade) = 13

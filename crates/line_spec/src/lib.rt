@@ -27,10 +27,9 @@ const DASH: u8 = b'D';
 // The blank (document 01).
 const BLANK: u8 = 0x20;
 
-// What a line is found to be.
+// Why bytes are no line of the trade.
 #[derive(Clone, Copy)]
-pub enum TradeJudged {
-    Accepted,
+pub enum TradeFault {
     // It holds a byte that is not listed.
     Unlisted,
     // Its bytes are listed, but it is not the trade's line: it has no digit, or its transit symbols are not as they must be.
@@ -38,13 +37,9 @@ pub enum TradeJudged {
 }
 
 // Whether a line may hold the byte b: a digit, a symbol or the blank, and no other.
+#[tactic(auto, unfolding(crate::specs::Lines::is_listed, crate::specs::Lines::is_digit))]
 pub fn listed(b: u8) -> bool
     ensures { result ≡ is_listed b }
 {
-    match b {
-        FIRST_DIGIT..=LAST_DIGIT => true,
-        TRANSIT..=DASH => true,
-        BLANK => true,
-        _ => false,
-    }
+    matches!(b, FIRST_DIGIT..=LAST_DIGIT | TRANSIT..=DASH | BLANK)
 }

@@ -9,7 +9,7 @@ use frame_spec::KEY_LENGTH;
 use read_call::LONGEST_STREAM;
 use std::io::Read;
 use std::rt::Files;
-use tool_files::Loaded;
+use tool_files::LoadFault;
 use tool_loads::LONGEST_TEXT;
 use tool_row::ROW_ROOM;
 
@@ -53,9 +53,15 @@ fn list(rt: &impl Print, stream: &[u8], key: &[u8], font: &[u8]) -> bool {
 }
 
 // The listing of what was loaded of the stream.
-fn list_loaded(rt: &(impl Print + Eprint), loaded: Loaded, buffer: &[u8], key: &[u8], font: &[u8]) {
+fn list_loaded(
+    rt: &(impl Print + Eprint),
+    loaded: Result<usize, LoadFault>,
+    buffer: &[u8],
+    key: &[u8],
+    font: &[u8],
+) {
     // Never: something was said in place of a listing.
-    let Loaded::Bytes(n) = loaded else {
+    let Ok(n) = loaded else {
         return;
     };
     // Never: no more was loaded than the buffer holds.
@@ -68,7 +74,12 @@ fn list_loaded(rt: &(impl Print + Eprint), loaded: Loaded, buffer: &[u8], key: &
 }
 
 // Whether something is said in place of a listing; it is said.
-fn refused(rt: &impl Print, key: Loaded, font: Loaded, stream: Loaded) -> bool {
+fn refused(
+    rt: &impl Print,
+    key: Result<usize, LoadFault>,
+    font: Result<usize, LoadFault>,
+    stream: Result<usize, LoadFault>,
+) -> bool {
     let text = tool_loads::said(key, font, stream);
     let length = text.length;
     if length == 0 {
@@ -89,7 +100,7 @@ fn list_files(rt: &(impl Files + Print + Eprint), input: &mut impl Read) {
     // There is a digest exactly where the font is not refused.
     tool_key_font::digest_font(font_load, &buffer, &mut font);
     // Before the stream is waited for.
-    if refused(rt, key_load, font_load, Loaded::Bytes(0)) {
+    if refused(rt, key_load, font_load, Ok(0)) {
         return;
     }
     let stream_load = tool_files::take_in(input, &mut buffer);

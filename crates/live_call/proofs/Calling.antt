@@ -1,4 +1,5 @@
 -- The returns of a step, in the order of its refusals, and what is answered for what was taken in. Assumes nothing.
+use Rattle.std.specs.Prelude.{Ok, Err, Some, None}
 use mathlib.Core.Path.{◌≡◌, refl, sym, ap, ap₂, ◌∙◌}
 use mathlib.Core.Bool.{Bool, true, false, cond}
 use mathlib.Core.List.{List}
@@ -14,7 +15,7 @@ use Rattle.read_call.specs.declared.Asked.{Asked}
 use Rattle.read_call.specs.Answers.{sized_told, line_over}
 use Rattle.live_spec.specs.declared.Numbers.{Numbers}
 use Rattle.live_spec.specs.declared.Step.{Step}
-use Rattle.live_spec.specs.declared.Answer.TheVariants as answer-is
+use Rattle.live_spec.specs.declared.LiveRefusal.TheVariants as answer-is
 use Rattle.live_spec.specs.Taking.{possible, taken_in}
 use Rattle.live_spec.specs.Steps.{most_bytes, judged_in, Found, refused, waits, closed, found_in, found}
 use Rattle.live_spec.specs.Steps.{no_reading, step_of, window_of, line_of, step_answer, step_window, step_line}
@@ -36,7 +37,7 @@ module _ (t : Told) (a : Asked) (k : Taking) (w o : List ℕ) where
   its : (f : Found) → found_in t a (taken_of k w) ≡ f → (r : Step) → r ≡ step_of k.numbers f → (l : List ℕ) → l ≡ line_of o f → Answered r l
   its f e r q l g = (q ∙ ap (step_of k.numbers) (sym e), g ∙ ap (line_of o) (sym e))
 
-  pub waiting : k.first ≡ k.closing → (r : Step) → r ≡ no_reading k.numbers k.took answer-is.Wait → Answered r o
+  pub waiting : k.first ≡ k.closing → (r : Step) → r ≡ no_reading k.numbers k.took (Ok None) → Answered r o
   waiting h r q =
       let e : found_in t a (taken_of k w) ≡ waits (taken_of k w) = rw (eq-eqb k.first k.closing h) in
       its (waits (taken_of k w)) e r q o refl
@@ -48,7 +49,7 @@ module _ (t : Told) (a : Asked) (k : Taking) (w o : List ℕ) where
         took = k.took;
         first = k.first;
         closing = k.closing;
-        answer = answer-is.Stretch x.answer;
+        answer = Ok (Some x.answer);
         edition = x.edition;
         job = x.job;
         nonce = x.nonce;
@@ -70,35 +71,35 @@ module _ (key font : List ℕ) (a : Asked) (n : Numbers) (w p o : List ℕ) wher
       → Shown r v l
   shown f e r q v x l y = (q ∙ ap (step_of n) (sym e), (x ∙ ap (window_of w) (sym e), y ∙ ap (line_of o) (sym e)))
 
-  pub bad-numbers : possible n ≡ false → (r : Step) → r ≡ no_reading n 0 answer-is.Numbers → Shown r w o
+  pub bad-numbers : possible n ≡ false → (r : Step) → r ≡ no_reading n 0 (Err answer-is.Numbers) → Shown r w o
   unfolding found
-  bad-numbers h r q = shown (refused answer-is.Numbers) (rw h) r q w refl o refl
+  bad-numbers h r q = shown (refused (Err answer-is.Numbers)) (rw h) r q w refl o refl
 
   module _ (h : possible n ≡ true) where
-    pub bad-key : (length key ≡ key_length → ⊥) → (r : Step) → r ≡ no_reading n 0 answer-is.Sizes → Shown r w o
+    pub bad-key : (length key ≡ key_length → ⊥) → (r : Step) → r ≡ no_reading n 0 (Err answer-is.Sizes) → Shown r w o
     unfolding found sized_told
-    bad-key k r q = shown (refused answer-is.Sizes) (rw (h, ne_eqb (length key) key_length k)) r q w refl o refl
+    bad-key k r q = shown (refused (Err answer-is.Sizes)) (rw (h, ne_eqb (length key) key_length k)) r q w refl o refl
 
     module _ (k : length key ≡ key_length) where
-      pub bad-font : (length font ≡ digest_length → ⊥) → (r : Step) → r ≡ no_reading n 0 answer-is.Sizes → Shown r w o
+      pub bad-font : (length font ≡ digest_length → ⊥) → (r : Step) → r ≡ no_reading n 0 (Err answer-is.Sizes) → Shown r w o
       unfolding found sized_told
       bad-font d r q =
-          shown (refused answer-is.Sizes) (rw (h, eq-eqb (length key) key_length k, ne_eqb (length font) digest_length d)) r q w refl o refl
+          shown (refused (Err answer-is.Sizes)) (rw (h, eq-eqb (length key) key_length k, ne_eqb (length font) digest_length d)) r q w refl o refl
 
       module _ (d : length font ≡ digest_length) where
         sized : sized_told t ≡ true
         unfolding sized_told
         sized = rw (eq-eqb (length key) key_length k) (eq-eqb (length font) digest_length d)
 
-        pub too_long : most_bytes < n.received + length p → (r : Step) → r ≡ no_reading n 0 answer-is.TooLong → Shown r w o
+        pub too_long : most_bytes < n.received + length p → (r : Step) → r ≡ no_reading n 0 (Err answer-is.TooLong) → Shown r w o
         unfolding found
-        too_long g r q = shown (refused answer-is.TooLong) (rw (h, sized, lt-ltb most_bytes (n.received + length p) g)) r q w refl o refl
+        too_long g r q = shown (refused (Err answer-is.TooLong)) (rw (h, sized, lt-ltb most_bytes (n.received + length p) g)) r q w refl o refl
 
         module _ (g : n.received + length p ≤ most_bytes) where
-          pub no_room : length o < longest → (r : Step) → r ≡ no_reading n 0 answer-is.NoRoom → Shown r w o
+          pub no_room : length o < longest → (r : Step) → r ≡ no_reading n 0 (Err answer-is.NoRoom) → Shown r w o
           unfolding found
           no_room l r q =
-              shown (refused answer-is.NoRoom) (rw (h, sized, le-ltb most_bytes (n.received + length p) g, lt-ltb (length o) longest l)) r q w refl o refl
+              shown (refused (Err answer-is.NoRoom)) (rw (h, sized, le-ltb most_bytes (n.received + length p) g, lt-ltb (length o) longest l)) r q w refl o refl
 
           -- done: what was taken in, and what is answered for it
           pub done : longest ≤ length o → (k : Taking) → k ≡ taken_by (taken_in n w p) → (v : List ℕ) → v ≡ (taken_in n w p).window

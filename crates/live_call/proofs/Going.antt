@@ -45,11 +45,11 @@ abbrev pub Shows : Taken → Taking → List ℕ → Type 0
 Shows t r window = (r ≡ taken_by t) × ((r.first ≤ r.closing) × (window ≡ t.window))
 
 module _ {n : Numbers} {w p window : List ℕ} {seen : Numbers} {i : ℕ} (g : Going n w p window seen i) where
-  pub going-all : length p ≤ i → Shows (taken_in n w p) (record { numbers = seen; took = i; first = seen.received; closing = seen.received }) window
+  pub going-all : length p ≤ i → Shows (taken_in n w p) (record { numbers = seen; took = length p; first = seen.received; closing = seen.received }) window
   unfolding taken_in
   going-all h =
-      let z : i + 0 ≡ i = omega arith in
-      let e : taken_in n w p ≡ taken seen window i (span seen.received seen.received) = g.left ∙ rw (drop_of_length-le p {i = i} h, z) in
+      let z : i + 0 ≡ length p = omega (arith, g.inside) in
+      let e : taken_in n w p ≡ taken seen window (length p) (span seen.received seen.received) = g.left ∙ rw (drop_of_length-le p {i = i} h, z) in
       (ap taken_by (sym e), (omega arith, ap (λ (t : Taken). t.window) (sym e)))
 
   module _ (h : i < length p) where

@@ -1,4 +1,5 @@
 -- The tests of a link's numbers, branch by branch, and what keeping a byte leaves. Assumes nothing.
+use Rattle.std.specs.Prelude.{None}
 use mathlib.Core.Path.{◌≡◌, refl}
 use mathlib.Core.Bool.{Bool, true, false, cond}
 use mathlib.Core.List.{List}
@@ -10,9 +11,8 @@ use borrow.Author.Tests.{eq-eqb, ne_eqb, lt-ltb, le-ltb, eqb-true, leb-true}
 use Rattle.base_lists.specs.Never.{never}
 use Rattle.frame_stuff_spec.specs.Stuffing.{longest_stretch}
 use Rattle.live_spec.specs.declared.Numbers.{Numbers}
-use Rattle.live_spec.specs.declared.Ends.TheVariants as ends-are
 use Rattle.live_spec.specs.Taking.{possible, unfinished, closes, kept}
-use Rattle.live_spec.specs.Ends.{ends_answer}
+use Rattle.live_spec.specs.Ends.{cut_at, ends_answer}
 
 module _ (n : Numbers) where
   -- no mark came
@@ -75,14 +75,14 @@ module _ (n : Numbers) where
     kept_full h g = rw (ne_eqb n.marked 0 h, le-ltb (unfinished n) longest_stretch g)
 
   -- the last call
-  pub ends-bad : possible n ≡ false → ends-are.Numbers ≡ ends_answer n
+  pub ends-bad : possible n ≡ false → None ≡ ends_answer n
   unfolding ends_answer
   ends-bad e = rw e
 
-  pub ends-none : possible n ≡ true → n.marked ≡ 0 → ends-are.Cut n.received 0 ≡ ends_answer n
+  pub ends-none : possible n ≡ true → n.marked ≡ 0 → cut_at n.received 0 ≡ ends_answer n
   unfolding ends_answer
   ends-none e h = rw (e, eq-eqb n.marked 0 h)
 
-  pub ends_some : possible n ≡ true → (n.marked ≡ 0 → ⊥) → ends-are.Cut n.mark (unfinished n) ≡ ends_answer n
+  pub ends_some : possible n ≡ true → (n.marked ≡ 0 → ⊥) → cut_at n.mark (unfinished n) ≡ ends_answer n
   unfolding ends_answer
   ends_some e h = rw (e, ne_eqb n.marked 0 h)

@@ -1,12 +1,13 @@
 -- The promises of `step` and `end`, and of their numbers, as the check reads them (`Post`), admit a single answer, a single window and a single line
 -- buffer. Assumes nothing.
+use Rattle.std.specs.Prelude.{Option}
 use mathlib.Core.Path.{◌≡◌, sym, ◌∙◌}
 use Prim.Native.Nat.{ℕ}
 use contract.Lifetimes.{Lfts}
 use denote.Triple.Clauses.{AtExit}
 use borrow.Fn.Kinds.{Dens, ended_of}
 use Rattle.live_spec.specs.declared.Step.{Step}
-use Rattle.live_spec.specs.declared.Ends.{Ends}
+use Rattle.live_spec.specs.declared.Cut.{Cut}
 use Rattle.live_call.proofs.step.Kinds as kinds
 use Rattle.live_call.proofs.step.Reads.{Post}
 use Rattle.live_call.proofs.end.Kinds as end-kinds
@@ -21,7 +22,7 @@ pub step-single : (κs : Lfts 5) (a : Dens κs kinds.ps) (r r' : Step) (x x' : A
     → (r ≡ r') × (x.0.now ≡ x'.0.now) × (x.1.1.1.1.1.1.0.now ≡ x'.1.1.1.1.1.1.0.now)
 step-single κs a r r' x x' p q = (p.0 ∙ sym q.0, p.1.0 ∙ sym q.1.0, p.1.1 ∙ sym q.1.1)
 
-pub end-single : (κs : Lfts 0) (a : Dens κs end-kinds.ps) (r r' : Ends) (x x' : AtExit (ended_of 0 end-kinds.ps end-kinds.r) κs)
+pub end-single : (κs : Lfts 0) (a : Dens κs end-kinds.ps) (r r' : Option Cut) (x x' : AtExit (ended_of 0 end-kinds.ps end-kinds.r) κs)
     → end_reads.Post κs a r x → end_reads.Post κs a r' x' → r ≡ r'
 end-single κs a r r' x x' p q = p ∙ sym q
 

@@ -19,7 +19,7 @@ ghost use Rattle.live_call.specs.Parts.{taken_by, taken_of, read_of};
 use frame_body::{DIGEST_LENGTH, LONGEST_LINE, NONCE_LENGTH};
 use frame_spec::KEY_LENGTH;
 use frame_stuff_spec::{LONGEST_STRETCH, MARK};
-use live_spec::{Answer, Ends, Numbers, Step};
+use live_spec::{Cut, LiveRefusal, Numbers, Step};
 use read_call::{Asked, judge};
 use read_nonce::nonce_of;
 use read_numbers::{LINE, numbers, read_number};
@@ -148,10 +148,8 @@ fn take_in(window: &mut [u8], n: Numbers, piece: &[u8]) -> Taking
     ensures window_after { window.new ≡ (taken_in n window.old piece.now).window }
 {
     let mut seen = n;
-    let mut i = 0;
-    while i < piece.len() {
-        let byte = piece[i];
-        if byte == MARK {
+    for (i, byte) in piece.iter().enumerate() {
+        if *byte == MARK {
             if closes_here(seen) {
                 return Taking {
                     numbers: behind_mark(seen),
@@ -161,16 +159,14 @@ fn take_in(window: &mut [u8], n: Numbers, piece: &[u8]) -> Taking
                 };
             }
             seen = behind_mark(seen);
-            i += 1;
         } else {
-            keep(window, seen, byte);
+            keep(window, seen, *byte);
             seen = behind_byte(seen);
-            i += 1;
         }
     }
     Taking {
         numbers: seen,
-        took: i,
+        took: piece.len(),
         first: seen.received,
         closing: seen.received,
     }
@@ -247,7 +243,11 @@ fn read_closed(
 }
 
 // An answer with no reading.
-fn no_reading(numbers: Numbers, took: usize, answer: Answer) -> Step
+fn no_reading(
+    numbers: Numbers,
+    took: usize,
+    answer: Result<Option<read_call::Answer>, LiveRefusal>,
+) -> Step
     ensures { result ≡ no_reading numbers took answer }
 {
     Step {
@@ -283,12 +283,12 @@ fn answer_for(
     let first = taking.first;
     let closing = taking.closing;
     if first == closing {
-        return no_reading(numbers, taking.took, Answer::Wait);
+        return no_reading(numbers, taking.took, Ok(None));
     }
     let read = read_closed(window, first, closing, key, font, asked, line);
     let nonce = read.nonce;
     let its = read.answer;
-    let answer = Answer::Stretch(its);
+    let answer = Ok(Some(its));
     Step {
         numbers,
         took: taking.took,
@@ -320,19 +320,19 @@ fn step_over(
         piece.now line.old }
 {
     if !is_possible(numbers) {
-        return no_reading(numbers, 0, Answer::Numbers);
+        return no_reading(numbers, 0, Err(LiveRefusal::Numbers));
     }
     if key.len() != KEY_LENGTH {
-        return no_reading(numbers, 0, Answer::Sizes);
+        return no_reading(numbers, 0, Err(LiveRefusal::Sizes));
     }
     if font.len() != DIGEST_LENGTH {
-        return no_reading(numbers, 0, Answer::Sizes);
+        return no_reading(numbers, 0, Err(LiveRefusal::Sizes));
     }
     if piece.len() as u64 > MOST_BYTES - numbers.received {
-        return no_reading(numbers, 0, Answer::TooLong);
+        return no_reading(numbers, 0, Err(LiveRefusal::TooLong));
     }
     if line.len() < LONGEST_LINE {
-        return no_reading(numbers, 0, Answer::NoRoom);
+        return no_reading(numbers, 0, Err(LiveRefusal::NoRoom));
     }
     let taking = take_in(window, numbers, piece);
     answer_for(window, taking, key, font, asked, line)
@@ -359,45 +359,45 @@ pub fn step(
     step_over(window, numbers, piece, key, font, asked, line)
 }
 
-// The last call, at the end of the link: what was cut off.
-pub fn end(n: Numbers) -> Ends
+// The last call, at the end of the link: what was cut off; nothing for numbers that no taking-in gives.
+pub fn end(n: Numbers) -> Option<Cut>
     ensures { result ≡ ends_answer n }
 {
     if !is_possible(n) {
-        return Ends::Numbers;
+        return None;
     }
     if n.marked == NO_MARK {
-        return Ends::Cut {
+        return Some(Cut {
             before: n.received,
             behind: 0,
-        };
+        });
     }
-    Ends::Cut {
+    Some(Cut {
         before: n.mark,
         behind: n.received - n.first,
-    }
+    })
 }
 
 // The number of what a step answers.
-pub fn step_number(answer: Answer) -> u32
+pub fn step_number(answer: Result<Option<read_call::Answer>, LiveRefusal>) -> u32
     ensures { result ≡ step_number answer }
 {
     match answer {
-        Answer::Numbers => 1,
-        Answer::Sizes => 2,
-        Answer::TooLong => 3,
-        Answer::NoRoom => 4,
-        Answer::Wait => 0,
-        Answer::Stretch(its) => read_number(its),
+        Err(LiveRefusal::Numbers) => 1,
+        Err(LiveRefusal::Sizes) => 2,
+        Err(LiveRefusal::TooLong) => 3,
+        Err(LiveRefusal::NoRoom) => 4,
+        Ok(None) => 0,
+        Ok(Some(its)) => read_number(its),
     }
 }
 
 // The number of what the last call answers.
-pub fn end_number(ends: Ends) -> u32
+pub fn end_number(ends: Option<Cut>) -> u32
     ensures { result ≡ ends_number ends }
 {
     match ends {
-        Ends::Numbers => 1,
-        Ends::Cut { before, behind } => 0,
+        None => 1,
+        Some(_) => 0,
     }
 }

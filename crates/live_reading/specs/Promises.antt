@@ -1,6 +1,7 @@
 -- What a step promises, on plain lists (FromContracts.antt beside this has that it is its contract), what a caller sees of it, and runs of steps over a
 -- link. Assumes nothing: these are definitions.
-use Rattle.std.specs.Prelude.{◌≡◌, List, [], ◌∷◌, ◌++◌, ℕ, ◌+◌, ◌<◌, ◌≤◌, length, take, drop}
+use Rattle.std.specs.Prelude.{◌≡◌, List, [], ◌∷◌, ◌++◌, ℕ, ◌+◌, ◌<◌, ◌≤◌, length, take, drop, Ok, Err, Some, None, Result, Option}
+use Rattle.read_call.specs.declared.Answer.{Answer as ReadAnswer}
 use Rattle.line_spec.specs.Lines.{longest}
 use Rattle.frame_spec.specs.Told.{told}
 use Rattle.read_spec.specs.Judged.{number_in, line_in, label_in, calls_in}
@@ -8,8 +9,8 @@ use Rattle.read_readings.specs.Readings.{Reading}
 use Rattle.read_call.specs.declared.Asked.{Asked}
 use Rattle.read_call.specs.Answers as read-answers
 use Rattle.live_spec.specs.declared.Numbers.{Numbers}
-use Rattle.live_spec.specs.declared.Answer.{Answer}
-use Rattle.live_spec.specs.declared.Answer.TheVariants as answer-is
+use Rattle.live_spec.specs.declared.LiveRefusal.{LiveRefusal}
+use Rattle.live_spec.specs.declared.LiveRefusal.TheVariants as answer-is
 use Rattle.live_spec.specs.declared.Step.{Step}
 use Rattle.live_spec.specs.Taking.{no_bytes}
 use Rattle.live_spec.specs.Steps.{most_bytes, nonce_in, step_answer, step_window, step_line, step_number}
@@ -59,13 +60,10 @@ given_with r calls long l' = record {
 }
 
 -- nothing where it waits
-abbrev pub given_for : Answer → Step → List ℕ → List Given
-given_for answer-is.Wait r l' = []
-given_for (answer-is.Stretch a) r l' = given_with r (read-answers.calls_of a) (read-answers.length_of a) l' ∷ []
-given_for answer-is.Numbers r l' = given_with r 0 0 l' ∷ []
-given_for answer-is.Sizes r l' = given_with r 0 0 l' ∷ []
-given_for answer-is.TooLong r l' = given_with r 0 0 l' ∷ []
-given_for answer-is.NoRoom r l' = given_with r 0 0 l' ∷ []
+abbrev pub given_for : Result (Option ReadAnswer) LiveRefusal → Step → List ℕ → List Given
+given_for (Ok None) r l' = []
+given_for (Ok (Some a)) r l' = given_with r (read-answers.calls_of a) (read-answers.length_of a) l' ∷ []
+given_for (Err f) r l' = given_with r 0 0 l' ∷ []
 
 abbrev pub given_by : Step → List ℕ → List Given
 given_by r l' = given_for r.answer r l'

@@ -1,10 +1,9 @@
 -- What was cut off at the ends of a stream: the bytes before its first mark, all where there is none, and those behind its last, none where there is
 -- none; of a whole stream, and as the numbers of a link tell it. Assumes nothing: these are definitions.
-use Rattle.std.specs.Prelude.{not, cond, List, [], ◌∷◌, ℕ, ◌+◌, eqb}
+use Rattle.std.specs.Prelude.{not, cond, List, [], ◌∷◌, ℕ, ◌+◌, eqb, Some, None, Option}
 use Rattle.frame_stuff_spec.specs.Stuffing.{mark}
 use Rattle.live_spec.specs.declared.Numbers.{Numbers}
-use Rattle.live_spec.specs.declared.Ends.{Ends}
-use Rattle.live_spec.specs.declared.Ends.TheVariants as ends-are
+use Rattle.live_spec.specs.declared.Cut.{Cut}
 use Rattle.live_spec.specs.Taking.{possible, unfinished}
 
 -- the place of the first mark, or all bytes
@@ -21,17 +20,21 @@ unfoldable pub behind_last : List ℕ → ℕ
 behind_last [] = 0
 behind_last (b ∷ s) = cond (eqb b mark) (since_mark 0 s) (behind_last s)
 
+-- so many bytes before the first mark, and so many behind the last
+abbrev pub cut_at : ℕ → ℕ → Option Cut
+cut_at n k = Some (record { before = n; behind = k })
+
 -- of a whole stream
-abbrev pub ends_of : List ℕ → Ends
-ends_of s = ends-are.Cut (before_first s) (behind_last s)
+abbrev pub ends_of : List ℕ → Option Cut
+ends_of s = cut_at (before_first s) (behind_last s)
 
 -- as the last call tells them; 1 for numbers that no taking-in gives
-unfoldable pub ends_answer : Numbers → Ends
+unfoldable pub ends_answer : Numbers → Option Cut
 ends_answer n =
-    cond (not (possible n)) ends-are.Numbers
-    (cond (eqb n.marked 0) (ends-are.Cut n.received 0) (ends-are.Cut n.mark (unfinished n)))
+    cond (not (possible n)) None
+    (cond (eqb n.marked 0) (cut_at n.received 0) (cut_at n.mark (unfinished n)))
 
 -- the number, and each of the two, 0 where the call is refused
-abbrev pub ends_number : Ends → ℕ
-ends_number ends-are.Numbers = 1
-ends_number (ends-are.Cut before behind) = 0
+abbrev pub ends_number : Option Cut → ℕ
+ends_number None = 1
+ends_number (Some c) = 0

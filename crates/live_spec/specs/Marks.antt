@@ -1,6 +1,6 @@
 -- What a byte at the end of a stream changes: no stretch is closed, or one is, and what was cut off at the ends. Over any way to judge a stretch's
 -- bytes. Assumes nothing.
-use Rattle.std.specs.Prelude.{◌≡◌, Bool, List, [], ◌∷◌, ◌++◌, ℕ, ◌+◌, ◌-◌, ◌≤◌, ◌<◌, eqb, length, get_or, drop}
+use Rattle.std.specs.Prelude.{◌≡◌, Bool, List, [], ◌∷◌, ◌++◌, ℕ, ◌+◌, ◌-◌, ◌≤◌, ◌<◌, eqb, length, get_or, drop, Option}
 use Rattle.std.proofs.Math.Path.{refl}
 use Rattle.std.proofs.Common.{sym, subst, ◌∙◌, length-append, length-drop, take_at}
 use Rattle.std.proofs.Math.Bool.{true, false, cond}
@@ -20,10 +20,9 @@ use Rattle.read_readings.specs.Resync.{Mark}
 use Rattle.read_readings.specs.Reaching.{UpTo, closes, behind, up_to}
 use Rattle.read_readings.proofs.Joining.{same_next}
 use Rattle.live_spec.specs.declared.Numbers.{Numbers}
-use Rattle.live_spec.specs.declared.Ends.{Ends}
-use Rattle.live_spec.specs.declared.Ends.TheVariants as ends-are
+use Rattle.live_spec.specs.declared.Cut.{Cut}
 use Rattle.live_spec.specs.Taking.{unfinished, behind_mark, behind_byte}
-use Rattle.live_spec.specs.Ends.{before_first, since_mark, behind_last}
+use Rattle.live_spec.specs.Ends.{cut_at, before_first, since_mark, behind_last}
 
 module _ (s : List ℕ) (b : ℕ) where
   -- a byte more that is no mark
@@ -69,9 +68,9 @@ closed-bytes s a more h =
     rw (drop-append-le a s more h) (take_at (drop a s) more (length s - a) (length-drop a s))
 
 -- what was cut off, where these are the numbers and these bytes are still to come
-unfoldable pub ends_from : Numbers → List ℕ → Ends
+unfoldable pub ends_from : Numbers → List ℕ → Option Cut
 ends_from n l =
-    cond (eqb n.marked 0) (ends-are.Cut (n.received + before_first l) (behind_last l)) (ends-are.Cut n.mark (since_mark (unfinished n) l))
+    cond (eqb n.marked 0) (cut_at (n.received + before_first l) (behind_last l)) (cut_at n.mark (since_mark (unfinished n) l))
 
 module _ (n : Numbers) (b : ℕ) (l : List ℕ) where
   pub ends-byte : n.first ≤ n.received → (b ≡ mark → ⊥) → ends_from n (b ∷ l) ≡ ends_from (behind_byte n) l
@@ -88,7 +87,7 @@ module _ (n : Numbers) (b : ℕ) (l : List ℕ) where
       let u : n.received + 1 - (n.received + 1) ≡ 0 = omega arith in
       rw (eq-eqb b mark m, z, u) (go (eqb n.marked 0))
     where
-      go : (x : Bool) → cond x (ends-are.Cut n.received (since_mark 0 l)) (ends-are.Cut n.mark (since_mark 0 l))
-          ≡ ends-are.Cut (cond x n.received n.mark) (since_mark 0 l)
+      go : (x : Bool) → cond x (cut_at n.received (since_mark 0 l)) (cut_at n.mark (since_mark 0 l))
+          ≡ cut_at (cond x n.received n.mark) (since_mark 0 l)
       go true = refl
       go false = refl

@@ -2,9 +2,8 @@
 use Rattle.std.specs.Prelude.{◌≡◌, List, [], ◌∷◌, ℕ, set}
 use Rattle.std.proofs.Math.Path.{refl}
 use Rattle.read_stretch.specs.Stretches.{span}
-use Rattle.live_spec.specs.declared.Ends.TheVariants as ends-are
 use Rattle.live_spec.specs.Taking.{numbers, no_bytes, possible, closes, behind_mark, kept, taken, taken_in}
-use Rattle.live_spec.specs.Ends.{before_first, since_mark, behind_last, ends_of, ends_answer}
+use Rattle.live_spec.specs.Ends.{cut_at, before_first, since_mark, behind_last, ends_of, ends_answer}
 
 module _ (w : List ℕ) where
   -- 7E 41: a stretch is begun
@@ -23,11 +22,11 @@ module _ (w : List ℕ) where
   second-closed = refl
 
 -- nothing was cut off
-pub nothing-cut : ends_answer (numbers 6 1 0 6) ≡ ends-are.Cut 0 0
+pub nothing-cut : ends_answer (numbers 6 1 0 6) ≡ cut_at 0 0
 unfolding ends_answer possible
 nothing-cut = refl
 
 -- of 41 7E 41 42 one byte before and two behind
-pub cut_off : ends_of (0x41 ∷ 0x7E ∷ 0x41 ∷ 0x42 ∷ []) ≡ ends-are.Cut 1 2
+pub cut_off : ends_of (0x41 ∷ 0x7E ∷ 0x41 ∷ 0x42 ∷ []) ≡ cut_at 1 2
 unfolding before_first since_mark behind_last
 cut_off = refl

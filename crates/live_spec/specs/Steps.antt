@@ -1,6 +1,7 @@
 -- What a step answers, what the lent window and line buffer then hold, and the number of each answer: the call's refusals in their order (1, 2, 3, 4),
 -- one line each, then wait or the stretch that was closed. Assumes nothing: these are definitions.
-use Rattle.std.specs.Prelude.{not, cond, List, ℕ, ◌+◌, ◌-◌, ltb, length, take, replicate}
+use Rattle.std.specs.Prelude.{not, cond, List, ℕ, ◌+◌, ◌-◌, ltb, length, take, replicate, Ok, Err, Some, None, Result, Option}
+use Rattle.read_call.specs.declared.Answer.{Answer as ReadAnswer}
 use Rattle.frame_stuff_spec.specs.Stuffing.{longest_stretch}
 use Rattle.line_spec.specs.Lines.{longest}
 use Rattle.frame_body.specs.Fields.{nonce_length}
@@ -13,8 +14,8 @@ use Rattle.read_call.specs.declared.Asked.{Asked}
 use Rattle.read_call.specs.Answers as read-answers
 use Rattle.read_call.specs.Answers.{sized_told, judged_within, answer_of, line_over}
 use Rattle.live_spec.specs.declared.Numbers.{Numbers}
-use Rattle.live_spec.specs.declared.Answer.{Answer}
-use Rattle.live_spec.specs.declared.Answer.TheVariants as answer-is
+use Rattle.live_spec.specs.declared.LiveRefusal.{LiveRefusal}
+use Rattle.live_spec.specs.declared.LiveRefusal.TheVariants as answer-is
 use Rattle.live_spec.specs.declared.Step.{Step}
 use Rattle.live_spec.specs.Taking.{possible, Taken, taken_in}
 
@@ -29,7 +30,7 @@ judged_in t a w p =
 
 -- what a step finds: the call refused, no stretch closed, or one
 pub data Found : Type 0 where
-  refused : Answer → Found
+  refused : Result (Option ReadAnswer) LiveRefusal → Found
   waits : Taken → Found
   closed : Taken → Judged → Found
 
@@ -39,10 +40,10 @@ found_in t a k = cond (ends k.place) (waits k) (closed k (judged_in t a k.window
 -- of a piece, with room for so many bytes of a line
 unfoldable pub found : Told → Asked → Numbers → List ℕ → List ℕ → ℕ → Found
 found t a n w p room =
-    cond (not (possible n)) (refused answer-is.Numbers)
-    (cond (not (sized_told t)) (refused answer-is.Sizes)
-    (cond (ltb most_bytes (n.received + length p)) (refused answer-is.TooLong)
-    (cond (ltb room longest) (refused answer-is.NoRoom)
+    cond (not (possible n)) (refused (Err answer-is.Numbers))
+    (cond (not (sized_told t)) (refused (Err answer-is.Sizes))
+    (cond (ltb most_bytes (n.received + length p)) (refused (Err answer-is.TooLong))
+    (cond (ltb room longest) (refused (Err answer-is.NoRoom))
     (found_in t a (taken_in n w p)))))
 
 abbrev pub no_nonce : List ℕ
@@ -60,7 +61,7 @@ nonce_in (trade n) = no_nonce
 nonce_in (layout n) = no_nonce
 nonce_in (line own l n) = own.nonce
 
-abbrev pub step : Numbers → ℕ → Span → Answer → Label → List ℕ → Step
+abbrev pub step : Numbers → ℕ → Span → Result (Option ReadAnswer) LiveRefusal → Label → List ℕ → Step
 step n k p a b nonce = record {
   numbers = n;
   took = k;
@@ -73,14 +74,14 @@ step n k p a b nonce = record {
 }
 
 -- an answer with no reading
-abbrev pub no_reading : Numbers → ℕ → Answer → Step
+abbrev pub no_reading : Numbers → ℕ → Result (Option ReadAnswer) LiveRefusal → Step
 no_reading n k a = step n k (span n.received n.received) a no_label no_nonce
 
 -- what is answered for it
 abbrev pub step_of : Numbers → Found → Step
 step_of n (refused a) = no_reading n 0 a
-step_of n (waits k) = no_reading k.behind k.took answer-is.Wait
-step_of n (closed k j) = step k.behind k.took k.place (answer-is.Stretch (answer_of j)) (label_in j) (nonce_in j)
+step_of n (waits k) = no_reading k.behind k.took (Ok None)
+step_of n (closed k j) = step k.behind k.took k.place (Ok (Some (answer_of j))) (label_in j) (nonce_in j)
 
 -- and what window and line buffer hold then
 abbrev pub window_of : List ℕ → Found → List ℕ
@@ -104,10 +105,10 @@ abbrev pub step_line : Told → Asked → Numbers → List ℕ → List ℕ → 
 step_line t a n w p o = line_of o (found t a n w p (length o))
 
 -- the number of each answer: 1, 2, 3, 4; wait has the number 0, as a line has; a stretch that of `read`
-abbrev pub step_number : Answer → ℕ
-step_number answer-is.Numbers = 1
-step_number answer-is.Sizes = 2
-step_number answer-is.TooLong = 3
-step_number answer-is.NoRoom = 4
-step_number answer-is.Wait = 0
-step_number (answer-is.Stretch a) = read-answers.answer_number a
+abbrev pub step_number : Result (Option ReadAnswer) LiveRefusal → ℕ
+step_number (Err answer-is.Numbers) = 1
+step_number (Err answer-is.Sizes) = 2
+step_number (Err answer-is.TooLong) = 3
+step_number (Err answer-is.NoRoom) = 4
+step_number (Ok None) = 0
+step_number (Ok (Some a)) = read-answers.answer_number a

@@ -14,19 +14,15 @@ pub struct Numbers {
     pub first: u64,
 }
 
-// What a step comes to.
+// Why a step is refused. One that is taken closes a stretch, with what `read` answers for it, or none.
 #[derive(Clone, Copy)]
-pub enum Answer {
-    // The call is refused, and nothing is taken: numbers that no taking-in gives, key or font digest not of their sizes, a piece that takes the
+pub enum LiveRefusal {
+    // Nothing is taken: numbers that no taking-in gives, key or font digest not of their sizes, a piece that takes the
     // count past 64 bits, line buffer too short.
     Numbers,
     Sizes,
     TooLong,
     NoRoom,
-    // The piece is taken and closes no stretch.
-    Wait,
-    // A stretch is closed: what `read` answers for it.
-    Stretch(read_call::Answer),
 }
 
 // With the numbers behind it, how many bytes of the piece it took, the places of the stretch's first byte and of its closing mark, and the edition,
@@ -37,7 +33,7 @@ pub struct Step {
     pub took: usize,
     pub first: u64,
     pub closing: u64,
-    pub answer: Answer,
+    pub answer: Result<Option<read_call::Answer>, LiveRefusal>,
     pub edition: usize,
     pub job: usize,
     pub nonce: [u8; NONCE_LENGTH],
@@ -45,9 +41,8 @@ pub struct Step {
 
 // What was cut off at the ends of a link.
 #[derive(Clone, Copy)]
-pub enum Ends {
-    // Numbers that no taking-in gives.
-    Numbers,
+pub struct Cut {
     // How many bytes stand before the first mark, all where none came, and how many behind the last, none where none came.
-    Cut { before: u64, behind: u64 },
+    pub before: u64,
+    pub behind: u64,
 }

@@ -1,5 +1,5 @@
 -- A permutation of a whole state of 72 bytes, seen on the bytes that a caller lent. Assumes nothing.
-use Rattle.std.specs.Prelude.{◌≡◌, List, ◌++◌, ℕ, ◌≤◌, ◌<◌, length, replicate}
+use Rattle.std.specs.Prelude.{◌≡◌, List, ◌++◌, ℕ, ◌≤◌, ◌<◌, length, replicate, Ok, Err, Result, ⊤}
 use Rattle.std.proofs.Math.Path.{refl}
 use Rattle.std.proofs.Common.{append-nil, arith, drop_of_length-le, take_all, take_at}
 use Rattle.std.proofs.Math.ListN.{take, drop}
@@ -8,8 +8,8 @@ use Rattle.gage_cells.specs.Sizes.{LARGEST}
 use Rattle.gage_spec.specs.Permutation.{judged_number, judged, answered}
 use Rattle.gage_spec.specs.Answers.{judged-size}
 use Rattle.gage_spec.specs.Tables.{too_large}
-use Rattle.gage_spec.specs.declared.Answer.{Answer}
-use Rattle.gage_spec.specs.declared.Answer.TheVariants.{Done, Size, Rounds}
+use Rattle.gage_spec.specs.declared.PermuteRefusal.{PermuteRefusal}
+use Rattle.gage_spec.specs.declared.PermuteRefusal.TheVariants.{Size, Rounds}
 use Rattle.gage_spec.specs.declared.Permuted.{Permuted}
 use Rattle.lubdhvani.specs.Calls.{permute_number, permute_state}
 
@@ -27,14 +27,14 @@ module _ (f : ℕ → List ℕ → List ℕ) (k : ℕ) (keeps : (s : List ℕ) �
   covered : (v w : List ℕ) → take (length s) v ≡ w → length w ≡ length s → copied v s ≡ w
   covered v w h e = rw (h, drop_of_length-le s (let g : length s ≤ length w = omega arith in g)) (append-nil w)
 
-  decided : (a : Answer) → judged (length s) k ≡ a → copied (answered f wide (length s) k).state s ≡ permute_state f s k
+  decided : (a : Result ⊤ PermuteRefusal) → judged (length s) k ≡ a → copied (answered f wide (length s) k).state s ≡ permute_state f s k
   unfolding answered permute_state
-  decided Done e =
+  decided (Ok tt) e =
       let first : take (length s) (f k (take (length s) wide) ++ drop (length s) wide) ≡ f k s =
       rw front (take_at (f k s) (drop (length s) wide) (length s) (keeps s)) in
       rw e (covered (f k (take (length s) wide) ++ drop (length s) wide) (f k s) first (keeps s))
-  decided Size e = rw e (covered wide s front refl)
-  decided Rounds e = rw e (covered wide s front refl)
+  decided (Err Size) e = rw e (covered wide s front refl)
+  decided (Err Rounds) e = rw e (covered wide s front refl)
 
   -- document 01's number, and the lent state afterwards
   pub in_place : (r : Permuted) → r ≡ answered f (copied s (replicate LARGEST 0)) (length s) k
@@ -44,6 +44,6 @@ module _ (f : ℕ → List ℕ → List ℕ) (k : ℕ) (keeps : (s : List ℕ) �
 
 -- a state larger than any permitted one is refused
 pub too-large-refused : (f : ℕ → List ℕ → List ℕ) (s : List ℕ) (k : ℕ) → LARGEST < length s
-    → (judged_number Size ≡ permute_number (length s) k) × (s ≡ permute_state f s k)
+    → (judged_number (Err Size) ≡ permute_number (length s) k) × (s ≡ permute_state f s k)
 unfolding permute_number permute_state
 too-large-refused f s k h = let size = judged-size (length s) k (too_large (length s) h) in (rw size, rw size)

@@ -5,8 +5,8 @@ ghost use Rattle.bundle_write.specs.Answers as bundles;
 ghost use Rattle.lubdhvani.specs.Answers.{bundled, judged, part_out};
 
 use crate::answers::{Measured, field};
-use bundle_read::Bundle;
-use bundle_write::Written;
+use bundle_read::BundleFault;
+use bundle_write::BundleRefusal;
 
 // Where a part of a bundle stands, and how long it is.
 #[repr(C)]
@@ -17,7 +17,7 @@ pub struct Part {
 }
 
 // The number and the length of what the writer answers.
-fn measured_write(answer: Written) -> Measured
+fn measured_write(answer: Result<usize, BundleRefusal>) -> Measured
     ensures { result ≡ bundled answer }
 {
     Measured {
@@ -27,7 +27,7 @@ fn measured_write(answer: Written) -> Measured
 }
 
 // Of what the reader answers.
-fn measured_read(answer: Bundle) -> Measured
+fn measured_read(answer: Result<usize, BundleFault>) -> Measured
     ensures { result ≡ judged answer }
 {
     Measured {

@@ -8,11 +8,11 @@ ghost use Rattle.convert_spec.specs.Answers.{convert_call};
 ghost use Rattle.lubdhvani.specs.Answers.{converted};
 
 use crate::answers::{Measured, field};
-use convert_spec::Converted;
+use convert_spec::ConvertFault;
 use line_layout::layout_of;
 
 // The number and the length of what the converter answers.
-fn measured(answer: Converted) -> Measured
+fn measured(answer: Result<usize, ConvertFault>) -> Measured
     ensures { result ≡ converted answer }
 {
     Measured {

@@ -4,10 +4,10 @@ ghost use Rattle.digest_call.specs.Answers.{digest_answer, digest_out};
 ghost use Rattle.lubdhvani.specs.Answers.{digested};
 
 use crate::answers::{Counted, field};
-use digest_call::{Digested, digest_count, digest_number};
+use digest_call::{DigestRefusal, digest_count, digest_number};
 
 // The number and the count of what a digest answers.
-fn counted(answer: Digested) -> Counted
+fn counted(answer: Result<usize, DigestRefusal>) -> Counted
     ensures { result ≡ digested answer }
 {
     Counted {

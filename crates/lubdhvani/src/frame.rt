@@ -8,7 +8,7 @@ ghost use Rattle.frame_write.specs.Answers.{write_call};
 ghost use Rattle.lubdhvani.specs.Answers.{written};
 
 use crate::answers::field;
-use frame_write::{Written, write_count, write_length, write_number};
+use frame_write::{FrameRefusal, Written, write_count, write_length, write_number};
 use line_layout::layout_of;
 
 // A number, the frame's length, and the count of the calls of the permutation.
@@ -21,7 +21,7 @@ pub struct Framed {
 }
 
 // Those of what a writer answers.
-fn framed_of(answer: Written) -> Framed
+fn framed_of(answer: Result<Written, FrameRefusal>) -> Framed
     ensures { result ≡ written answer }
 {
     Framed {

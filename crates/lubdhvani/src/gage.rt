@@ -5,7 +5,7 @@ ghost use Rattle.gage_cells.specs.Sizes.{LARGEST};
 ghost use Rattle.gage_spec.specs.Permutation.{permute, unpermute};
 ghost use Rattle.lubdhvani.specs.Calls.{permute_number, permute_state};
 
-use gage_spec::{Answer, LARGEST};
+use gage_spec::{LARGEST, PermuteRefusal};
 
 // A state of at most LARGEST bytes at the start of a whole one.
 fn widened(state: &[u8]) -> [u8; LARGEST]
@@ -23,7 +23,7 @@ pub fn lubdhvani_permute(state: &mut [u8], rounds: usize) -> u32
 {
     let n = state.len();
     if n > LARGEST {
-        return gage_spec::number(Answer::Size);
+        return gage_spec::number(Err(PermuteRefusal::Size));
     }
     let r = gage_permute::permute(widened(state), n, rounds);
     let permuted = r.state;
@@ -39,7 +39,7 @@ pub fn lubdhvani_unpermute(state: &mut [u8], rounds: usize) -> u32
 {
     let n = state.len();
     if n > LARGEST {
-        return gage_spec::number(Answer::Size);
+        return gage_spec::number(Err(PermuteRefusal::Size));
     }
     let r = gage_permute::unpermute(widened(state), n, rounds);
     let permuted = r.state;

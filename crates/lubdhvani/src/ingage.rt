@@ -5,10 +5,10 @@ ghost use Rattle.ingage_answers.specs.Answers.{seal_named, open_named};
 ghost use Rattle.lubdhvani.specs.Answers.{sealed, opened};
 
 use crate::answers::{Counted, field};
-use ingage_answers::{Opened, Sealed, open_count, open_number, seal_count, seal_number};
+use ingage_answers::{OpenRefusal, SealRefusal, open_count, open_number, seal_count, seal_number};
 
 // The number and the count of what a sealing answers.
-fn counted_seal(answer: Sealed) -> Counted
+fn counted_seal(answer: Result<usize, SealRefusal>) -> Counted
     ensures { result ≡ sealed answer }
 {
     Counted {
@@ -18,7 +18,7 @@ fn counted_seal(answer: Sealed) -> Counted
 }
 
 // Of what an opening answers.
-fn counted_open(answer: Opened) -> Counted
+fn counted_open(answer: Result<usize, OpenRefusal>) -> Counted
     ensures { result ≡ opened answer }
 {
     Counted {

@@ -4,7 +4,7 @@ ghost use Rattle.running_spec.specs.Running.{start_answer, start_record, start_n
 ghost use Rattle.lubdhvani.specs.Answers.{finished};
 
 use crate::answers::{Counted, field};
-use running_spec::{Finished, Record};
+use running_spec::{FinishRefusal, Record};
 use running_steps::{feed_number, finish_count, finish_number, start_number};
 
 // Starts a running digest on a record lent.
@@ -25,7 +25,7 @@ pub fn lubdhvani_feed(running: &mut Record, bytes: &[u8]) -> u32
 }
 
 // The number and the count of what a finish answers.
-fn counted(answer: Finished) -> Counted
+fn counted(answer: Result<usize, FinishRefusal>) -> Counted
     ensures { result ≡ finished answer }
 {
     Counted {

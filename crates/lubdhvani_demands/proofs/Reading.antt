@@ -9,7 +9,6 @@ use Rattle.line_spec.specs.Lines.{longest}
 use Rattle.line_layout.specs.Layouts.{layout_of}
 use Rattle.frame_body.specs.Fields.{Own}
 use Rattle.frame_spec.specs.Told.{told}
-use Rattle.frame_write.specs.declared.Written.TheVariants as written_is
 use Rattle.read_stretch.specs.Stretches.{span, bytes_at}
 use Rattle.read_stretch.specs.Meaning.{Stretch}
 use Rattle.read_spec.specs.Sizes.{Sizes}
@@ -30,6 +29,7 @@ use Rattle.demand_reading.proofs.EveryLine.{every-line-given, every-frame-given}
 use Rattle.read_readings.specs.Resync.{Mark}
 use Rattle.demand_reading.specs.FromStart.{counted_from}
 use Rattle.demand_reading.proofs.FromStart.{resync-from-start}
+use Rattle.frame_write.specs.Answers.{frame_made}
 use Rattle.lubdhvani.specs.Readings.{LINE, outcome_of, asked_of, reading_out}
 use Rattle.lubdhvani.specs.declared.frame.Framed.{Framed}
 use Rattle.lubdhvani.specs.declared.read.Asked.{Asked}
@@ -127,7 +127,7 @@ pub c-made : (key : List ℕ) (own : Own) (font : List ℕ) (lay : ℕ) (L f : L
     → Below 256 own.nonce → Below 256 own.job → (ed : ℕ) → allows ed own.edition ≡ true → (s' : List ℕ) → take w.length f' ≡ marked s'
     → Made key font (layout_of lay) ed (label_of own) L w.calls s'
 c-made key own font lay L f w f' p e nonce job ed may s' is =
-    let z = wrote key own font (layout_of lay) L f (written_is.Done w.length w.calls) f' (sym (c-written key own font lay L f w f' p e), p.1) w.length
+    let z = wrote key own font (layout_of lay) L f (frame_made w.length w.calls) f' (sym (c-written key own font lay L f w f' p e), p.1) w.length
     w.calls refl in
     subst (λ (k : ℕ). Made key font (layout_of lay) ed (label_of own) L k s') (sym z.calls)
     (made-written key font (layout_of lay) ed own L s' (record {
@@ -166,7 +166,7 @@ pub c-every-frame-given : (key : List ℕ) (own : Own) (font : List ℕ) (lay : 
     → {seen : List Seen} → Run key font asked (a ++ (take w.length f' ++ c)) 0 0 seen → Ended seen
     → SeenGiven (length a + 1) (length a + w.length - 1) (label_of own) L w.calls seen
 c-every-frame-given key own font lay L f w f' p e asked same may enough a c h run end =
-    every-frame-given key own font (layout_of lay) L f (written_is.Done w.length w.calls) f' (sym (c-written key own font lay L f w f' p e), p.1)
+    every-frame-given key own font (layout_of lay) L f (frame_made w.length w.calls) f' (sym (c-written key own font lay L f w f' p e), p.1)
     w.length w.calls refl
     (asked_of asked) (ap layout_of same) may enough a c h (c-run run) end
 

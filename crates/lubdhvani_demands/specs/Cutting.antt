@@ -1,20 +1,19 @@
 -- Order W4 over the exported calls: start, any feeds and finish answer what the digest of the pieces joined answers, number and count, and leave the same
 -- digest. Assumes nothing.
-use Rattle.std.specs.Prelude.{◌≡◌, refl, Bool, true, false, cond, List, [], ◌∷◌, ℕ, ◌≤◌, length}
+use Rattle.std.specs.Prelude.{◌≡◌, refl, Bool, true, false, cond, List, [], ◌∷◌, ℕ, ◌≤◌, length, Ok, Err, Result, ⊤}
 use Rattle.std.proofs.Common.{sym, ap, ◌∙◌, arith, le-ltb}
 use Rattle.base_lists.specs.Buffers.{over}
 use Rattle.digest_spec.specs.Instances.{DIGEST, unknown}
 use Rattle.digest_spec.specs.Hashing.{digest_of, digest_calls}
-use Rattle.digest_call.specs.declared.Digested.TheVariants as digested-is
 use Rattle.digest_call.specs.Answers.{LONGEST-MESSAGE, digest_answer, digest_out}
 use Rattle.running_spec.specs.Running.{start_number, start_answer, feed_number, feed_answer, finish_answer}
 use Rattle.running_spec.specs.Cutting as cutting
 use Rattle.running_spec.specs.Cutting.{joined, all_done}
 use Rattle.running_spec.proofs.Cutting.{any-cutting}
 use Rattle.running_spec.specs.declared.Record.{Record}
-use Rattle.running_spec.specs.declared.Started.{Started}
-use Rattle.running_spec.specs.declared.Started.TheVariants as started-is
-use Rattle.running_spec.specs.declared.Fed.{Fed}
+use Rattle.running_spec.specs.declared.StartRefusal.{StartRefusal}
+use Rattle.running_spec.specs.declared.StartRefusal.TheVariants as started-is
+use Rattle.running_spec.specs.declared.FeedRefusal.{FeedRefusal}
 use Rattle.lubdhvani.specs.Answers.{digested, finished}
 use Rattle.lubdhvani.specs.declared.answers.Counted.{Counted}
 use Rattle.lubdhvani_demands.specs.Promises.{Digests, Starts, Feeds, Finishes}
@@ -29,7 +28,7 @@ abbrev pub zeros : List (List ℕ) → List ℕ
 zeros [] = []
 zeros (b ∷ bs) = 0 ∷ zeros bs
 
-abbrev numbers : List Fed → List ℕ
+abbrev numbers : List (Result ⊤ FeedRefusal) → List ℕ
 numbers [] = []
 numbers (a ∷ as') = feed_number a ∷ numbers as'
 
@@ -38,7 +37,7 @@ numbers-done [] = refl
 numbers-done (b ∷ bs) = ap (λ (ns : List ℕ). 0 ∷ ns) (numbers-done bs)
 
 -- the answers behind the numbers
-answers : {h h' : Record} {bs : List (List ℕ)} {ns : List ℕ} → Feeding h bs ns h' → (as' : List Fed) × cutting.Feeding h bs as' h' × (ns ≡ numbers as')
+answers : {h h' : Record} {bs : List (List ℕ)} {ns : List ℕ} → Feeding h bs ns h' → (as' : List (Result ⊤ FeedRefusal)) × cutting.Feeding h bs as' h' × (ns ≡ numbers as')
 answers none = ([], cutting.none, refl)
 answers (next {h} {b = b} p ps) =
     let z = answers ps in
@@ -52,17 +51,17 @@ known_is : (i : ℕ) → start_number (start_answer i) ≡ 0 → unknown i ≡ f
 unfolding start_answer
 known_is i = go (unknown i) refl
   where
-    go : (x : Bool) → unknown i ≡ x → start_number (cond x started-is.Unknown started-is.Done) ≡ 0 → unknown i ≡ false
+    go : (x : Bool) → unknown i ≡ x → start_number (cond x (Err started-is.Unknown) (Ok tt)) ≡ 0 → unknown i ≡ false
     go true p e = absurd (omega (arith, e))
     go false p e = p
 
 -- the digest at once, where there is the instance, the message is within the limit and there is room
 digest-done : (i : ℕ) (m o : List ℕ) → unknown i ≡ false → length m ≤ LONGEST-MESSAGE → DIGEST ≤ length o
-    → digest_answer i m o ≡ digested-is.Done (digest_calls i m)
+    → digest_answer i m o ≡ Ok (digest_calls i m)
 unfolding digest_answer
 digest-done i m o known fits room = rw (known, le-ltb LONGEST-MESSAGE (length m) fits, le-ltb (length o) DIGEST room)
 
-digest-left : (i : ℕ) (m o : List ℕ) → digest_answer i m o ≡ digested-is.Done (digest_calls i m) → digest_out i m o ≡ over (digest_of i m) o
+digest-left : (i : ℕ) (m o : List ℕ) → digest_answer i m o ≡ Ok (digest_calls i m) → digest_out i m o ≡ over (digest_of i m) o
 unfolding digest_out
 digest-left i m o e = rw e
 

@@ -1,13 +1,13 @@
 -- `c-desk-done` and `c-desk-fault` (order W14): `desk-done` and `desk-fault` over the exported call, by its numbers: it is done exactly if key and font digest
 -- have their sizes, stream, table and count are as they must be, every item chooses a line and the new stream fits; and 23 and 24 come with the first item at
 -- fault. Assumes nothing.
-use Rattle.std.specs.Prelude.{◌≡◌, refl, List, ℕ, length}
+use Rattle.std.specs.Prelude.{◌≡◌, refl, List, ℕ, length, Ok, Err, Result}
 use Rattle.std.proofs.Common.{sym, ap, subst, ◌∙◌, inl, inr, arith}
 use Rattle.line_layout.specs.Layouts.{layout_of}
 use Rattle.frame_spec.specs.Told.{Told, told}
 use Rattle.index_spec.specs.Cases.{Takes}
-use Rattle.desk_spec.specs.declared.Answer.{Answer}
-use Rattle.desk_spec.specs.declared.Answer.TheVariants as answer-is
+use Rattle.desk_spec.specs.declared.DeskRefusal.{DeskRefusal}
+use Rattle.desk_spec.specs.declared.DeskRefusal.TheVariants as answer-is
 use Rattle.desk_spec.specs.Desk.{new_stream, desk_call, desk_number, item_of}
 use Rattle.desk_reading.specs.Done.{DoneWhen, Fault, desk-done, desk-fault}
 use Rattle.lubdhvani_desk.specs.Reworking.{reworked_out}
@@ -19,27 +19,27 @@ abbrev pub done : ℕ → Reworked
 done n = record { number = 0; length = n; item = 0 }
 
 -- 23 is an entry number past the index, 24 an entry whose place starts no line, and nothing else is
-past_is : (a : Answer) → desk_number a ≡ 23 → a ≡ answer-is.Past (item_of a)
-past_is (answer-is.Done n) e = absurd (omega (arith, e))
-past_is answer-is.Sizes e = absurd (omega (arith, e))
-past_is answer-is.TooLong e = absurd (omega (arith, e))
-past_is answer-is.NoTable e = absurd (omega (arith, e))
-past_is answer-is.Count e = absurd (omega (arith, e))
-past_is (answer-is.Past k) e = refl
-past_is (answer-is.NoLine k) e = absurd (omega (arith, e))
-past_is answer-is.NewTooLong e = absurd (omega (arith, e))
-past_is answer-is.NoRoom e = absurd (omega (arith, e))
+past_is : (a : Result ℕ DeskRefusal) → desk_number a ≡ 23 → a ≡ Err (answer-is.Past (item_of a))
+past_is (Ok n) e = absurd (omega (arith, e))
+past_is (Err answer-is.Sizes) e = absurd (omega (arith, e))
+past_is (Err answer-is.TooLong) e = absurd (omega (arith, e))
+past_is (Err answer-is.NoTable) e = absurd (omega (arith, e))
+past_is (Err answer-is.Count) e = absurd (omega (arith, e))
+past_is (Err (answer-is.Past k)) e = refl
+past_is (Err (answer-is.NoLine k)) e = absurd (omega (arith, e))
+past_is (Err answer-is.NewTooLong) e = absurd (omega (arith, e))
+past_is (Err answer-is.NoRoom) e = absurd (omega (arith, e))
 
-no-line-is : (a : Answer) → desk_number a ≡ 24 → a ≡ answer-is.NoLine (item_of a)
-no-line-is (answer-is.Done n) e = absurd (omega (arith, e))
-no-line-is answer-is.Sizes e = absurd (omega (arith, e))
-no-line-is answer-is.TooLong e = absurd (omega (arith, e))
-no-line-is answer-is.NoTable e = absurd (omega (arith, e))
-no-line-is answer-is.Count e = absurd (omega (arith, e))
-no-line-is (answer-is.Past k) e = absurd (omega (arith, e))
-no-line-is (answer-is.NoLine k) e = refl
-no-line-is answer-is.NewTooLong e = absurd (omega (arith, e))
-no-line-is answer-is.NoRoom e = absurd (omega (arith, e))
+no-line-is : (a : Result ℕ DeskRefusal) → desk_number a ≡ 24 → a ≡ Err (answer-is.NoLine (item_of a))
+no-line-is (Ok n) e = absurd (omega (arith, e))
+no-line-is (Err answer-is.Sizes) e = absurd (omega (arith, e))
+no-line-is (Err answer-is.TooLong) e = absurd (omega (arith, e))
+no-line-is (Err answer-is.NoTable) e = absurd (omega (arith, e))
+no-line-is (Err answer-is.Count) e = absurd (omega (arith, e))
+no-line-is (Err (answer-is.Past k)) e = absurd (omega (arith, e))
+no-line-is (Err (answer-is.NoLine k)) e = refl
+no-line-is (Err answer-is.NewTooLong) e = absurd (omega (arith, e))
+no-line-is (Err answer-is.NoRoom) e = absurd (omega (arith, e))
 
 module _ (key font : List ℕ) (editions lay : ℕ) (s table : List ℕ) (count : ℕ) (list o : List ℕ) (r : Reworked) (out : List ℕ)
     (p : Copies key font editions lay s table count list o r out) where
@@ -47,7 +47,7 @@ module _ (key font : List ℕ) (editions lay : ℕ) (s table : List ℕ) (count 
   t = told key font (layout_of lay)
 
   -- what the call below answers
-  abbrev a : Answer
+  abbrev a : Result ℕ DeskRefusal
   a = desk_call t editions s table count list o
 
   number_is : r.number ≡ desk_number a
@@ -65,16 +65,16 @@ module _ (key font : List ℕ) (editions lay : ℕ) (s table : List ℕ) (count 
 
   -- 23 and 24 exactly where an item is the first at fault, and that item is answered, counted from 1: 23 where it is past the index, 24 where no line starts
   -- at its place
-  pub c-desk-fault : (r.number ≡ 23 → Takes t s table count × Fault t editions s table count 1 list (answer-is.Past r.item))
-      × (r.number ≡ 24 → Takes t s table count × Fault t editions s table count 1 list (answer-is.NoLine r.item))
-      × ((x : Answer) → Takes t s table count → Fault t editions s table count 1 list x → r ≡ reworked_out x)
+  pub c-desk-fault : (r.number ≡ 23 → Takes t s table count × Fault t editions s table count 1 list (Err (answer-is.Past r.item)))
+      × (r.number ≡ 24 → Takes t s table count × Fault t editions s table count 1 list (Err (answer-is.NoLine r.item)))
+      × ((x : Result ℕ DeskRefusal) → Takes t s table count → Fault t editions s table count 1 list x → r ≡ reworked_out x)
   c-desk-fault =
       let z = desk-fault key font editions (layout_of lay) s table count list o a out (refl, p.1) in (
         λ e. let n : desk_number a ≡ 23 = sym number_is ∙ e in
-            subst (λ (x : Answer). Takes t s table count × Fault t editions s table count 1 list x)
-            (past_is a n ∙ ap answer-is.Past (sym item-is)) (z.0 (inl n)),
+            subst (λ (x : Result ℕ DeskRefusal). Takes t s table count × Fault t editions s table count 1 list x)
+            (past_is a n ∙ ap (λ (k : ℕ). Err (answer-is.Past k)) (sym item-is)) (z.0 (inl n)),
         λ e. let n : desk_number a ≡ 24 = sym number_is ∙ e in
-            subst (λ (x : Answer). Takes t s table count × Fault t editions s table count 1 list x)
-            (no-line-is a n ∙ ap answer-is.NoLine (sym item-is)) (z.0 (inr n)),
+            subst (λ (x : Result ℕ DeskRefusal). Takes t s table count × Fault t editions s table count 1 list x)
+            (no-line-is a n ∙ ap (λ (k : ℕ). Err (answer-is.NoLine k)) (sym item-is)) (z.0 (inr n)),
         λ x w f. p.0 ∙ ap reworked_out (z.1 x w f),
       )

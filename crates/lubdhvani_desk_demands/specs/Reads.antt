@@ -2,7 +2,7 @@
 -- whole run of `lubdhvani_read` over the new stream sees exactly the chosen lines in the asked order, and nothing else; and whatever the table is, each of
 -- these is seen by the run over the stream given, at the place that the entry names, with the same bytes between its marks. That the stream is bytes is a
 -- premise, which what the call is passed meets by its type (Bytes.antt). Assumes nothing.
-use Rattle.std.specs.Prelude.{◌≡◌, refl, List, [], ◌∷◌, ◌++◌, map, ℕ, ◌≤◌, take}
+use Rattle.std.specs.Prelude.{◌≡◌, refl, List, [], ◌∷◌, ◌++◌, map, ℕ, ◌≤◌, take, Result}
 use Rattle.std.proofs.Common.{sym, ap, subst, ◌∙◌}
 use Rattle.base_lists.specs.Below.{Below}
 use Rattle.line_layout.specs.declared.Layout.{Layout}
@@ -18,7 +18,7 @@ use Rattle.lubdhvani.specs.Readings.{asked_of}
 use Rattle.lubdhvani.specs.declared.read.Asked.{Asked}
 use Rattle.lubdhvani_demands.specs.Promises.{Run}
 use Rattle.lubdhvani_demands.proofs.Reading.{c-run}
-use Rattle.desk_spec.specs.declared.Answer.{Answer}
+use Rattle.desk_spec.specs.declared.DeskRefusal.{DeskRefusal}
 use Rattle.desk_spec.specs.Desk.{desk_call, desk_number, length_of}
 use Rattle.desk_reading.specs.Promises.{given_seen, moved_all}
 use Rattle.desk_reading.proofs.ReadsLaws.{desk-reads}
@@ -37,7 +37,7 @@ module _ (key font : List ℕ) (asked : Asked) (s table : List ℕ) (count : ℕ
   module _ (list o : List ℕ) (r : Reworked) (out : List ℕ) (p : Copies key font asked.editions asked.layout s table count list o r out)
       (zero_number : r.number ≡ 0) where
     -- what the call below answers
-    abbrev a : Answer
+    abbrev a : Result ℕ DeskRefusal
     a = desk_call t asked.editions s table count list o
 
     below-zero : desk_number a ≡ 0

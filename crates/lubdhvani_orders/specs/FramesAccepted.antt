@@ -9,7 +9,6 @@ use Rattle.std.proofs.lemmas.List.{length-map}
 use Rattle.line_layout.specs.Layouts.{layout_of}
 use Rattle.frame_body.specs.Fields.{Own}
 use Rattle.frame_spec.specs.Told.{told}
-use Rattle.frame_write.specs.declared.Written.TheVariants as written_is
 use Rattle.read_spec.specs.Sizes.{Sizes}
 use Rattle.read_spec.specs.Editions.{allows}
 use Rattle.read_call.specs.Answers.{longest_stream}
@@ -19,6 +18,7 @@ use Rattle.demand_joined.proofs.Lines.{frames_of}
 use Rattle.accept_spec.specs.Nonces.{AllDiffer}
 use Rattle.accept_spec.specs.Accepting.{most_stretches, accept_answer}
 use Rattle.accept_runs.specs.FramesAccepted.{frame_nonces, frames-accepted}
+use Rattle.frame_write.specs.Answers.{frame_made}
 use Rattle.lubdhvani.specs.Accepting.{accepted_out}
 use Rattle.lubdhvani.specs.declared.accept.Accepted.{Accepted}
 use Rattle.lubdhvani.specs.declared.frame.Framed.{Framed}
@@ -32,7 +32,7 @@ pub c-makes : (key : List ℕ) (own : Own) (font : List ℕ) (lay : ℕ) (L f : 
     → w.number ≡ 0
     → Makes (told key font (layout_of lay)) own L (take w.length f')
 c-makes key own font lay L f w f' p e =
-    done-makes (told key font (layout_of lay)) own L f (written_is.Done w.length w.calls) f' w.length w.calls
+    done-makes (told key font (layout_of lay)) own L f (frame_made w.length w.calls) f' w.length w.calls
     (sym (c-written key own font lay L f w f' p e), p.1) refl
 
 -- a frame that a write call left, of an edition that is allowed

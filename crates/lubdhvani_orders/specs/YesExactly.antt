@@ -1,7 +1,7 @@
 -- `c-yes-exactly` (order W12 over the exported calls): `lubdhvani_accept` answers 0 if and only if key and font digest have their sizes, the stream is within
 -- 65,536 bytes and 512 stretches, every stretch that a whole run of `lubdhvani_read` sees reads as a line, and no two of them have one nonce. That the stream
 -- is bytes is a premise; what the call is passed meets it by its type (Bytes.antt). Assumes nothing.
-use Rattle.std.specs.Prelude.{◌≡◌, refl, List, ℕ, ◌≤◌, length}
+use Rattle.std.specs.Prelude.{◌≡◌, refl, List, ℕ, ◌≤◌, length, Ok}
 use Rattle.std.proofs.Common.{sym, ap, subst, ◌∙◌, arith}
 use Rattle.base_lists.specs.Below.{Below}
 use Rattle.line_layout.specs.Layouts.{layout_of}
@@ -13,7 +13,6 @@ use Rattle.read_call.specs.Answers.{longest_stream}
 use Rattle.demand_reading.specs.Promises.{Seen}
 use Rattle.demand_reading.proofs.Whole.{whole-run-single}
 use Rattle.accept_spec.specs.declared.Accepted as below
-use Rattle.accept_spec.specs.declared.Answer.TheVariants as answer-is
 use Rattle.accept_spec.specs.Accepting.{accept_answer, accept_number}
 use Rattle.accept_spec.specs.Exactly.{Cause, refused, repeated, all-good, at-fault}
 use Rattle.accept_spec.proofs.Cases.{Case, sizes-wrong, long, many, judged, accept-case}
@@ -46,7 +45,7 @@ module _ (key font : List ℕ) (asked : Asked) (enough : all_work ≤ asked.allo
   abbrev t : Told
   t = told key font (layout_of asked.layout)
 
-  zero-yes : (a : below.Accepted) → Case t asked.editions s a → accept_number a.answer ≡ 0 → a.answer ≡ answer-is.Yes
+  zero-yes : (a : below.Accepted) → Case t asked.editions s a → accept_number a.answer ≡ 0 → a.answer ≡ Ok tt
   zero-yes _ sizes-wrong e = absurd (omega (arith, e))
   zero-yes _ long e = absurd (omega (arith, e))
   zero-yes _ many e = absurd (omega (arith, e))

@@ -1,12 +1,12 @@
 -- `c-received-kept` (order W11): `received-kept` over the exported call: as many bytes of the buffer as it answers are what the events before the fault
 -- received, and behind them the buffer is as it was. Assumes nothing.
-use Rattle.std.specs.Prelude.{◌≡◌, refl, Bool, cond, List, ℕ, eqb, length, take, drop}
+use Rattle.std.specs.Prelude.{◌≡◌, refl, Bool, cond, List, ℕ, eqb, length, take, drop, Ok, Err, Result, ⊤}
 use Rattle.std.proofs.Common.{ap, ◌∙◌}
 use Rattle.line_layout.specs.Layouts.{layout_of}
 use Rattle.frame_spec.specs.Told.{told}
 use Rattle.replay_spec.specs.declared.Event.{Event}
-use Rattle.replay_spec.specs.declared.Answer.{Answer}
-use Rattle.replay_spec.specs.declared.Answer.TheVariants as answer-is
+use Rattle.replay_spec.specs.declared.ReplayFault.{ReplayFault}
+use Rattle.replay_spec.specs.declared.ReplayFault.TheVariants as answer-is
 use Rattle.replay_spec.specs.declared.Replayed as inner
 use Rattle.replay_spec.specs.Events.{events}
 use Rattle.replay_spec.specs.Press.{is_done}
@@ -21,13 +21,13 @@ use Rattle.lubdhvani_traces.specs.Promises.{Replays}
 use Rattle.lubdhvani_traces.specs.Received.{before_fault, Keeps}
 
 -- number 0 is the answer without a fault
-done-is : (a : Answer) → is_done a ≡ eqb (replay_number a) 0
-done-is answer-is.Done = refl
-done-is answer-is.Sizes = refl
-done-is answer-is.NoRoom = refl
-done-is answer-is.Field = refl
-done-is answer-is.NoLine = refl
-done-is answer-is.TooLong = refl
+done-is : (a : Result ⊤ ReplayFault) → is_done a ≡ eqb (replay_number a) 0
+done-is (Ok tt) = refl
+done-is (Err answer-is.Sizes) = refl
+done-is (Err answer-is.NoRoom) = refl
+done-is (Err answer-is.Field) = refl
+done-is (Err answer-is.NoLine) = refl
+done-is (Err answer-is.TooLong) = refl
 
 keeps : (trace o : List ℕ) (a : inner.Replayed) (o' : List ℕ) → keeping.Keeps trace o a o' → Keeps trace o (replayed_out a) o'
 keeps trace o a o' k =

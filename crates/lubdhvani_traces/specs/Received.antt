@@ -5,8 +5,7 @@ use Rattle.std.proofs.Common.{ap, ◌∙◌}
 use Rattle.line_layout.specs.Layouts.{layout_of}
 use Rattle.frame_spec.specs.Told.{told}
 use Rattle.replay_spec.specs.declared.Event.{Event}
-use Rattle.replay_spec.specs.declared.Answer.{Answer}
-use Rattle.replay_spec.specs.declared.Answer.TheVariants as answer-is
+use Rattle.replay_spec.specs.declared.ReplayFault.{ReplayFault}
 use Rattle.replay_spec.specs.declared.Replayed as inner
 use Rattle.replay_spec.specs.Events.{events}
 use Rattle.replay_spec.specs.Press.{is_done}

@@ -1,13 +1,13 @@
 -- `c-first-decides` (order W11): `first-decides` over the exported call, by its numbers: 2, then 4, with the buffer as it was; then the first event at fault
 -- decides, even after a difference, with 20, 21 or 3 for what it is at fault. Assumes nothing.
-use Rattle.std.specs.Prelude.{◌≡◌, refl, true, List, ◌∷◌, ◌++◌, ℕ, ◌+◌, ◌<◌, length}
+use Rattle.std.specs.Prelude.{◌≡◌, refl, true, List, ◌∷◌, ◌++◌, ℕ, ◌+◌, ◌<◌, length, Result, ⊤}
 use Rattle.std.proofs.Common.{ap}
 use Rattle.line_layout.specs.Layouts.{layout_of}
 use Rattle.frame_spec.specs.Told.{Told, told}
 use Rattle.read_call.specs.Answers.{longest_stream, sized_told}
 use Rattle.replay_spec.specs.declared.Kind.TheVariants.{Received, Printed, Bad}
 use Rattle.replay_spec.specs.declared.Event.{Event}
-use Rattle.replay_spec.specs.declared.Answer.{Answer}
+use Rattle.replay_spec.specs.declared.ReplayFault.{ReplayFault}
 use Rattle.replay_spec.specs.declared.Replayed as inner
 use Rattle.replay_spec.specs.Events.{events, bytes_of}
 use Rattle.replay_spec.specs.Press.{nothing, Press, start, is_done, run}
@@ -25,7 +25,7 @@ pub data Fault (trace : List ℕ) (s : Press) (e : Event) : ℕ → Type 0 where
   no_line : e.kind ≡ Printed → s.given ≡ nothing → Fault trace s e 21
   too_long : e.kind ≡ Received → longest_stream < length s.stream + length (bytes_of trace e) → Fault trace s e 3
 
-by_number : {trace : List ℕ} {s : Press} {e : Event} {a : Answer} → stepping.Fault trace s e a → Fault trace s e (replay_number a)
+by_number : {trace : List ℕ} {s : Press} {e : Event} {a : Result ⊤ ReplayFault} → stepping.Fault trace s e a → Fault trace s e (replay_number a)
 by_number (stepping.bad-field k) = bad-field k
 by_number (stepping.no_line k g) = no_line k g
 by_number (stepping.too_long k h) = too_long k h

@@ -4,7 +4,7 @@
 
 use gage_spec::LARGEST;
 use std::rt::Env;
-use tool_trial::{Outcome, Trial};
+use tool_trial::{Trial, TrialFault};
 
 // The longest word that is looked at: a longer one counts as empty.
 const WORD: usize = 256;
@@ -64,11 +64,11 @@ fn say(rt: &(impl Print + Eprint), trial: Trial) {
     let number = tool_trial::outcome_number(outcome);
     let state = trial.state;
     match outcome {
-        Outcome::Done => print(rt, state, trial.size),
-        Outcome::Size => refused(rt, number, ": the size is not permitted\n"),
-        Outcome::Rounds => refused(rt, number, ": the rounds are not 1 to 255\n"),
-        Outcome::NoNumber => usage(rt),
-        Outcome::NoState => complain(
+        Ok(()) => print(rt, state, trial.size),
+        Err(TrialFault::Size) => refused(rt, number, ": the size is not permitted\n"),
+        Err(TrialFault::Rounds) => refused(rt, number, ": the rounds are not 1 to 255\n"),
+        Err(TrialFault::NoNumber) => usage(rt),
+        Err(TrialFault::NoState) => complain(
             rt,
             "no state: two hexadecimal digits for each byte of the size\n",
         ),

@@ -8,10 +8,10 @@ use frame_spec::KEY_LENGTH;
 use frame_stuff_spec::LONGEST_STRETCH;
 use std::io::Read;
 use std::rt::Files;
-use tool_files::{Heard, Loaded};
+use tool_files::{Heard, LoadFault};
 use tool_loads::LONGEST_TEXT;
 use tool_press::Press;
-use tool_row::{Put, ROW_ROOM};
+use tool_row::ROW_ROOM;
 
 // One read of the link takes so many bytes.
 const CHUNK: usize = 4096;
@@ -58,6 +58,7 @@ fn list_piece(
     let mut row = [0u8; ROW_ROOM];
     let mut now = press;
     let mut at = 0;
+    // A `while`: how many bytes a call takes decides where the next one begins.
     while at < piece.len() {
         let turn = tool_press::press_row(window, now, &piece[at..], key, font, &mut row);
         let answer = turn.answer;
@@ -94,7 +95,7 @@ fn list_piece(
 fn list_last(rt: &(impl Print + Eprint), press: Press) {
     let mut row = [0u8; ROW_ROOM];
     let put = tool_row::put_last(press.lines, press.refused, &mut row);
-    let Put::Row(n) = put else {
+    let Ok(n) = put else {
         return;
     };
     if !say(rt, &row, n) {
@@ -164,8 +165,8 @@ fn list(rt: &(impl Print + Eprint), link: &mut impl Read, key: &[u8], font: &[u8
 }
 
 // Whether something is said in place of a listing; it is said.
-fn refused(rt: &impl Print, key: Loaded, font: Loaded) -> bool {
-    let text = tool_loads::said(key, font, Loaded::Bytes(0));
+fn refused(rt: &impl Print, key: Result<usize, LoadFault>, font: Result<usize, LoadFault>) -> bool {
+    let text = tool_loads::said(key, font, Ok(0));
     let length = text.length;
     if length == 0 {
         return false;

@@ -19,7 +19,6 @@ pub enum Bar {
     Font,
     // Opening it takes more calls of the permutation than are allowed.
     Work,
-    Nothing,
 }
 
 // Whether the edition is among those allowed: two bits, 1 for edition one and 2 for edition two.
@@ -41,23 +40,23 @@ pub fn judge_asked(
     n: usize,
     digest: &[u8],
     font: &[u8],
-) -> Bar
+) -> Option<Bar>
     ensures { result ≡ bar_in editions calls edition n digest.now font.now }
 {
     if !allows(editions, edition) {
-        return Bar::Edition;
+        return Some(Bar::Edition);
     }
     if !compare(digest, font) {
-        return Bar::Font;
+        return Some(Bar::Font);
     }
     let beside = beside_line(edition);
     if calls < beside {
-        return Bar::Work;
+        return Some(Bar::Work);
     }
     // What is left is compared, since a sum with n could be more than a number holds.
     let left = calls - beside;
     if left < n {
-        return Bar::Work;
+        return Some(Bar::Work);
     }
-    Bar::Nothing
+    None
 }

@@ -1,5 +1,6 @@
 -- A stretch that is handed in: what each answer of `unstuff` says of the fields that it holds, and one law for each return of `judge`.
 -- Assumes nothing.
+use Rattle.std.specs.Prelude.{Ok, Err, Result}
 use mathlib.Core.Path.{◌≡◌, refl, sym, ap, subst, ◌∙◌}
 use mathlib.Core.Bool.{true}
 use mathlib.Core.List.{List}
@@ -8,9 +9,9 @@ use native.Mathlib.Omega.{arith}
 use lib.ListN.{length, take, drop, length-append}
 use lib.Seq.{take_at}
 use borrow.Author.Tests.{eq-eqb, ne_eqb, lt-ltb, le-ltb}
-use Rattle.frame_stuff_spec.specs.declared.Unstuffed.{Unstuffed}
-use Rattle.frame_stuff_spec.specs.declared.Unstuffed.TheVariants as unstuffed-is
-use Rattle.frame_stuff_spec.specs.Stuffing.{unstuffed}
+use Rattle.frame_stuff_spec.specs.declared.UnstuffFault.{UnstuffFault}
+use Rattle.frame_stuff_spec.specs.declared.UnstuffFault.TheVariants as unstuffed-is
+use Rattle.frame_stuff_spec.specs.Stuffing.{longest_stretch, unstuffed}
 use Rattle.frame_stuff_spec.specs.Answers.{unstuff_answer, unstuff_out}
 use Rattle.frame_stuff_spec.specs.Outcomes.{Outcome, too_long, bad, done}
 use Rattle.frame_stuff_spec.proofs.Outcomes.{unstuff-outcome, length-too-long, length-bad, length-good}
@@ -18,46 +19,53 @@ use Rattle.line_spec.specs.Lines.{longest}
 use Rattle.frame_body.specs.Fields.{digest_length, no_body, fields_of}
 use Rattle.frame_spec.specs.Told.{key_length, Told, told}
 use Rattle.read_spec.specs.Judging.{held}
+use Rattle.read_call.proofs.Unstuffing.{told-small}
 use Rattle.read_call.specs.declared.Asked.{Asked}
 use Rattle.read_call.specs.declared.Verdict.{Verdict}
 use Rattle.read_call.specs.declared.Answer.TheVariants as answer-is
 use Rattle.read_call.specs.Answers.{sized_told, plain, verdict_of, line_over, judged_within, judge_answer, judge_out}
 
 module _ (s o : List ℕ) where
-  outcome : (r : Unstuffed) → unstuff_answer s o ≡ r → Outcome s o r (unstuff_out s o)
-  outcome r e = subst (λ (x : Unstuffed). Outcome s o x (unstuff_out s o)) e (unstuff-outcome s o)
+  outcome : (r : Result ℕ UnstuffFault) → unstuff_answer s o ≡ r → Outcome s o r (unstuff_out s o)
+  outcome r e = subst (λ (x : Result ℕ UnstuffFault). Outcome s o x (unstuff_out s o)) e (unstuff-outcome s o)
 
-  pub held-long : unstuff_answer s o ≡ unstuffed-is.TooLong → held s ≡ no_body
+  held-long : unstuff_answer s o ≡ Err unstuffed-is.TooLong → held s ≡ no_body
   unfolding held
-  held-long e = go (outcome unstuffed-is.TooLong e)
+  held-long e = go (outcome (Err unstuffed-is.TooLong) e)
     where
-      go : {w : List ℕ} → Outcome s o unstuffed-is.TooLong w → held s ≡ no_body
+      go : {w : List ℕ} → Outcome s o (Err unstuffed-is.TooLong) w → held s ≡ no_body
       go (too_long h) = rw (length-too-long s h)
 
-  pub held-bad : unstuff_answer s o ≡ unstuffed-is.Bad → held s ≡ no_body
+  held-bad : unstuff_answer s o ≡ Err unstuffed-is.Bad → held s ≡ no_body
   unfolding held
-  held-bad e = go (outcome unstuffed-is.Bad e)
+  held-bad e = go (outcome (Err unstuffed-is.Bad) e)
     where
-      go : {w : List ℕ} → Outcome s o unstuffed-is.Bad w → held s ≡ no_body
+      go : {w : List ℕ} → Outcome s o (Err unstuffed-is.Bad) w → held s ≡ no_body
       go (bad h n) = rw (length-bad s h n)
+
+  -- so a stretch that is refused into a buffer with room holds no fields
+  pub held-none : longest_stretch ≤ length o → (f : UnstuffFault) → unstuff_answer s o ≡ Err f → held s ≡ no_body
+  held-none room unstuffed-is.TooLong e = held-long e
+  held-none room unstuffed-is.Bad e = held-bad e
+  held-none room unstuffed-is.NoRoom e = absurd (told-small s o room e)
 
   record Body (n : ℕ) (w : List ℕ) : Type 0 where
     fits : n ≤ length w
     bytes : take n w ≡ unstuffed s
     holds : held s ≡ fields_of (unstuffed s)
 
-  body_of : (n : ℕ) → unstuff_answer s o ≡ unstuffed-is.Length n → Body n (unstuff_out s o)
+  body_of : (n : ℕ) → unstuff_answer s o ≡ Ok n → Body n (unstuff_out s o)
   unfolding held
-  body_of n e = go (outcome (unstuffed-is.Length n) e)
+  body_of n e = go (outcome (Ok n) e)
     where
-      go : {k : ℕ} {w : List ℕ} → Outcome s o (unstuffed-is.Length k) w → Body k w
+      go : {k : ℕ} {w : List ℕ} → Outcome s o (Ok k) w → Body k w
       go (done h w l) = record {
         fits = omega (arith, length-append (unstuffed s) (drop (length (unstuffed s)) o));
         bytes = take_at (unstuffed s) (drop (length (unstuffed s)) o) (length (unstuffed s)) refl;
         holds = rw (length-good s h w);
       }
 
-  module _ (n : ℕ) (w : List ℕ) (e : unstuff_answer s o ≡ unstuffed-is.Length n) (v : w ≡ unstuff_out s o) where
+  module _ (n : ℕ) (w : List ℕ) (e : unstuff_answer s o ≡ Ok n) (v : w ≡ unstuff_out s o) where
     pub held_fits : n ≤ length w
     held_fits = rw v (body_of n e).fits
 

@@ -1,5 +1,6 @@
 -- What `open_line` finds of sealed fields is what judging them says: the sizes are right, so it opens them, and the line found is as long as the
 -- ciphertext. Assumes nothing.
+use Rattle.std.specs.Prelude.{Ok, Err, Result, ⊤}
 use mathlib.Core.Path.{◌≡◌, refl, sym, ap, ◌∙◌}
 use mathlib.Core.Bool.{Bool, true, false, not, cond}
 use mathlib.Core.List.{List}
@@ -10,12 +11,12 @@ use lib.Seq.{take_at, take_all}
 use borrow.Author.Tests.{le-ltb}
 use Rattle.base_lists.specs.Buffers.{over, cleared, same}
 use Rattle.line_spec.specs.Lines.{longest}
-use Rattle.line_layout.specs.declared.LineJudged as line-judged
-use Rattle.line_layout.specs.declared.LineJudged.TheVariants.{Accepted, Unlisted, Trade}
-use Rattle.line_layout.specs.declared.LineJudged.TheVariants as found-to-be
+use Rattle.line_layout.specs.declared.LineFault.{LineFault}
+use Rattle.line_layout.specs.declared.LineFault.TheVariants.{Unlisted, Trade}
+use Rattle.line_layout.specs.declared.LineFault.TheVariants as found-to-be
 use Rattle.line_layout.specs.declared.Layout.{Layout}
 use Rattle.line_layout.specs.Layouts.{layout_rule}
-use Rattle.ingage_answers.specs.declared.Opened.TheVariants as opened
+use Rattle.ingage_answers.specs.declared.OpenRefusal.TheVariants as opened
 use Rattle.ingage_spec.specs.Instances.{named, FIRST, first, first_fits}
 use Rattle.ingage_spec.specs.Cipher.{Work, decrypted}
 use Rattle.ingage_spec.proofs.Results.{length-decrypted}
@@ -23,7 +24,6 @@ use Rattle.ingage_answers.specs.Answers.{OpenCall, open_named}
 use Rattle.ingage_answers.specs.Naming.{open-first}
 use Rattle.ingage_answers.specs.Exactly.{Within, opened-within}
 use Rattle.frame_body.specs.Fields.{Own}
-use Rattle.read_open.specs.declared.OpenedLine.TheVariants as found-is
 use Rattle.read_open.specs.Opened.{by_rule, found_by, LineCall, line_call, line_from, text_in, open_beside, open_line}
 use Rattle.read_spec.specs.Judged.{Label, label_of, Judged, seal, unlisted, trade, layout, line}
 use Rattle.read_spec.specs.Judging as judging
@@ -45,8 +45,8 @@ module _ (f : Layout) (own : Own) (key A C T o : List ℕ) (w : Within first key
   -- by whether the seal is the one worked out
   abbrev either : Bool → OpenCall
   either t =
-      cond (not t) (record { answer = opened.Seal work.calls; out = cleared (length C) (replicate longest 0) })
-      (record { answer = opened.Done work.calls; out = over work.text (replicate longest 0) })
+      cond (not t) (record { answer = Err (opened.Seal work.calls); out = cleared (length C) (replicate longest 0) })
+      (record { answer = Ok work.calls; out = over work.text (replicate longest 0) })
 
   is : open_named (named FIRST) key own.nonce A C T (replicate longest 0) ≡ either (same work.seal T)
   is = open-first key own.nonce A C T (replicate longest 0) ∙ opened-within first key own.nonce A C T (replicate longest 0) w
@@ -74,7 +74,7 @@ module _ (f : Layout) (own : Own) (key A C T o : List ℕ) (w : Within first key
   unfolding judge_sealed
   other-seal p = rw p
 
-  module _ (p : same work.seal T ≡ true) (r : line-judged.LineJudged) (e : layout_rule f work.text ≡ r) where
+  module _ (p : same work.seal T ≡ true) (r : Result ⊤ LineFault) (e : layout_rule f work.text ≡ r) where
     by-rule : judge_sealed f own key A C T ≡ judging.by_rule r own work
     unfolding judge_sealed
     by-rule = rw (p, e)
@@ -82,20 +82,20 @@ module _ (f : Layout) (own : Own) (key A C T o : List ℕ) (w : Within first key
     opens-rule : found ≡ line_call (by_rule r work.calls) work.text o
     opens-rule =
         opens true p
-        ∙ ap (λ (s : List ℕ). line_call (found_by f (opened.Done work.calls) s) s o) text-is
-        ∙ ap (λ (i : line-judged.LineJudged). line_call (by_rule i work.calls) work.text o) e
+        ∙ ap (λ (s : List ℕ). line_call (found_by f (Ok work.calls) s) s o) text-is
+        ∙ ap (λ (i : Result ⊤ LineFault). line_call (by_rule i work.calls) work.text o) e
 
   pub found-judged : Shows (judge_sealed f own key A C T) o (verdict_on k (length C) found.answer) found.line
   found-judged = by-seal (same work.seal T) refl
     where
-      by-line : same work.seal T ≡ true → (r : line-judged.LineJudged) → layout_rule f work.text ≡ r
+      by-line : same work.seal T ≡ true → (r : Result ⊤ LineFault) → layout_rule f work.text ≡ r
           → Shows (judge_sealed f own key A C T) o (verdict_on k (length C) found.answer) found.line
-      by-line p Unlisted e = shows _ (opens-rule p Unlisted e) (unlisted work.calls) (by-rule p Unlisted e) (refl, refl)
-      by-line p Trade e = shows _ (opens-rule p Trade e) (trade work.calls) (by-rule p Trade e) (refl, refl)
-      by-line p found-to-be.Layout e = shows _ (opens-rule p found-to-be.Layout e) (layout work.calls) (by-rule p found-to-be.Layout e) (refl, refl)
-      by-line p Accepted e =
-          shows _ (opens-rule p Accepted e) (line own work.text work.calls) (by-rule p Accepted e) (
-            ap (λ (n : ℕ). verdict_on k n (found-is.Line work.calls)) (sym long),
+      by-line p (Err Unlisted) e = shows _ (opens-rule p (Err Unlisted) e) (unlisted work.calls) (by-rule p (Err Unlisted) e) (refl, refl)
+      by-line p (Err Trade) e = shows _ (opens-rule p (Err Trade) e) (trade work.calls) (by-rule p (Err Trade) e) (refl, refl)
+      by-line p (Err found-to-be.Layout) e = shows _ (opens-rule p (Err found-to-be.Layout) e) (layout work.calls) (by-rule p (Err found-to-be.Layout) e) (refl, refl)
+      by-line p (Ok tt) e =
+          shows _ (opens-rule p (Ok tt) e) (line own work.text work.calls) (by-rule p (Ok tt) e) (
+            ap (λ (n : ℕ). verdict_on k n (Ok work.calls)) (sym long),
             ap (λ (s : List ℕ). over s o) (take_all (length o) work.text (omega (arith, long, w.room, h))),
           )
 

@@ -1,4 +1,5 @@
 -- The parts of a body that `judge_body` takes are its fields' values, and what the body is found to be by them. Assumes nothing.
+use Rattle.std.specs.Prelude.{Some, None, Result, Option}
 use mathlib.Core.Path.{◌≡◌, refl, sym, ap, ap₂, subst, ◌∙◌}
 use mathlib.Core.Bool.{Bool, true, false, not, cond}
 use mathlib.Core.List.{List, [], ◌∷◌}
@@ -17,7 +18,6 @@ use Rattle.ingage_answers.specs.Exactly.{Within}
 use Rattle.line_layout.specs.declared.Layout.{Layout}
 use Rattle.frame_body.specs.declared.Edition.{Edition}
 use Rattle.frame_body.specs.declared.Edition.TheVariants.{One, Two}
-use Rattle.frame_body.specs.declared.BodyJudged.TheVariants as judged-is
 use Rattle.frame_body.specs.Fields.{seal_length, Own, own_of, Fields, fields, no_body, fields_of, body, associated}
 use Rattle.frame_body.specs.Answers.{edition_number, judged}
 use Rattle.frame_body.specs.Job.{job_number}
@@ -36,12 +36,13 @@ use Rattle.read_spec.proofs.Allowance.{no-ceiling, enough-allowed, not-enough, s
 use Rattle.read_bar.specs.declared.Bar.{Bar}
 use Rattle.read_bar.specs.declared.Bar.TheVariants as bar-is
 use Rattle.read_bar.specs.Asked.{bar_in, barred}
-use Rattle.read_open.specs.declared.OpenedLine.{OpenedLine}
+use Rattle.read_open.specs.declared.OpenFault.{OpenFault}
 use Rattle.read_open.specs.Opened.{open_line}
+use Rattle.read_call.specs.declared.Answer.{Answer}
 use Rattle.read_call.specs.declared.Verdict.{Verdict}
-use Rattle.read_call.specs.Answers.{verdict_on}
+use Rattle.read_call.specs.Answers.{plain, barred_answer, verdict_on}
 use Rattle.read_call.proofs.Opening.{found-judged}
-use Rattle.read_call.proofs.Shown.{Shows}
+use Rattle.read_call.proofs.Shown.{Shows, shown}
 use Rattle.read_call.specs.Parts.{nonce_in, digest_in, associated_in, cipher_in, seal_from, seal_in, job_in, own_in, Parts, open_parts, judge_parts}
 
 -- a job in edition one is empty
@@ -77,22 +78,23 @@ placed b own digest cipher seal i z f =
     }
 
 -- what `judge_body` tells
-told-fields : (b : List ℕ) → Below 256 b → (f : Fields) → fields_of b ≡ f → (e : Edition) (n : ℕ) → judged f ≡ judged-is.Fields e n → Parts b e n
+told-fields : (b : List ℕ) → Below 256 b → (f : Fields) → fields_of b ≡ f → (e : Edition) (n : ℕ) → judged f ≡ Some (e, n) → Parts b e n
 told-fields b h no_body i e n q = absurd (let z : ◌≡◌ {A = ℕ} 0 1 = cc q in omega arith)
 told-fields b h (fields own digest cipher seal) i e n q =
-    let k : length cipher ≡ n = cc q in
-    let m : own.edition ≡ e = cc q in
+    let pair : ◌≡◌ {A = Edition × ℕ} (own.edition, length cipher) (e, n) = cc q in
+    let k : length cipher ≡ n = ap (λ (x : Edition × ℕ). x.1) pair in
+    let m : own.edition ≡ e = ap (λ (x : Edition × ℕ). x.0) pair in
     let is = body-fields b h i in
     subst (λ (x : Edition). Parts b x n) m (subst (Parts b own.edition) k (placed b own digest cipher seal is.0 is.1 i))
 
-pub parts : (b : List ℕ) → Below 256 b → (e : Edition) (n : ℕ) → judged (fields_of b) ≡ judged-is.Fields e n → Parts b e n
+pub parts : (b : List ℕ) → Below 256 b → (e : Edition) (n : ℕ) → judged (fields_of b) ≡ Some (e, n) → Parts b e n
 parts b h e n q = told-fields b h (fields_of b) refl e n q
 
-told-shape : (f : Fields) → judged f ≡ judged-is.Shape → f ≡ no_body
+told-shape : (f : Fields) → judged f ≡ None → f ≡ no_body
 told-shape no_body q = refl
 told-shape (fields own digest cipher seal) q = absurd (let z : ◌≡◌ {A = ℕ} 0 1 = cc q in omega arith)
 
-pub no_fields : (t : Told) (ed a : ℕ) (b : List ℕ) → judged (fields_of b) ≡ judged-is.Shape
+pub no_fields : (t : Told) (ed a : ℕ) (b : List ℕ) → judged (fields_of b) ≡ None
     → ceiling.within a (judge_fields t (among ed (fields_of b))) ≡ shape
 no_fields t ed a b q = no-ceiling a shape (ap (λ (f : Fields). judge_fields t (among ed f)) (told-shape (fields_of b) q)) refl
 
@@ -139,27 +141,40 @@ module _ (t : Told) (ed a : ℕ) (b : List ℕ) (e : Edition) (n : ℕ) (p : Par
     in-work d l = enough-allowed a (judge_fields t (among ed (fields_of b))) (omega (arith, its-work d, l)) ∙ its-font d
 
   -- what `judge_asked` answers decides it
-  pub by-bar : (r : Bar) → r ≡ bar_in ed a e n (digest_in b) t.font
+  pub by-bar : (r : Option Bar) → r ≡ bar_in ed a e n (digest_in b) t.font
       → ceiling.within a (judge_fields t (among ed (fields_of b))) ≡ barred r (judge_parts t.layout e n t.key b)
   unfolding bar_in
   by-bar r i =
       go (allows ed e) refl (same (digest_in b) t.font) refl (ltb a (n + beside_line e)) refl ∙ ap
-      (λ (x : Bar). barred x (judge_parts t.layout e n t.key b)) (sym i)
+      (λ (x : Option Bar). barred x (judge_parts t.layout e n t.key b)) (sym i)
     where
       go : (x : Bool) → allows ed e ≡ x → (y : Bool) → same (digest_in b) t.font ≡ y → (z : Bool) → ltb a (n + beside_line e) ≡ z
           → ceiling.within a (judge_fields t (among ed (fields_of b)))
-          ≡ barred (cond (not x) bar-is.Edition (cond (not y) bar-is.Font (cond z bar-is.Work bar-is.Nothing))) (judge_parts t.layout e n t.key b)
+          ≡ barred (cond (not x) (Some bar-is.Edition) (cond (not y) (Some bar-is.Font) (cond z (Some bar-is.Work) None))) (judge_parts t.layout e n t.key b)
       go false h y d z l = not-allowed h
       go true h false d z l = other-font h d
       go true h true d true l = over-work h d (ltb-true a (n + beside_line e) l)
       go true h true d false l = in-work h d (ltb-false a (n + beside_line e) l)
+
+  -- where it bars, what is answered
+  pub barred-shown : (x : Option Bar) → x ≡ bar_in ed a e n (digest_in b) t.font → (bar : Bar) → x ≡ Some bar
+      → (answer : Answer) → answer ≡ barred_answer bar → (r : Verdict) → r ≡ plain answer
+      → (o : List ℕ) → Shows (ceiling.within a (judge_fields t (among ed (fields_of b)))) o r o
+  barred-shown x i bar s answer q r v o =
+      by-case bar (by-bar x i ∙ ap (λ (y : Option Bar). barred y (judge_parts t.layout e n t.key b)) s) (v ∙ ap plain q)
+    where
+      by-case : (bar : Bar) → ceiling.within a (judge_fields t (among ed (fields_of b))) ≡ barred (Some bar) (judge_parts t.layout e n t.key b)
+          → r ≡ plain (barred_answer bar) → Shows (ceiling.within a (judge_fields t (among ed (fields_of b)))) o r o
+      by-case bar-is.Edition k w = shown _ o shape k r w
+      by-case bar-is.Font k w = shown _ o font k r w
+      by-case bar-is.Work k w = shown _ o work k r w
 
 module _ (f : Layout) (b key : List ℕ) (e : Edition) (n : ℕ) (p : Parts b e n) where
   abbrev more : ℕ
   more = job_field_length e
 
   -- the parts as they are cut, with what was measured
-  pub as-cut : (m : ℕ) → m ≡ more → (o : List ℕ) → (r : OpenedLine) (w : List ℕ)
+  pub as-cut : (m : ℕ) → m ≡ more → (o : List ℕ) → (r : Result ℕ OpenFault) (w : List ℕ)
       → r ≡ (open_line f key (nonce_in b) (associated_in m b) (cipher_in m n b) (seal_in m n b) o).answer
       → w ≡ (open_line f key (nonce_in b) (associated_in m b) (cipher_in m n b) (seal_in m n b) o).line
       → (r ≡ (open_parts f e n key b o).answer) × (w ≡ (open_parts f e n key b o).line)
@@ -180,7 +195,7 @@ module _ (f : Layout) (b key : List ℕ) (e : Edition) (n : ℕ) (p : Parts b e 
 
   -- what is found of them, with the numbers of edition and job
   pub opened-fields : length key ≡ key_length → (o : List ℕ) → longest ≤ length o → (i j : ℕ) → i ≡ edition_number e → j ≡ job_number (job_in e b)
-      → (x : OpenedLine) → x ≡ (open_parts f e n key b o).answer → (w : List ℕ) → w ≡ (open_parts f e n key b o).line
+      → (x : Result ℕ OpenFault) → x ≡ (open_parts f e n key b o).answer → (w : List ℕ) → w ≡ (open_parts f e n key b o).line
       → (r : Verdict) → r ≡ verdict_on (label i j) n x → Shows (judge_parts f e n key b) o r w
   opened-fields z o h i j u v x xe w we r re =
       let m = found-judged f (own_in e b) key (associated_in more b) (cipher_in more n b) (seal_in more n b) o (within z) h in

@@ -1,6 +1,6 @@
 -- What `read` answers, with its places, and what the lent line buffer then holds: document 01's refusals of a call in its order (2, 3, 4, 10), one line
 -- each, then the end of the stream or the next stretch. Assumes nothing.
-use Rattle.std.specs.Prelude.{◌≡◌, refl, Bool, false, not, cond, List, ℕ, eqb, ltb, length}
+use Rattle.std.specs.Prelude.{◌≡◌, refl, Bool, false, not, cond, List, ℕ, eqb, ltb, length, Ok, Err, Result}
 use Rattle.base_lists.specs.Buffers.{over}
 use Rattle.read_stretch.specs.declared.Span.{Span}
 use Rattle.read_stretch.specs.Stretches.{span, next_span, next_stretch}
@@ -12,8 +12,12 @@ use Rattle.read_call.specs.declared.Answer.{Answer}
 use Rattle.read_call.specs.declared.Reading.{Reading}
 use Rattle.read_call.specs.declared.Verdict.{Verdict}
 use Rattle.read_call.specs.declared.Answer.TheVariants as answer-is
-use Rattle.read_open.specs.declared.OpenedLine as opened-line
-use Rattle.read_open.specs.declared.OpenedLine.TheVariants as found-is
+use Rattle.frame_stuff_spec.specs.declared.UnstuffFault.{UnstuffFault}
+use Rattle.frame_stuff_spec.specs.declared.UnstuffFault.TheVariants as unstuffed-is
+use Rattle.read_bar.specs.declared.Bar.{Bar}
+use Rattle.read_bar.specs.declared.Bar.TheVariants as bar-is
+use Rattle.read_open.specs.declared.OpenFault.{OpenFault}
+use Rattle.read_open.specs.declared.OpenFault.TheVariants as found-is
 use Rattle.read_open.specs.Opened.{found_number}
 use Rattle.read_spec.specs.Judged.{Label, Judged, shape, stuffing, font, work, seal, unlisted, trade, layout, line, label_in}
 use Rattle.read_readings.specs.Readings.{ends}
@@ -79,14 +83,30 @@ plain a = record { answer = a; edition = 0; job = 0 }
 abbrev pub verdict_of : Judged → Verdict
 verdict_of j = record { answer = answer_of j; edition = (label_in j).edition; job = (label_in j).job }
 
+-- the answer where a line that was opened is not given
+abbrev pub answer_to : OpenFault → Answer
+answer_to found-is.Sizes = answer-is.Shape
+answer_to (found-is.Seal calls) = answer-is.Seal calls
+answer_to (found-is.Unlisted calls) = answer-is.Unlisted calls
+answer_to (found-is.Trade calls) = answer-is.Trade calls
+answer_to (found-is.Layout calls) = answer-is.Layout calls
+
+-- where a body is barred from being opened
+abbrev pub barred_answer : Bar → Answer
+barred_answer bar-is.Edition = answer-is.Shape
+barred_answer bar-is.Font = answer-is.Font
+barred_answer bar-is.Work = answer-is.Work
+
+-- where a stretch holds no body
+abbrev pub stuffing_answer : UnstuffFault → Answer
+stuffing_answer unstuffed-is.TooLong = answer-is.Shape
+stuffing_answer unstuffed-is.Bad = answer-is.Stuffing
+stuffing_answer unstuffed-is.NoRoom = answer-is.Shape
+
 -- the answer for what opening a sealed line of n bytes finds; sizes are right where it is called, so it is never refused
-abbrev pub verdict_on : Label → ℕ → opened-line.OpenedLine → Verdict
-verdict_on k n found-is.Sizes = plain answer-is.Shape
-verdict_on k n (found-is.Seal calls) = plain (answer-is.Seal calls)
-verdict_on k n (found-is.Unlisted calls) = plain (answer-is.Unlisted calls)
-verdict_on k n (found-is.Trade calls) = plain (answer-is.Trade calls)
-verdict_on k n (found-is.Layout calls) = plain (answer-is.Layout calls)
-verdict_on k n (found-is.Line calls) = record { answer = answer-is.Line n calls; edition = k.edition; job = k.job }
+abbrev pub verdict_on : Label → ℕ → Result ℕ OpenFault → Verdict
+verdict_on k n (Err fault) = plain (answer_to fault)
+verdict_on k n (Ok calls) = record { answer = answer-is.Line n calls; edition = k.edition; job = k.job }
 
 -- with its places
 abbrev pub reading_at : Span → Verdict → Reading
@@ -200,11 +220,11 @@ outcome_of answer-is.NoRoom = CALL-REFUSED
 outcome_of answer-is.Beyond = CALL-REFUSED
 
 -- what opening a sealed line finds has its number
-pub verdict-number : (k : Label) (n : ℕ) (f : opened-line.OpenedLine) → (found_number f ≡ found_number found-is.Sizes → ⊥)
+pub verdict-number : (k : Label) (n : ℕ) (f : Result ℕ OpenFault) → (found_number f ≡ found_number (Err found-is.Sizes) → ⊥)
     → answer_number (verdict_on k n f).answer ≡ found_number f
-verdict-number k n found-is.Sizes h = absurd (h refl)
-verdict-number k n (found-is.Seal calls) h = refl
-verdict-number k n (found-is.Unlisted calls) h = refl
-verdict-number k n (found-is.Trade calls) h = refl
-verdict-number k n (found-is.Layout calls) h = refl
-verdict-number k n (found-is.Line calls) h = refl
+verdict-number k n (Err found-is.Sizes) h = absurd (h refl)
+verdict-number k n (Err (found-is.Seal calls)) h = refl
+verdict-number k n (Err (found-is.Unlisted calls)) h = refl
+verdict-number k n (Err (found-is.Trade calls)) h = refl
+verdict-number k n (Err (found-is.Layout calls)) h = refl
+verdict-number k n (Ok calls) h = refl

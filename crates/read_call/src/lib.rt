@@ -16,7 +16,7 @@ ghost use Rattle.read_spec.specs.Ceiling.{within};
 ghost use Rattle.read_spec.specs.Sizes.{Sizes};
 ghost use Rattle.frame_spec.specs.Told.{key_length, told};
 ghost use Rattle.read_call.specs.Parts.{job_in, Parts, open_parts, judge_parts};
-ghost use Rattle.read_call.specs.Answers.{plain, verdict_on, verdict_of, judged_within, judge_answer, judge_out, line_over, reading_at, read_answer, read_out};
+ghost use Rattle.read_call.specs.Answers.{plain, answer_to, barred_answer, stuffing_answer, verdict_on, verdict_of, judged_within, judge_answer, judge_out, line_over, reading_at, read_answer, read_out};
 
 use frame_body::{
     ASSOCIATED_AT, ASSOCIATED_LENGTH, CIPHER_AT, DIGEST_AT, DIGEST_LENGTH, Edition, HEAD_LENGTH,
@@ -25,10 +25,10 @@ use frame_body::{
 };
 use frame_spec::{BESIDE_LINE, KEY_LENGTH};
 use frame_stuff::unstuff;
-use frame_stuff_spec::{LONGEST_STRETCH, Unstuffed};
+use frame_stuff_spec::{LONGEST_STRETCH, UnstuffFault};
 use line_layout::Layout;
 use read_bar::{Bar, judge_asked};
-use read_open::{OpenedLine, open_line};
+use read_open::{OpenFault, open_line};
 use read_stretch::next_span;
 
 // The longest stream in bytes (document 01, number 3).
@@ -144,25 +144,31 @@ fn refused(answer: Answer) -> Verdict
     }
 }
 
+// The answer where a line that was opened is not given.
+fn answer_to(fault: OpenFault) -> Answer
+    ensures { result ≡ answer_to fault }
+{
+    match fault {
+        // Never: sizes, lengths and room are right where a line is opened.
+        OpenFault::Sizes => Answer::Shape,
+        OpenFault::Seal(calls) => Answer::Seal(calls),
+        OpenFault::Unlisted(calls) => Answer::Unlisted(calls),
+        OpenFault::Trade(calls) => Answer::Trade(calls),
+        OpenFault::Layout(calls) => Answer::Layout(calls),
+    }
+}
+
 // The verdict on a sealed line of so many bytes: it is given with this edition and job.
-fn verdict_on(found: OpenedLine, edition: usize, job: usize, length: usize) -> Verdict
+fn verdict_on(found: Result<usize, OpenFault>, edition: usize, job: usize, length: usize) -> Verdict
     ensures { result ≡ verdict_on (label edition job) length found }
 {
     match found {
-        // Never: sizes, lengths and room are right here.
-        OpenedLine::Sizes => return refused(Answer::Shape),
-        OpenedLine::Seal(calls) => return refused(Answer::Seal(calls)),
-        OpenedLine::Unlisted(calls) => return refused(Answer::Unlisted(calls)),
-        OpenedLine::Trade(calls) => return refused(Answer::Trade(calls)),
-        OpenedLine::Layout(calls) => return refused(Answer::Layout(calls)),
-        OpenedLine::Line(calls) => {
-            let answer = Answer::Line { length, calls };
-            return Verdict {
-                answer,
-                edition,
-                job,
-            };
-        }
+        Ok(calls) => Verdict {
+            answer: Answer::Line { length, calls },
+            edition,
+            job,
+        },
+        Err(fault) => refused(answer_to(fault)),
     }
 }
 
@@ -174,7 +180,7 @@ fn open_parts(
     key: &[u8],
     layout: Layout,
     line: &mut [u8],
-) -> OpenedLine
+) -> Result<usize, OpenFault>
     requires { Parts body.now edition n }
     ensures value { result ≡ (open_parts layout edition n key.now body.now line.old).answer }
     ensures line_after { line.new ≡ (open_parts layout edition n key.now body.now line.old).line }
@@ -209,6 +215,17 @@ fn open_fields(
     verdict_on(found, number, job, n)
 }
 
+// The answer where a body is barred from being opened.
+fn barred_answer(bar: Bar) -> Answer
+    ensures { result ≡ barred_answer bar }
+{
+    match bar {
+        Bar::Edition => Answer::Shape,
+        Bar::Font => Answer::Font,
+        Bar::Work => Answer::Work,
+    }
+}
+
 // Judges a body of this edition by whether it is allowed, the font it was sealed to, the work that opening it takes, its seal and its line. The
 // work is compared with what is allowed before any call of the permutation.
 fn judge_edition(
@@ -231,13 +248,8 @@ fn judge_edition(
 {
     let digest = &body[DIGEST_AT..DIGEST_AT + DIGEST_LENGTH];
     match judge_asked(asked.editions, asked.allowed, edition, n, digest, font) {
-        Bar::Edition => return refused(Answer::Shape),
-        Bar::Font => return refused(Answer::Font),
-        Bar::Work => return refused(Answer::Work),
-        Bar::Nothing => {
-            let layout = asked.layout;
-            return open_fields(body, edition, n, key, layout, line);
-        }
+        Some(bar) => refused(barred_answer(bar)),
+        None => open_fields(body, edition, n, key, asked.layout, line),
     }
 }
 
@@ -252,10 +264,19 @@ fn judge_fields(body: &[u8], key: &[u8], font: &[u8], asked: Asked, line: &mut [
         line.old }
 {
     match judge_body(body) {
-        frame_body::BodyJudged::Shape => return refused(Answer::Shape),
-        frame_body::BodyJudged::Fields(edition, n) => {
-            return judge_edition(body, edition, n, key, font, asked, line);
-        }
+        None => refused(Answer::Shape),
+        Some((edition, n)) => judge_edition(body, edition, n, key, font, asked, line),
+    }
+}
+
+// The answer where a stretch holds no body.
+fn stuffing_answer(fault: UnstuffFault) -> Answer
+    ensures { result ≡ stuffing_answer fault }
+{
+    match fault {
+        UnstuffFault::Bad => Answer::Stuffing,
+        // No room is never the case: the body has room for the longest stretch.
+        UnstuffFault::TooLong | UnstuffFault::NoRoom => Answer::Shape,
     }
 }
 
@@ -269,11 +290,8 @@ fn judge_stretch(stretch: &[u8], key: &[u8], font: &[u8], asked: Asked, line: &m
 {
     let mut body = [0u8; LONGEST_STRETCH];
     let n = match unstuff(stretch, &mut body) {
-        Unstuffed::TooLong => return refused(Answer::Shape),
-        Unstuffed::Bad => return refused(Answer::Stuffing),
-        // Never: the body has room for the longest stretch.
-        Unstuffed::NoRoom => return refused(Answer::Shape),
-        Unstuffed::Length(n) => n,
+        Ok(n) => n,
+        Err(fault) => return refused(stuffing_answer(fault)),
     };
     judge_fields(&body[0..n], key, font, asked, line)
 }
@@ -298,16 +316,13 @@ pub fn judge(stretch: &[u8], key: &[u8], font: &[u8], asked: Asked, line: &mut [
 }
 
 // What the fields are that a stretch holds, of whatever edition; none where it is too long or badly stuffed.
-pub fn fields_in(stretch: &[u8]) -> frame_body::BodyJudged
+pub fn fields_in(stretch: &[u8]) -> Option<(Edition, usize)>
     ensures { result ≡ judged (held stretch.now) }
 {
     let mut body = [0u8; LONGEST_STRETCH];
-    let n = match unstuff(stretch, &mut body) {
-        Unstuffed::TooLong => return frame_body::BodyJudged::Shape,
-        Unstuffed::Bad => return frame_body::BodyJudged::Shape,
-        // Never: the body has room for the longest stretch.
-        Unstuffed::NoRoom => return frame_body::BodyJudged::Shape,
-        Unstuffed::Length(n) => n,
+    // A stretch that is refused holds no body, for the body has room for the longest.
+    let Ok(n) = unstuff(stretch, &mut body) else {
+        return None;
     };
     judge_body(&body[0..n])
 }

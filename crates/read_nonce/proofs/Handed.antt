@@ -1,4 +1,5 @@
 -- What each answer of `unstuff` says of the fields that a stretch holds, and what `judge_body` says of a body's nonce. Assumes nothing.
+use Rattle.std.specs.Prelude.{Ok, Err, Some, None, Result}
 use mathlib.Core.Path.{◌≡◌, refl, sym, ap, subst, ◌∙◌}
 use mathlib.Core.List.{List}
 use Prim.Native.Nat.{ℕ, ◌+◌, ◌-◌, ◌≤◌}
@@ -8,8 +9,8 @@ use lib.Seq.{take_at, length-take-le}
 use Rattle.base_lists.specs.Below.{Below}
 use Rattle.base_lists.specs.Buffers.{copied}
 use Rattle.base_lists.specs.Over.{copied_all, over-whole}
-use Rattle.frame_stuff_spec.specs.declared.Unstuffed.{Unstuffed}
-use Rattle.frame_stuff_spec.specs.declared.Unstuffed.TheVariants as unstuffed-is
+use Rattle.frame_stuff_spec.specs.declared.UnstuffFault.{UnstuffFault}
+use Rattle.frame_stuff_spec.specs.declared.UnstuffFault.TheVariants as unstuffed-is
 use Rattle.frame_stuff_spec.specs.Stuffing.{longest_stretch, unstuffed}
 use Rattle.frame_stuff_spec.specs.RoundTrip.{stuff-unstuff}
 use Rattle.frame_stuff_spec.specs.Lengths.{stuffed-at-least}
@@ -17,7 +18,6 @@ use Rattle.frame_stuff_spec.specs.Answers.{unstuff_answer, unstuff_out}
 use Rattle.frame_stuff_spec.specs.Outcomes.{Outcome, too_long, bad, no_room, done}
 use Rattle.frame_stuff_spec.proofs.Outcomes.{unstuff-outcome, length-too-long, length-bad, length-good}
 use Rattle.frame_body.specs.declared.Edition.{Edition}
-use Rattle.frame_body.specs.declared.BodyJudged.TheVariants as judged-is
 use Rattle.frame_body.specs.Fields.{nonce_length, Fields, fields, no_body, fields_of}
 use Rattle.frame_body.specs.Answers.{judged}
 use Rattle.frame_body.proofs.Lengths.{length-body}
@@ -28,61 +28,66 @@ use Rattle.read_spec.specs.Judging.{held}
 use Rattle.read_nonce.specs.Nonces.{no_nonce, of_fields, nonce_answer}
 
 module _ (s o : List ℕ) where
-  outcome : (r : Unstuffed) → unstuff_answer s o ≡ r → Outcome s o r (unstuff_out s o)
-  outcome r e = subst (λ (x : Unstuffed). Outcome s o x (unstuff_out s o)) e (unstuff-outcome s o)
+  outcome : (r : Result ℕ UnstuffFault) → unstuff_answer s o ≡ r → Outcome s o r (unstuff_out s o)
+  outcome r e = subst (λ (x : Result ℕ UnstuffFault). Outcome s o x (unstuff_out s o)) e (unstuff-outcome s o)
 
-  pub none-long : unstuff_answer s o ≡ unstuffed-is.TooLong → no_nonce ≡ nonce_answer s
+  none-long : unstuff_answer s o ≡ Err unstuffed-is.TooLong → no_nonce ≡ nonce_answer s
   unfolding nonce_answer held
-  none-long e = go (outcome unstuffed-is.TooLong e)
+  none-long e = go (outcome (Err unstuffed-is.TooLong) e)
     where
-      go : {w : List ℕ} → Outcome s o unstuffed-is.TooLong w → no_nonce ≡ nonce_answer s
+      go : {w : List ℕ} → Outcome s o (Err unstuffed-is.TooLong) w → no_nonce ≡ nonce_answer s
       go (too_long h) = rw (length-too-long s h)
 
-  pub none-bad : unstuff_answer s o ≡ unstuffed-is.Bad → no_nonce ≡ nonce_answer s
+  none-bad : unstuff_answer s o ≡ Err unstuffed-is.Bad → no_nonce ≡ nonce_answer s
   unfolding nonce_answer held
-  none-bad e = go (outcome unstuffed-is.Bad e)
+  none-bad e = go (outcome (Err unstuffed-is.Bad) e)
     where
-      go : {w : List ℕ} → Outcome s o unstuffed-is.Bad w → no_nonce ≡ nonce_answer s
+      go : {w : List ℕ} → Outcome s o (Err unstuffed-is.Bad) w → no_nonce ≡ nonce_answer s
       go (bad h n) = rw (length-bad s h n)
 
   -- no body is longer than its stretch
-  pub not-small : longest_stretch ≤ length o → unstuff_answer s o ≡ unstuffed-is.NoRoom → ⊥
-  not-small room e = go (outcome unstuffed-is.NoRoom e)
+  not-small : longest_stretch ≤ length o → unstuff_answer s o ≡ Err unstuffed-is.NoRoom → ⊥
+  not-small room e = go (outcome (Err unstuffed-is.NoRoom) e)
     where
-      go : {w : List ℕ} → Outcome s o unstuffed-is.NoRoom w → ⊥
+      go : {w : List ℕ} → Outcome s o (Err unstuffed-is.NoRoom) w → ⊥
       go (no_room h w l) = omega (arith, stuffed-at-least (unstuffed s), ap length (stuff-unstuff w))
+
+  -- so a stretch that is refused into a buffer with room holds none
+  pub none-refused : longest_stretch ≤ length o → (f : UnstuffFault) → unstuff_answer s o ≡ Err f → no_nonce ≡ nonce_answer s
+  none-refused room unstuffed-is.TooLong e = none-long e
+  none-refused room unstuffed-is.Bad e = none-bad e
+  none-refused room unstuffed-is.NoRoom e = absurd (not-small room e)
 
   record Body (n : ℕ) (w : List ℕ) : Type 0 where
     fits : n ≤ length w
     bytes : take n w ≡ unstuffed s
     holds : nonce_answer s ≡ of_fields (fields_of (unstuffed s))
 
-  body_of : (n : ℕ) → unstuff_answer s o ≡ unstuffed-is.Length n → Body n (unstuff_out s o)
+  body_of : (n : ℕ) → unstuff_answer s o ≡ Ok n → Body n (unstuff_out s o)
   unfolding nonce_answer held
-  body_of n e = go (outcome (unstuffed-is.Length n) e)
+  body_of n e = go (outcome (Ok n) e)
     where
-      go : {k : ℕ} {w : List ℕ} → Outcome s o (unstuffed-is.Length k) w → Body k w
+      go : {k : ℕ} {w : List ℕ} → Outcome s o (Ok k) w → Body k w
       go (done h w l) = record {
         fits = omega (arith, length-append (unstuffed s) (drop (length (unstuffed s)) o));
         bytes = take_at (unstuffed s) (drop (length (unstuffed s)) o) (length (unstuffed s)) refl;
         holds = rw (length-good s h w);
       }
 
-  module _ (n : ℕ) (w : List ℕ) (e : unstuff_answer s o ≡ unstuffed-is.Length n) (v : w ≡ unstuff_out s o) where
+  module _ (n : ℕ) (w : List ℕ) (e : unstuff_answer s o ≡ Ok n) (v : w ≡ unstuff_out s o) where
     pub body-fits : n ≤ length w
     body-fits = rw v (body_of n e).fits
 
-    pub body-holds : of_fields (fields_of (take (n - 0) (drop 0 w))) ≡ nonce_answer s
+    pub body-holds : of_fields (fields_of (take n w)) ≡ nonce_answer s
     body-holds =
         let b = body_of n e in
-        let z : n - 0 ≡ n = omega arith in
-        rw (z, v) (ap (λ (x : List ℕ). of_fields (fields_of x)) b.bytes) ∙ sym b.holds
+        rw v (ap (λ (x : List ℕ). of_fields (fields_of x)) b.bytes) ∙ sym b.holds
 
 -- what `judge_body` tells of a body
-pub body-none : (b : List ℕ) → judged (fields_of b) ≡ judged-is.Shape → no_nonce ≡ of_fields (fields_of b)
+pub body-none : (b : List ℕ) → judged (fields_of b) ≡ None → no_nonce ≡ of_fields (fields_of b)
 body-none b = go (fields_of b)
   where
-    go : (f : Fields) → judged f ≡ judged-is.Shape → no_nonce ≡ of_fields f
+    go : (f : Fields) → judged f ≡ None → no_nonce ≡ of_fields f
     go no_body e = refl
     go (fields own digest cipher seal) e = absurd (let z : ◌≡◌ {A = ℕ} 0 1 = cc e in omega arith)
 
@@ -90,10 +95,10 @@ pub record Placed (b : List ℕ) : Type 0 where
   pub room : nonce_at + nonce_length ≤ length b
   pub nonce-is : of_fields (fields_of b) ≡ record { found = 1; bytes = take nonce_length (drop nonce_at b) }
 
-pub body-placed : (b : List ℕ) → Below 256 b → (e : Edition) (n : ℕ) → judged (fields_of b) ≡ judged-is.Fields e n → Placed b
+pub body-placed : (b : List ℕ) → Below 256 b → (e : Edition) (n : ℕ) → judged (fields_of b) ≡ Some (e, n) → Placed b
 body-placed b h e n = go (fields_of b) refl
   where
-    go : (f : Fields) → fields_of b ≡ f → judged f ≡ judged-is.Fields e n → Placed b
+    go : (f : Fields) → fields_of b ≡ f → judged f ≡ Some (e, n) → Placed b
     go no_body i q = absurd (let z : ◌≡◌ {A = ℕ} 0 1 = cc q in omega arith)
     go (fields own digest cipher seal) i q =
         let (is, z) = body-fields b h i in

@@ -1,9 +1,9 @@
 -- A nonce is twelve bytes. Assumes nothing.
-use Rattle.std.specs.Prelude.{◌≡◌, refl, List, ℕ, length, take, drop}
+use Rattle.std.specs.Prelude.{◌≡◌, refl, List, ℕ, length, take, drop, Ok, Err, Result}
 use Rattle.std.proofs.Common.{ap, subst, ◌∙◌, arith}
 use Rattle.base_lists.specs.Below.{Below, below-take, below-drop, below-replicate}
-use Rattle.frame_stuff_spec.specs.declared.Unstuffed.{Unstuffed}
-use Rattle.frame_stuff_spec.specs.declared.Unstuffed.TheVariants as unstuffed-is
+use Rattle.frame_stuff_spec.specs.declared.UnstuffFault.{UnstuffFault}
+use Rattle.frame_stuff_spec.specs.declared.UnstuffFault.TheVariants as unstuffed-is
 use Rattle.frame_stuff_spec.specs.Stuffing.{unstuffed}
 use Rattle.frame_stuff_spec.specs.Answers.{length_answer}
 use Rattle.frame_stuff_spec.specs.Bytes.{unstuffed-below}
@@ -45,8 +45,8 @@ nonce-twelve s h = by_length (length_answer s)
         z in
         (z.nonce-is, subst (Below 256) n (below-take 256 nonce_length (drop nonce_at b) (below-drop 256 nonce_at b (unstuffed-below s h))))
 
-    by_length : (u : Unstuffed) → Twelve (of_fields (held_by u (fields_of (unstuffed s)))).bytes
-    by_length unstuffed-is.TooLong = zeros
-    by_length unstuffed-is.NoRoom = zeros
-    by_length unstuffed-is.Bad = zeros
-    by_length (unstuffed-is.Length n) = by-fields (fields_of (unstuffed s)) refl
+    by_length : (u : Result ℕ UnstuffFault) → Twelve (of_fields (held_by u (fields_of (unstuffed s)))).bytes
+    by_length (Err unstuffed-is.TooLong) = zeros
+    by_length (Err unstuffed-is.NoRoom) = zeros
+    by_length (Err unstuffed-is.Bad) = zeros
+    by_length (Ok n) = by-fields (fields_of (unstuffed s)) refl

@@ -9,7 +9,7 @@ ghost use Rattle.read_nonce.specs.Nonces.{no_nonce, of_fields, nonce_answer};
 
 use frame_body::{NONCE_AT, NONCE_LENGTH, judge_body};
 use frame_stuff::unstuff;
-use frame_stuff_spec::{LONGEST_STRETCH, Unstuffed};
+use frame_stuff_spec::LONGEST_STRETCH;
 
 // Whether a stretch holds the fields of a body (1 or 0), of whatever edition, and their nonce; zeros where it holds none. It has no padding.
 #[repr(C)]
@@ -47,14 +47,11 @@ fn in_body(body: &[u8]) -> Nonce
     ensures { result ≡ of_fields (fields_of body.now) }
 {
     match judge_body(body) {
-        frame_body::BodyJudged::Shape => return none(),
-        frame_body::BodyJudged::Fields(_, _) => {
-            let bytes = nonce_part(body);
-            return Nonce {
-                found: FOUND,
-                bytes,
-            };
-        }
+        None => none(),
+        Some(_) => Nonce {
+            found: FOUND,
+            bytes: nonce_part(body),
+        },
     }
 }
 
@@ -63,12 +60,9 @@ pub fn nonce_of(stretch: &[u8]) -> Nonce
     ensures { result ≡ nonce_answer stretch.now }
 {
     let mut body = [0u8; LONGEST_STRETCH];
-    let n = match unstuff(stretch, &mut body) {
-        Unstuffed::TooLong => return none(),
-        Unstuffed::Bad => return none(),
-        // Never: the body has room for the longest stretch.
-        Unstuffed::NoRoom => return none(),
-        Unstuffed::Length(n) => n,
+    // A stretch that is refused holds no body, for the body has room for the longest.
+    let Ok(n) = unstuff(stretch, &mut body) else {
+        return none();
     };
-    in_body(&body[0..n])
+    in_body(&body[..n])
 }

@@ -4,18 +4,18 @@
 
 ghost use Rattle.std.specs.Prelude.{◌≡◌, ◌≤◌, length};
 ghost use Rattle.base_lists.specs.Buffers.{copied};
-ghost use Rattle.read_open.specs.Opened.{found_by, line_by, open_beside, open_line};
+ghost use Rattle.read_open.specs.Opened.{counted, found_by, line_by, open_beside, open_line};
 
 use base_lists::copy;
 use frame_body::LONGEST_LINE;
 use frame_spec::INSTANCE;
-use ingage_answers::Opened;
+use ingage_answers::OpenRefusal;
 use ingage_call::open;
-use line_layout::{Layout, judge_line};
+use line_layout::{Layout, LineFault, judge_line};
 
-// What opening a sealed line finds; all but Sizes with the calls of the permutation made.
+// Why a sealed line is not given; all but Sizes with the calls of the permutation made.
 #[derive(Clone, Copy)]
-pub enum OpenedLine {
+pub enum OpenFault {
     // Nothing is opened: key, nonce, associated data, ciphertext, seal or buffer is not of a size that a frame's has.
     Sizes,
     // The seal is not the one worked out.
@@ -26,8 +26,6 @@ pub enum OpenedLine {
     Trade(usize),
     // It is the trade's line, but not of the layout named.
     Layout(usize),
-    // A line is given, as long as the ciphertext.
-    Line(usize),
 }
 
 // Hands out a line: over the start of the caller's buffer.
@@ -37,26 +35,37 @@ fn hand_out(found: &[u8], line: &mut [u8])
     copy(found, line);
 }
 
+// A fault of the line, with the calls of the finished work.
+fn counted(fault: LineFault, calls: usize) -> OpenFault
+    ensures { result ≡ counted fault calls }
+{
+    match fault {
+        LineFault::Unlisted => OpenFault::Unlisted(calls),
+        LineFault::Trade => OpenFault::Trade(calls),
+        LineFault::Layout => OpenFault::Layout(calls),
+    }
+}
+
 // Judges what was opened: the answer of `open`, and the bytes that it left. The caller's buffer is written only where a line is given.
-fn judge_opened(opened: Opened, layout: Layout, found: &[u8], line: &mut [u8]) -> OpenedLine
+fn judge_opened(
+    opened: Result<usize, OpenRefusal>,
+    layout: Layout,
+    found: &[u8],
+    line: &mut [u8],
+) -> Result<usize, OpenFault>
     ensures value { result ≡ found_by layout opened found.now }
     ensures line_after { line.new ≡ line_by (found_by layout opened found.now) found.now line.old }
 {
-    match opened {
-        Opened::Seal(calls) => return OpenedLine::Seal(calls),
-        Opened::Done(calls) => {
-            match judge_line(layout, found) {
-                line_layout::LineJudged::Unlisted => return OpenedLine::Unlisted(calls),
-                line_layout::LineJudged::Trade => return OpenedLine::Trade(calls),
-                line_layout::LineJudged::Layout => return OpenedLine::Layout(calls),
-                line_layout::LineJudged::Accepted => {
-                    hand_out(found, line);
-                    return OpenedLine::Line(calls);
-                }
-            }
-        }
-        _ => return OpenedLine::Sizes,
+    let calls = match opened {
+        Ok(calls) => calls,
+        Err(OpenRefusal::Seal(calls)) => return Err(OpenFault::Seal(calls)),
+        Err(_) => return Err(OpenFault::Sizes),
+    };
+    if let Err(fault) = judge_line(layout, found) {
+        return Err(counted(fault, calls));
     }
+    hand_out(found, line);
+    Ok(calls)
 }
 
 // Opens a sealed line into text, which has room for it, and judges it.
@@ -69,7 +78,7 @@ fn open_beside(
     seal: &[u8],
     text: &mut [u8],
     line: &mut [u8],
-) -> OpenedLine
+) -> Result<usize, OpenFault>
     requires { length cipher.now ≤ length text.old }
     ensures answer { result ≡ (open_beside layout key.now nonce.now assoc.now cipher.now seal.now
         text.old line.old).answer }
@@ -89,17 +98,17 @@ pub fn open_line(
     cipher: &[u8],
     seal: &[u8],
     line: &mut [u8],
-) -> OpenedLine
+) -> Result<usize, OpenFault>
     ensures answer { result ≡ (open_line layout key.now nonce.now assoc.now cipher.now seal.now
         line.old).answer }
     ensures line { line.new ≡ (open_line layout key.now nonce.now assoc.now cipher.now
         seal.now line.old).line }
 {
     if cipher.len() > LONGEST_LINE {
-        return OpenedLine::Sizes;
+        return Err(OpenFault::Sizes);
     }
     if line.len() < cipher.len() {
-        return OpenedLine::Sizes;
+        return Err(OpenFault::Sizes);
     }
     let mut text = [0u8; LONGEST_LINE];
     open_beside(layout, key, nonce, assoc, cipher, seal, &mut text, line)

@@ -1,14 +1,14 @@
 -- What an allowance does to what a stretch is found to be (order W5): with enough allowed nothing, a larger one never alters an answer that was
 -- not 15, and no count is over it; and 15 is given exactly after 8 and before 5. Assumes nothing.
-use Rattle.std.specs.Prelude.{◌≡◌, refl, Bool, true, false, not, cond, List, ℕ, ◌+◌, ◌≤◌, ◌<◌, ltb, length}
+use Rattle.std.specs.Prelude.{◌≡◌, refl, Bool, true, false, not, cond, List, ℕ, ◌+◌, ◌≤◌, ◌<◌, ltb, length, Ok, Err, Result, ⊤}
 use Rattle.std.proofs.Common.{sym, ap, ◌∙◌, arith, lt-ltb, le-ltb, ltb-true, ltb-false}
 use Rattle.base_lists.specs.Below.{Below}
 use Rattle.base_lists.specs.Sameness.{same_refl}
 use Rattle.frame_stuff_spec.specs.Stuffing.{unstuffed}
 use Rattle.frame_stuff_spec.specs.Bytes.{unstuffed-below}
 use Rattle.line_layout.specs.declared.Layout as layouts
-use Rattle.line_layout.specs.declared.LineJudged as line-judged
-use Rattle.line_layout.specs.declared.LineJudged.TheVariants.{Accepted, Unlisted, Trade, Layout}
+use Rattle.line_layout.specs.declared.LineFault.{LineFault}
+use Rattle.line_layout.specs.declared.LineFault.TheVariants.{Unlisted, Trade, Layout}
 use Rattle.line_layout.specs.Layouts.{layout_rule}
 use Rattle.ingage_spec.specs.Instances.{first}
 use Rattle.ingage_spec.specs.Cipher.{Work, decrypted, accepted}
@@ -79,11 +79,11 @@ sealed-work l own key A cipher T = by-seal (accepted w.seal T)
     w : Work
     w = decrypted first key own.nonce A cipher
 
-    by-rule : (r : line-judged.LineJudged) → calls_in (by_rule r own w) ≡ w.calls
-    by-rule Accepted = refl
-    by-rule Unlisted = refl
-    by-rule Trade = refl
-    by-rule Layout = refl
+    by-rule : (r : Result ⊤ LineFault) → calls_in (by_rule r own w) ≡ w.calls
+    by-rule (Ok tt) = refl
+    by-rule (Err Unlisted) = refl
+    by-rule (Err Trade) = refl
+    by-rule (Err Layout) = refl
 
     by-seal : (b : Bool) → calls_in (cond (not b) (seal w.calls) (by_rule (layout_rule l w.text) own w)) ≡ w.calls
     by-seal true = by-rule (layout_rule l w.text)

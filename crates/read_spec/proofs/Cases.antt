@@ -1,6 +1,6 @@
 -- What a stretch can be found to be, case by case in document 01's order, in the words of good stuffing, fields, edition, font and seal.
 -- Assumes nothing.
-use Rattle.std.specs.Prelude.{◌≡◌, refl, Bool, not, cond, ◌⊎◌, ℕ, ◌≤◌, ◌<◌, length}
+use Rattle.std.specs.Prelude.{◌≡◌, refl, Bool, not, cond, ◌⊎◌, ℕ, ◌≤◌, ◌<◌, length, Ok, Err, Result, ⊤}
 use Rattle.std.proofs.Common.{sym, ap, ◌∙◌, inl, inr, arith}
 use Rattle.std.proofs.Math.Path.{subst}
 use Rattle.std.proofs.Math.Bool.{true, false}
@@ -11,8 +11,8 @@ use Rattle.base_lists.specs.Sameness.{same_refl, same-eq}
 use Rattle.frame_stuff_spec.specs.Stuffing.{longest_stretch, unstuffed, WellStuffed}
 use Rattle.frame_stuff_spec.proofs.GoodStuffing.{well-or-not}
 use Rattle.frame_stuff_spec.proofs.Outcomes.{length-too-long, length-bad, length-good}
-use Rattle.line_layout.specs.declared.LineJudged as line-judged
-use Rattle.line_layout.specs.declared.LineJudged.TheVariants.{Accepted, Unlisted, Trade, Layout}
+use Rattle.line_layout.specs.declared.LineFault.{LineFault}
+use Rattle.line_layout.specs.declared.LineFault.TheVariants.{Unlisted, Trade, Layout}
 use Rattle.line_layout.specs.Layouts.{layout_rule}
 use Rattle.ingage_spec.specs.Instances.{first}
 use Rattle.ingage_spec.specs.Cipher.{Work, decrypted}
@@ -48,7 +48,7 @@ module _ (t : Told) (ed : ℕ) (s : List ℕ) where
   judge-holds h = judge-fields h.0 ∙ ap (judge_fields t) h.1
 
 pub judge-line : (t : Told) (ed : ℕ) (s : List ℕ) (own : Own) (cipher : List ℕ) → Holds ed s own t.font cipher (opening t own t.font cipher).seal
-    → layout_rule t.layout (opening t own t.font cipher).text ≡ Accepted
+    → layout_rule t.layout (opening t own t.font cipher).text ≡ Ok tt
     → judge t ed s ≡ line own (opening t own t.font cipher).text (opening t own t.font cipher).calls
 unfolding judge_sealed
 judge-line t ed s own cipher h a =
@@ -56,12 +56,12 @@ judge-line t ed s own cipher h a =
 
 module _ (t : Told) (ed : ℕ) (s : List ℕ) where
   line-case : (own : Own) (cipher : List ℕ) → Holds ed s own t.font cipher (opening t own t.font cipher).seal
-      → (r : line-judged.LineJudged) → layout_rule t.layout (opening t own t.font cipher).text ≡ r
+      → (r : Result ⊤ LineFault) → layout_rule t.layout (opening t own t.font cipher).text ≡ r
       → Case t ed s (by_rule r own (opening t own t.font cipher))
-  line-case own cipher h Accepted e = given own cipher h e
-  line-case own cipher h Unlisted e = not_listed own cipher h e
-  line-case own cipher h Trade e = not-trade own cipher h e
-  line-case own cipher h Layout e = not-laid own cipher h e
+  line-case own cipher h (Ok tt) e = given own cipher h e
+  line-case own cipher h (Err Unlisted) e = not_listed own cipher h e
+  line-case own cipher h (Err Trade) e = not-trade own cipher h e
+  line-case own cipher h (Err Layout) e = not-laid own cipher h e
 
   seal-case : (own : Own) (cipher T : List ℕ) → Holds ed s own t.font cipher T
       → (b : Bool) → same (opening t own t.font cipher).seal T ≡ b

@@ -1,9 +1,9 @@
 -- A layout narrows (order W7): a stretch is found to be what it is with none named, or that was a line and is 17 now, with the same count; within
 -- every ceiling on the work. Assumes nothing.
-use Rattle.std.specs.Prelude.{Bool, true, false, not, cond, List, ℕ, ltb}
+use Rattle.std.specs.Prelude.{Bool, true, false, not, cond, List, ℕ, ltb, Ok, Err, Result}
 use Rattle.base_lists.specs.Buffers.{same}
-use Rattle.frame_stuff_spec.specs.declared.Unstuffed.{Unstuffed}
-use Rattle.frame_stuff_spec.specs.declared.Unstuffed.TheVariants as unstuffed-is
+use Rattle.frame_stuff_spec.specs.declared.UnstuffFault.{UnstuffFault}
+use Rattle.frame_stuff_spec.specs.declared.UnstuffFault.TheVariants as unstuffed-is
 use Rattle.frame_stuff_spec.specs.Stuffing.{unstuffed}
 use Rattle.frame_stuff_spec.specs.Answers.{length_answer}
 use Rattle.line_layout.specs.declared.Layout as layouts
@@ -57,11 +57,11 @@ module _ (t : Told) where
       found : Told → Judged
       found u = judge_fields u (among ed (fields_of (unstuffed s)))
 
-      by-stuffing : (u : Unstuffed) → Narrower (by_stuffing u (found t)) (by_stuffing u (found (under Neither t)))
-      by-stuffing unstuffed-is.TooLong = alike (by_stuffing unstuffed-is.TooLong (found t))
-      by-stuffing unstuffed-is.NoRoom = alike (by_stuffing unstuffed-is.NoRoom (found t))
-      by-stuffing unstuffed-is.Bad = alike (by_stuffing unstuffed-is.Bad (found t))
-      by-stuffing (unstuffed-is.Length n) = fields-narrows (among ed (fields_of (unstuffed s)))
+      by-stuffing : (u : Result ℕ UnstuffFault) → Narrower (by_stuffing u (found t)) (by_stuffing u (found (under Neither t)))
+      by-stuffing (Err unstuffed-is.TooLong) = alike (by_stuffing (Err unstuffed-is.TooLong) (found t))
+      by-stuffing (Err unstuffed-is.NoRoom) = alike (by_stuffing (Err unstuffed-is.NoRoom) (found t))
+      by-stuffing (Err unstuffed-is.Bad) = alike (by_stuffing (Err unstuffed-is.Bad) (found t))
+      by-stuffing (Ok n) = fields-narrows (among ed (fields_of (unstuffed s)))
 
 -- a ceiling lets both through, or neither
 pub within-narrows : (a : ℕ) (j k : Judged) → Narrower j k → Narrower (within a j) (within a k)

@@ -1,14 +1,14 @@
 -- The number of a stretch is that of the call that decides it: the numbers of stuffing, of fields and of a line are the reader's.
 -- Assumes nothing.
-use Rattle.std.specs.Prelude.{◌≡◌, List, ℕ}
+use Rattle.std.specs.Prelude.{◌≡◌, List, ℕ, Ok, Err, Result, ⊤}
 use Rattle.std.proofs.Math.Path.{refl, ap}
 use Rattle.std.proofs.Common.{◌∙◌}
 use Rattle.base_lists.specs.Sameness.{same_refl}
 use Rattle.frame_stuff_spec.specs.Stuffing.{unstuffed}
 use Rattle.frame_stuff_spec.specs.Answers.{length_answer, unstuff_number}
 use Rattle.frame_stuff_spec.proofs.Outcomes.{length-too-long, length-bad, length-good}
-use Rattle.line_layout.specs.declared.LineJudged as line-judged
-use Rattle.line_layout.specs.declared.LineJudged.TheVariants.{Accepted, Unlisted, Trade, Layout}
+use Rattle.line_layout.specs.declared.LineFault.{LineFault}
+use Rattle.line_layout.specs.declared.LineFault.TheVariants.{Unlisted, Trade, Layout}
 use Rattle.line_layout.specs.Layouts as lines
 use Rattle.line_layout.specs.Layouts.{layout_rule}
 use Rattle.ingage_spec.specs.Cipher.{Work}
@@ -58,8 +58,8 @@ module _ (t : Told) (ed : ℕ) (s : List ℕ) where
       let w = opening t own t.font cipher in
       ap number_in (judge-holds t ed s h) ∙ rw (same_refl t.font, same_refl w.seal) (by-rule (layout_rule t.layout w.text) own w)
     where
-      by-rule : (r : line-judged.LineJudged) (own : Own) (w : Work) → number_in (by_rule r own w) ≡ lines.line_number r
-      by-rule Accepted own w = refl
-      by-rule Unlisted own w = refl
-      by-rule Trade own w = refl
-      by-rule Layout own w = refl
+      by-rule : (r : Result ⊤ LineFault) (own : Own) (w : Work) → number_in (by_rule r own w) ≡ lines.line_number r
+      by-rule (Ok tt) own w = refl
+      by-rule (Err Unlisted) own w = refl
+      by-rule (Err Trade) own w = refl
+      by-rule (Err Layout) own w = refl

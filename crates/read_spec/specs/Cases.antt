@@ -1,6 +1,6 @@
 -- What a stretch can be found to be, case by case in document 01's order, in the words of good stuffing, fields, edition, font and seal.
 -- Assumes nothing.
-use Rattle.std.specs.Prelude.{◌≡◌, refl, Bool, not, cond, ◌⊎◌, ℕ, ◌≤◌, ◌<◌, length}
+use Rattle.std.specs.Prelude.{◌≡◌, refl, Bool, not, cond, ◌⊎◌, ℕ, ◌≤◌, ◌<◌, length, Ok, Err}
 use Rattle.std.proofs.Common.{sym, ap, ◌∙◌, inl, inr, arith}
 use Rattle.std.proofs.Math.Path.{subst}
 use Rattle.std.proofs.Math.Bool.{true, false}
@@ -11,8 +11,8 @@ use Rattle.base_lists.specs.Sameness.{same_refl, same-eq}
 use Rattle.frame_stuff_spec.specs.Stuffing.{longest_stretch, unstuffed, WellStuffed}
 use Rattle.frame_stuff_spec.proofs.GoodStuffing.{well-or-not}
 use Rattle.frame_stuff_spec.proofs.Outcomes.{length-too-long, length-bad, length-good}
-use Rattle.line_layout.specs.declared.LineJudged as line-judged
-use Rattle.line_layout.specs.declared.LineJudged.TheVariants.{Accepted, Unlisted, Trade, Layout}
+use Rattle.line_layout.specs.declared.LineFault.{LineFault}
+use Rattle.line_layout.specs.declared.LineFault.TheVariants.{Unlisted, Trade, Layout}
 use Rattle.line_layout.specs.Layouts.{layout_rule}
 use Rattle.ingage_spec.specs.Instances.{first}
 use Rattle.ingage_spec.specs.Cipher.{Work, decrypted}
@@ -44,11 +44,11 @@ pub data Case (t : Told) (ed : ℕ) (s : List ℕ) : Judged → Type 0 where
   other-seal : (own : Own) (cipher T : List ℕ) → Holds ed s own t.font cipher T → ((opening t own t.font cipher).seal ≡ T → ⊥)
       → Case t ed s (seal (opening t own t.font cipher).calls)
   not_listed : (own : Own) (cipher : List ℕ) → Holds ed s own t.font cipher (opening t own t.font cipher).seal
-      → layout_rule t.layout (opening t own t.font cipher).text ≡ Unlisted → Case t ed s (unlisted (opening t own t.font cipher).calls)
+      → layout_rule t.layout (opening t own t.font cipher).text ≡ Err Unlisted → Case t ed s (unlisted (opening t own t.font cipher).calls)
   not-trade : (own : Own) (cipher : List ℕ) → Holds ed s own t.font cipher (opening t own t.font cipher).seal
-      → layout_rule t.layout (opening t own t.font cipher).text ≡ Trade → Case t ed s (trade (opening t own t.font cipher).calls)
+      → layout_rule t.layout (opening t own t.font cipher).text ≡ Err Trade → Case t ed s (trade (opening t own t.font cipher).calls)
   not-laid : (own : Own) (cipher : List ℕ) → Holds ed s own t.font cipher (opening t own t.font cipher).seal
-      → layout_rule t.layout (opening t own t.font cipher).text ≡ Layout → Case t ed s (layout (opening t own t.font cipher).calls)
+      → layout_rule t.layout (opening t own t.font cipher).text ≡ Err Layout → Case t ed s (layout (opening t own t.font cipher).calls)
   given : (own : Own) (cipher : List ℕ) → Holds ed s own t.font cipher (opening t own t.font cipher).seal
-      → layout_rule t.layout (opening t own t.font cipher).text ≡ Accepted
+      → layout_rule t.layout (opening t own t.font cipher).text ≡ Ok tt
       → Case t ed s (line own (opening t own t.font cipher).text (opening t own t.font cipher).calls)

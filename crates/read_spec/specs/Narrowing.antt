@@ -2,8 +2,7 @@
 -- every ceiling on the work. Assumes nothing.
 use Rattle.std.specs.Prelude.{Bool, true, false, not, cond, List, ℕ, ltb}
 use Rattle.base_lists.specs.Buffers.{same}
-use Rattle.frame_stuff_spec.specs.declared.Unstuffed.{Unstuffed}
-use Rattle.frame_stuff_spec.specs.declared.Unstuffed.TheVariants as unstuffed-is
+use Rattle.frame_stuff_spec.specs.declared.UnstuffFault.{UnstuffFault}
 use Rattle.frame_stuff_spec.specs.Stuffing.{unstuffed}
 use Rattle.frame_stuff_spec.specs.Answers.{length_answer}
 use Rattle.line_layout.specs.declared.Layout as layouts

@@ -6,7 +6,7 @@ use Rattle.std.proofs.Math.Decide.{dec_lt, dec_le}
 use Rattle.std.proofs.lemmas.Bool.{eqb-false}
 use Rattle.frame_stuff_spec.specs.Stuffing.{mark}
 use Rattle.read_stretch.specs.declared.Span.{Span}
-use Rattle.read_stretch.specs.Stretches.{span, after_mark, next_span}
+use Rattle.read_stretch.specs.Stretches.{after_mark, next_span}
 use Rattle.read_stretch.specs.Steps.{after-end, after-mark, after-close, after_on, next-end, next-mark, next-on}
 use Rattle.read_stretch.specs.Meaning.{NoMark, Stretch, FirstFrom, none, found}
 

@@ -1,13 +1,9 @@
 -- What the next stretch means: the first whose opening mark stands at the place asked for or later, and the end where there is none.
 -- Assumes nothing.
-use Rattle.std.specs.Prelude.{◌≡◌, refl, Bool, true, false, List, ℕ, zero, suc, ◌+◌, ◌-◌, ◌≤◌, ◌<◌, eqb, ltb, length, get_or, drop}
-use Rattle.std.proofs.Common.{subst, arith, eqb-true, ltb-true, ltb-false}
-use Rattle.std.proofs.Math.Decide.{dec_lt, dec_le}
-use Rattle.std.proofs.lemmas.Bool.{eqb-false}
+use Rattle.std.specs.Prelude.{◌≡◌, List, ℕ, ◌-◌, ◌≤◌, ◌<◌, length, get_or}
 use Rattle.frame_stuff_spec.specs.Stuffing.{mark}
 use Rattle.read_stretch.specs.declared.Span.{Span}
-use Rattle.read_stretch.specs.Stretches.{span, after_mark, next_span}
-use Rattle.read_stretch.specs.Steps.{after-end, after-mark, after-close, after_on, next-end, next-mark, next-on}
+use Rattle.read_stretch.specs.Stretches.{span}
 
 -- no mark from place a up to, not including, place e
 abbrev pub NoMark : List ℕ → ℕ → ℕ → Type 0

@@ -1,11 +1,9 @@
 -- The places of the next stretch: in order and within the stream, both the stream's length exactly where there is no stretch, and
 -- else between two marks with no mark between. Assumes nothing.
-use Rattle.std.specs.Prelude.{◌≡◌, List, ℕ, ◌+◌, ◌-◌, ◌≤◌, ◌<◌, length}
-use Rattle.std.proofs.Common.{sym, ap, ap₂, subst, ◌∙◌, arith}
-use Rattle.std.proofs.Math.Decide.{dec_lt}
+use Rattle.std.specs.Prelude.{◌≡◌, List, ℕ, ◌≤◌, ◌<◌, length}
 use Rattle.read_stretch.specs.declared.Span.{Span}
-use Rattle.read_stretch.specs.Stretches.{span, next_span}
-use Rattle.read_stretch.specs.Meaning.{Stretch, FirstFrom, none, found}
+use Rattle.read_stretch.specs.Stretches.{span}
+use Rattle.read_stretch.specs.Meaning.{Stretch}
 
 -- places of a stream of n bytes
 pub record Within (n : ℕ) (p : Span) : Type 0 where

@@ -1,12 +1,8 @@
 -- The next stretch depends on the bytes from the place on and on nothing before, and a frame that opens there is the next stretch.
 -- Assumes nothing.
-use Rattle.std.specs.Prelude.{◌≡◌, refl, Bool, true, false, cond, List, [], ◌∷◌, ◌++◌, ℕ, ◌+◌, ◌-◌, ◌≤◌, ◌<◌, eqb, ltb, length, drop}
-use Rattle.std.proofs.Common.{sym, ap, ap₂, ◌∙◌, arith, length-append, drop-drop, ne_eqb, lt-ltb, le-ltb, ltb-true, ltb-false, le-leb}
-use Rattle.std.proofs.Math.Seq.{drop-append_seam, drop-append-add, take-append_seam}
-use Rattle.base_lists.specs.Free.{Free}
-use Rattle.frame_stuff_spec.specs.Stuffing.{mark}
+use Rattle.std.specs.Prelude.{◌≡◌, List, ℕ, ◌+◌, ◌-◌, ◌≤◌, length, drop}
 use Rattle.read_stretch.specs.declared.Span.{Span}
-use Rattle.read_stretch.specs.Stretches.{span, after_mark, before_mark, next_span, bytes_at, next_stretch}
+use Rattle.read_stretch.specs.Stretches.{span, next_span, next_stretch}
 
 -- places d further on
 abbrev pub moved : ℕ → Span → Span

@@ -1,4 +1,5 @@
 -- What the two calls answer and leave: refused, or by the run of the events. Assumes nothing.
+use Rattle.std.specs.Prelude.{Ok, Err, Result, ⊤}
 use mathlib.Core.Path.{◌≡◌, refl, sym, ap, ◌∙◌}
 use mathlib.Core.Bool.{Bool, true, false, not, cond}
 use mathlib.Core.List.{List}
@@ -12,8 +13,8 @@ use Rattle.base_lists.specs.Never.{never}
 use Rattle.base_lists.specs.Buffers.{over}
 use Rattle.frame_spec.specs.Told.{Told}
 use Rattle.read_call.specs.Answers.{longest_stream, sized_told}
-use Rattle.replay_spec.specs.declared.Answer.{Answer}
-use Rattle.replay_spec.specs.declared.Answer.TheVariants.{Done, Sizes, NoRoom}
+use Rattle.replay_spec.specs.declared.ReplayFault.{ReplayFault}
+use Rattle.replay_spec.specs.declared.ReplayFault.TheVariants.{Sizes, NoRoom}
 use Rattle.replay_spec.specs.Events.{events}
 use Rattle.replay_spec.specs.Press.{start, is_done, run}
 use Rattle.replay_spec.specs.Runs.{events-few}
@@ -24,10 +25,10 @@ use Rattle.replay_call.proofs.Standing.{next-stood}
 
 module _ (t : Told) (ed : ℕ) (trace o : List ℕ) where
   -- what refuses the call before any event
-  abbrev first : Answer
+  abbrev first : Result ⊤ ReplayFault
   first = refusal_of (length t.key) (length t.font) (length o)
 
-  first-is : first ≡ cond (not (sized_told t)) Sizes (cond (ltb (length o) longest_stream) NoRoom Done)
+  first-is : first ≡ cond (not (sized_told t)) (Err Sizes) (cond (ltb (length o) longest_stream) (Err NoRoom) (Ok tt))
   unfolding refusal_of sized_told
   first-is = refl
 
@@ -35,7 +36,7 @@ module _ (t : Told) (ed : ℕ) (trace o : List ℕ) where
   pub not-refused : is_done first ≡ true → (longest_stream ≤ length o) × (sized_told t ≡ true)
   not-refused d = go (sized_told t) refl (ltb (length o) longest_stream) refl (ap is_done (sym first-is) ∙ d)
     where
-      go : (x : Bool) → sized_told t ≡ x → (y : Bool) → ltb (length o) longest_stream ≡ y → is_done (cond (not x) Sizes (cond y NoRoom Done)) ≡ true
+      go : (x : Bool) → sized_told t ≡ x → (y : Bool) → ltb (length o) longest_stream ≡ y → is_done (cond (not x) (Err Sizes) (cond y (Err NoRoom) (Ok tt))) ≡ true
           → (longest_stream ≤ length o) × (sized_told t ≡ true)
       go false e y f n = never n
       go true e true f n = never n
@@ -45,9 +46,9 @@ module _ (t : Told) (ed : ℕ) (trace o : List ℕ) where
   unfolding replay_answer replay_out
   replay-refused d = rw first-is (go (sized_told t) (ltb (length o) longest_stream) (ap is_done (sym first-is) ∙ d))
     where
-      go : (x y : Bool) → is_done (cond (not x) Sizes (cond y NoRoom Done)) ≡ false
-          → (replayed_as (cond (not x) Sizes (cond y NoRoom Done)) 0 0 ≡ cond (not x) (replayed_as Sizes 0 0)
-          (cond y (replayed_as NoRoom 0 0) (answer_of (replayed t ed trace))))
+      go : (x y : Bool) → is_done (cond (not x) (Err Sizes) (cond y (Err NoRoom) (Ok tt))) ≡ false
+          → (replayed_as (cond (not x) (Err Sizes) (cond y (Err NoRoom) (Ok tt))) 0 0 ≡ cond (not x) (replayed_as (Err Sizes) 0 0)
+          (cond y (replayed_as (Err NoRoom) 0 0) (answer_of (replayed t ed trace))))
           × (o ≡ cond (not x) o (cond y o (over (replayed t ed trace).stream o)))
       go false y n = (refl, refl)
       go true true n = (refl, refl)
@@ -95,15 +96,15 @@ module _ (t : Told) (ed : ℕ) (trace o : List ℕ) where
     unfolding stood_answer stood_out
     stood-refused d = rw first-is (go (sized_told t) (ltb (length o) longest_stream) (ap is_done (sym first-is) ∙ d))
       where
-        go : (x y : Bool) → is_done (cond (not x) Sizes (cond y NoRoom Done)) ≡ false
-            → (none_stood (cond (not x) Sizes (cond y NoRoom Done)) 0 ≡ cond (not x) (none_stood Sizes 0) (cond y (none_stood NoRoom 0) (stood_at n t ed trace)))
+        go : (x y : Bool) → is_done (cond (not x) (Err Sizes) (cond y (Err NoRoom) (Ok tt))) ≡ false
+            → (none_stood (cond (not x) (Err Sizes) (cond y (Err NoRoom) (Ok tt))) 0 ≡ cond (not x) (none_stood (Err Sizes) 0) (cond y (none_stood (Err NoRoom) 0) (stood_at n t ed trace)))
             × (o ≡ cond (not x) o (cond y o (over (replayed_to (n - 1) t ed trace).stream o)))
         go false y q = (refl, refl)
         go true true q = (refl, refl)
         go true false q = never (sym q)
 
     module _ (z : sized_told t ≡ true) (h : longest_stream ≤ length o) where
-      pub stood-zero : n ≡ 0 → (none_stood Done 0 ≡ stood_answer t ed trace n o) × (o ≡ stood_out t ed trace n o)
+      pub stood-zero : n ≡ 0 → (none_stood (Ok tt) 0 ≡ stood_answer t ed trace n o) × (o ≡ stood_out t ed trace n o)
       unfolding stood_answer stood_out replayed_to run
       stood-zero e = (rw (z, le-ltb (length o) longest_stream h, e), rw (z, le-ltb (length o) longest_stream h, e))
 

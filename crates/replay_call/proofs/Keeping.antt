@@ -1,4 +1,5 @@
 -- What each event does to a state, as the press's steps say: bytes taken in, a line given, a line printed. Assumes nothing.
+use Rattle.std.specs.Prelude.{Err, Result, ⊤}
 use mathlib.Core.Path.{◌≡◌, refl, sym, ap, ◌∙◌}
 use mathlib.Core.Bool.{Bool, true, false, not, cond}
 use mathlib.Core.List.{List, ◌++◌}
@@ -13,8 +14,8 @@ use Rattle.base_lists.specs.Over.{over-part, copied_all, take-over}
 use Rattle.frame_spec.specs.Told.{Told}
 use Rattle.read_spec.specs.Judged.{Judged}
 use Rattle.read_call.specs.Answers.{longest_stream, sized_told}
-use Rattle.replay_spec.specs.declared.Answer.{Answer}
-use Rattle.replay_spec.specs.declared.Answer.TheVariants.{TooLong, NoLine}
+use Rattle.replay_spec.specs.declared.ReplayFault.{ReplayFault}
+use Rattle.replay_spec.specs.declared.ReplayFault.TheVariants.{TooLong, NoLine}
 use Rattle.replay_spec.specs.declared.Kind.{Kind}
 use Rattle.replay_spec.specs.declared.Kind.TheVariants.{Received, Printed, Bad}
 use Rattle.replay_spec.specs.declared.Event.{Event}
@@ -28,7 +29,7 @@ use Rattle.replay_call.specs.declared.State.{State}
 use Rattle.replay_call.specs.Holding.{held_given, held, state_of, failed, printed_by, Sound, Kept}
 
 -- a fault changes the answer alone
-pub kept-failed : (a : Answer) (c : State) (b : List ℕ) → Sound c b → Kept (faulty a (held c b)) c c.at b (failed a c) b
+pub kept-failed : (a : Result ⊤ ReplayFault) (c : State) (b : List ℕ) → Sound c b → Kept (faulty a (held c b)) c c.at b (failed a c) b
 kept-failed a c b s = record {
   is = refl;
   there = refl;
@@ -42,10 +43,10 @@ module _ (c : State) (v b : List ℕ) (s : Sound c b) where
   streamed : length (take c.received b) ≡ c.received
   streamed = length-take-le c.received b (omega (arith, s.few, s.room))
 
-  pub kept-past : longest_stream - c.received < length v → Kept (receive v (held c b)) c c.at b (failed TooLong c) b
+  pub kept-past : longest_stream - c.received < length v → Kept (receive v (held c b)) c c.at b (failed (Err TooLong) c) b
   unfolding receive
   kept-past h =
-      rw (lt-ltb longest_stream (length (take c.received b) + length v) (omega (arith, streamed, s.few))) (kept-failed TooLong c b s)
+      rw (lt-ltb longest_stream (length (take c.received b) + length v) (omega (arith, streamed, s.few))) (kept-failed (Err TooLong) c b s)
 
   -- the bytes stand behind the stream
   pub kept_in : (out : List ℕ) → length v ≤ longest_stream - c.received → out ≡ copied v (take (length b - c.received) (drop c.received b))
@@ -83,9 +84,9 @@ module _ (c : State) (v b : List ℕ) (s : Sound c b) where
       c.answer
 
   by-unprinted : (u : Bool) → c.unprinted ≡ u → Kept (print_on (held_given u (take c.length c.line)) v (held c b)) c c.at b
-      (cond (not u) (failed NoLine c) after-print) b
+      (cond (not u) (failed (Err NoLine) c) after-print) b
   unfolding after-print
-  by-unprinted false e = kept-failed NoLine c b s
+  by-unprinted false e = kept-failed (Err NoLine) c b s
   by-unprinted true e = record {
     is = refl;
     there = refl;
@@ -109,7 +110,7 @@ module _ (c : State) (v : List ℕ) where
       go true q = sym (eqb-true d 0 q)
       go false q = refl
 
-  pub print-none : not c.unprinted ≡ true → failed NoLine c ≡ printed_by v c
+  pub print-none : not c.unprinted ≡ true → failed (Err NoLine) c ≡ printed_by v c
   unfolding printed_by
   print-none u = rw u
 

@@ -1,4 +1,5 @@
 -- What stands at the next event, test by test, and that it is what stood at the event asked for. Assumes nothing.
+use Rattle.std.specs.Prelude.{Ok}
 use mathlib.Core.Path.{◌≡◌, refl, sym, ap, ap₂, ◌∙◌}
 use mathlib.Core.Bool.{Bool, true, false, not, cond}
 use mathlib.Core.List.{List, [], ◌∷◌}
@@ -12,7 +13,6 @@ use Rattle.read_spec.specs.Judged.{Judged}
 use Rattle.replay_spec.specs.declared.Kind.{Kind}
 use Rattle.replay_spec.specs.declared.Kind.TheVariants.{Received, Asked, Printed, Bad}
 use Rattle.replay_spec.specs.declared.Event.{Event}
-use Rattle.replay_spec.specs.declared.Answer.TheVariants.{Done}
 use Rattle.replay_spec.specs.Events.{event_at, events_in, events}
 use Rattle.replay_spec.specs.Press.{Press, start, is_done, run}
 use Rattle.replay_spec.specs.Runs.{events-none, events-one}
@@ -21,17 +21,17 @@ use Rattle.replay_call.specs.declared.State.{State}
 use Rattle.replay_call.specs.Holding.{held_given, held, Left, Ran, stood_by, stood_next}
 
 module _ (trace : List ℕ) (c : State) where
-  pub next-fault : is_done c.answer ≡ false → none_stood Done c.received ≡ stood_next trace c
+  pub next-fault : is_done c.answer ≡ false → none_stood (Ok tt) c.received ≡ stood_next trace c
   unfolding stood_next
   next-fault d = rw d
 
   module _ (d : is_done c.answer ≡ true) where
-    pub next-end : length trace ≤ c.at → none_stood Done c.received ≡ stood_next trace c
+    pub next-end : length trace ≤ c.at → none_stood (Ok tt) c.received ≡ stood_next trace c
     unfolding stood_next
     next-end h = rw (d, le-ltb c.at (length trace) h)
 
     module _ (h : c.at < length trace) where
-      pub next-printed : not c.unprinted ≡ true → none_stood Done c.received ≡ stood_next trace c
+      pub next-printed : not c.unprinted ≡ true → none_stood (Ok tt) c.received ≡ stood_next trace c
       unfolding stood_next
       next-printed u = rw (d, lt-ltb c.at (length trace) h, u)
 
@@ -46,7 +46,7 @@ module _ (judge : List ℕ → Judged) (trace : List ℕ) (n : ℕ) (o : List �
 
   -- an event by its kind
   by_kind : (k : Kind) (e : Event) → (u : Bool) → c.unprinted ≡ u
-      → cond (not u) (none_stood Done c.received) (stood_by k e c) ≡ stood_for k e (held_given u (take c.length c.line)) c.received
+      → cond (not u) (none_stood (Ok tt) c.received) (stood_by k e c) ≡ stood_for k e (held_given u (take c.length c.line)) c.received
   by_kind Received e true q = refl
   by_kind Received e false q = refl
   by_kind Asked e true q = refl
@@ -54,7 +54,7 @@ module _ (judge : List ℕ → Judged) (trace : List ℕ) (n : ℕ) (o : List �
   by_kind Printed e true q =
       let l = take c.length c.line in
       let n : length l ≡ c.length = length-take-le c.length c.line r.sound.short in
-      sym (ap₂ (λ (k : ℕ) (x : List ℕ). record { answer = Done; length = k; line = x; place = e.start; printed = e.end - e.start; received = c.received })
+      sym (ap₂ (λ (k : ℕ) (x : List ℕ). record { answer = Ok tt; length = k; line = x; place = e.start; printed = e.end - e.start; received = c.received })
       n (sym r.sound.padded))
   by_kind Printed e false q = refl
   by_kind Bad e true q = refl
@@ -67,7 +67,7 @@ module _ (judge : List ℕ → Judged) (trace : List ℕ) (n : ℕ) (o : List �
     abbrev e : Event
     e = event_at trace c.at
 
-    by-unprinted : (u : Bool) → c.unprinted ≡ u → cond (not u) (none_stood Done c.received) (stood_by e.kind e c) ≡ stood_next trace c
+    by-unprinted : (u : Bool) → c.unprinted ≡ u → cond (not u) (none_stood (Ok tt) c.received) (stood_by e.kind e c) ≡ stood_next trace c
     by-unprinted true q = next-kind trace c d h (rw q refl) e refl e.kind refl
     by-unprinted false q = next-printed trace c d h (rw q refl)
 
@@ -87,14 +87,14 @@ module _ (judge : List ℕ → Judged) (trace : List ℕ) (n : ℕ) (o : List �
     | no h ↦
         let g : length trace ≤ c.at = omega (arith, h) in
         let rest : drop n (events trace) ≡ [] = l.rest ∙ events-none trace c.at l.fuel g in
-        sym (next-end trace c d g) ∙ ap (none_stood Done) streamed ∙ sym (ap (stood_of (held c b)) rest)
+        sym (next-end trace c d g) ∙ ap (none_stood (Ok tt)) streamed ∙ sym (ap (stood_of (held c b)) rest)
   ]
 
   -- what stands at the next event is what stood at the event asked for
   pub next-stood : stood_next trace c ≡ stood_of after (drop n (events trace))
   next-stood = go (is_done c.answer) refl ∙ ap (λ (x : Press). stood_of x (drop n (events trace))) r.is
     where
-      none : (l : List Event) → is_done c.answer ≡ false → none_stood Done (length (take c.received b)) ≡ stood_of (held c b) l
+      none : (l : List Event) → is_done c.answer ≡ false → none_stood (Ok tt) (length (take c.received b)) ≡ stood_of (held c b) l
       none [] d = refl
       none (e ∷ l) d = rw d
 
@@ -102,7 +102,7 @@ module _ (judge : List ℕ → Judged) (trace : List ℕ) (n : ℕ) (o : List �
       go true d = by_left (r.left d) d
       go false d =
           sym (next-fault trace c d)
-          ∙ ap (none_stood Done) streamed ∙ none (drop n (events trace)) d
+          ∙ ap (none_stood (Ok tt)) streamed ∙ none (drop n (events trace)) d
 
   pub received_is : c.received ≡ length after.stream
   received_is = streamed ∙ ap (λ (x : Press). length x.stream) r.is

@@ -1,6 +1,6 @@
 -- How the state of a replay stands for the press: the stream is the first bytes of the lent buffer, the line given is the first bytes of the state's line.
 -- Assumes nothing: these are definitions.
-use Rattle.std.specs.Prelude.{◌≡◌, Bool, true, false, not, cond, List, ℕ, ◌+◌, ◌-◌, ◌≤◌, eqb, ltb, length, take, drop}
+use Rattle.std.specs.Prelude.{◌≡◌, Bool, true, false, not, cond, List, ℕ, ◌+◌, ◌-◌, ◌≤◌, eqb, ltb, length, take, drop, Ok, Err, Result, ⊤}
 use Rattle.base_lists.specs.Buffers.{over, same}
 use Rattle.read_spec.specs.Judged.{Judged}
 use Rattle.frame_body.specs.Fields.{digest_length}
@@ -9,8 +9,8 @@ use Rattle.read_call.specs.Answers.{longest_stream}
 use Rattle.replay_spec.specs.declared.Kind.{Kind}
 use Rattle.replay_spec.specs.declared.Kind.TheVariants.{Received, Asked, Printed, Bad}
 use Rattle.replay_spec.specs.declared.Event.{Event}
-use Rattle.replay_spec.specs.declared.Answer.{Answer}
-use Rattle.replay_spec.specs.declared.Answer.TheVariants.{Done, Sizes, NoRoom, NoLine}
+use Rattle.replay_spec.specs.declared.ReplayFault.{ReplayFault}
+use Rattle.replay_spec.specs.declared.ReplayFault.TheVariants.{Sizes, NoRoom, NoLine}
 use Rattle.replay_spec.specs.declared.Stood.{Stood}
 use Rattle.replay_spec.specs.Events.{event_at, events_in, events}
 use Rattle.replay_spec.specs.Press.{Given, nothing, gives, Press, press, start, is_done, first_differing, run}
@@ -21,11 +21,11 @@ use Rattle.replay_call.specs.declared.State.{State}
 abbrev pub are_sized : ℕ → ℕ → Bool
 are_sized key font = cond (eqb key key_length) (eqb font digest_length) false
 
-unfoldable pub refusal_of : ℕ → ℕ → ℕ → Answer
+unfoldable pub refusal_of : ℕ → ℕ → ℕ → Result ⊤ ReplayFault
 refusal_of key font room =
-    cond (not (are_sized key font)) Sizes
-    (cond (ltb room longest_stream) NoRoom
-    Done)
+    cond (not (are_sized key font)) (Err Sizes)
+    (cond (ltb room longest_stream) (Err NoRoom)
+    (Ok tt))
 
 abbrev pub held_given : Bool → List ℕ → Given
 held_given true l = gives l
@@ -36,7 +36,7 @@ abbrev pub held : State → List ℕ → Press
 held c b =
     press c.event (take c.received b) c.place (held_given c.unprinted (take c.length c.line)) c.differs c.answer
 
-abbrev pub state_of : ℕ → ℕ → ℕ → ℕ → Bool → ℕ → List ℕ → ℕ → Answer → State
+abbrev pub state_of : ℕ → ℕ → ℕ → ℕ → Bool → ℕ → List ℕ → ℕ → Result ⊤ ReplayFault → State
 state_of at event received place unprinted n line differs answer = record {
   at = at;
   event = event;
@@ -50,15 +50,15 @@ state_of at event received place unprinted n line differs answer = record {
 }
 
 abbrev pub begun : State
-begun = state_of 0 0 0 0 false 0 zeros 0 Done
+begun = state_of 0 0 0 0 false 0 zeros 0 (Ok tt)
 
-abbrev pub failed : Answer → State → State
+abbrev pub failed : Result ⊤ ReplayFault → State → State
 failed a c = state_of c.at c.event c.received c.place c.unprinted c.length c.line c.differs a
 
 -- bytes printed
 unfoldable pub printed_by : List ℕ → State → State
 printed_by v c =
-    cond (not c.unprinted) (failed NoLine c)
+    cond (not c.unprinted) (failed (Err NoLine) c)
     (state_of c.at c.event c.received c.place false c.length c.line (first_differing c.differs c.event (same v (take c.length c.line)))
     c.answer)
 
@@ -93,21 +93,21 @@ pub record Ran (judge : List ℕ → Judged) (trace : List ℕ) (n : ℕ) (o : L
 
 -- what stands at the next event
 abbrev pub stood_by : Kind → Event → State → Stood
-stood_by Received e c = none_stood Done c.received
-stood_by Asked e c = none_stood Done c.received
+stood_by Received e c = none_stood (Ok tt) c.received
+stood_by Asked e c = none_stood (Ok tt) c.received
 stood_by Printed e c = record {
-  answer = Done;
+  answer = Ok tt;
   length = c.length;
   line = c.line;
   place = e.start;
   printed = e.end - e.start;
   received = c.received;
 }
-stood_by Bad e c = none_stood Done c.received
+stood_by Bad e c = none_stood (Ok tt) c.received
 
 unfoldable pub stood_next : List ℕ → State → Stood
 stood_next trace c =
-    cond (not (is_done c.answer)) (none_stood Done c.received)
-    (cond (not (ltb c.at (length trace))) (none_stood Done c.received)
-    (cond (not c.unprinted) (none_stood Done c.received)
+    cond (not (is_done c.answer)) (none_stood (Ok tt) c.received)
+    (cond (not (ltb c.at (length trace))) (none_stood (Ok tt) c.received)
+    (cond (not c.unprinted) (none_stood (Ok tt) c.received)
     (stood_by (event_at trace c.at).kind (event_at trace c.at) c)))

@@ -17,7 +17,7 @@ use line_layout::Layout;
 use read_call::LONGEST_STREAM;
 use replay_event::event_at;
 use replay_request::request;
-use replay_spec::{Answer, Kind, Replayed, Stood};
+use replay_spec::{Kind, ReplayFault, Replayed, Stood};
 
 // The state: the place reached in the trace, events so far, bytes of the stream in the buffer, the place where the last reading ended, whether a line
 // is given and unprinted, the last line given, with zeros behind it, the first event that differs, and the fault, if any.
@@ -31,7 +31,7 @@ struct State {
     length: usize,
     line: [u8; LONGEST_LINE],
     differs: usize,
-    answer: Answer,
+    answer: Result<(), ReplayFault>,
 }
 
 // An empty stream, and nothing given.
@@ -47,26 +47,22 @@ fn begin() -> State
         length: 0,
         line: [0u8; LONGEST_LINE],
         differs: 0,
-        answer: Answer::Done,
+        answer: Ok(()),
     }
 }
 
 // Whether no event was at fault.
-fn is_done(answer: Answer) -> bool
+fn is_done(answer: Result<(), ReplayFault>) -> bool
     ensures { result ≡ is_done answer }
 {
     match answer {
-        Answer::Done => true,
-        Answer::Sizes => false,
-        Answer::NoRoom => false,
-        Answer::Field => false,
-        Answer::NoLine => false,
-        Answer::TooLong => false,
+        Ok(()) => true,
+        Err(_) => false,
     }
 }
 
 // The event just counted is at fault.
-fn fail(s: State, answer: Answer) -> State
+fn fail(s: State, answer: Result<(), ReplayFault>) -> State
     ensures { result ≡ failed answer s }
 {
     let line = s.line;
@@ -90,7 +86,7 @@ fn take_in(mut s: State, value: &[u8], buf: &mut [u8]) -> State
 {
     let at = s.received;
     if value.len() > LONGEST_STREAM - at {
-        return fail(s, Answer::TooLong);
+        return fail(s, Err(ReplayFault::TooLong));
     }
     base_lists::copy(value, &mut buf[at..]);
     s.received = at + value.len();
@@ -128,7 +124,7 @@ fn print(mut s: State, value: &[u8]) -> State
     ensures { result ≡ printed_by value.now s }
 {
     if !s.unprinted {
-        return fail(s, Answer::NoLine);
+        return fail(s, Err(ReplayFault::NoLine));
     }
     s.unprinted = false;
     let line = s.line;
@@ -167,7 +163,7 @@ fn step(
         Kind::Received => take_in(s, &trace[start..end], buf),
         Kind::Asked => give(s, key, font, editions, layout, buf),
         Kind::Printed => print(s, &trace[start..end]),
-        Kind::Bad => fail(s, Answer::Field),
+        Kind::Bad => fail(s, Err(ReplayFault::Field)),
     }
 }
 
@@ -187,6 +183,7 @@ fn run(
         buf.new }
 {
     let mut s = begin();
+    // A `while`: the events done are counted in the state, and a range beside it would count them a second time.
     while s.event < limit {
         if s.at >= trace.len() {
             return s;
@@ -211,22 +208,22 @@ fn are_sized(key: usize, font: usize) -> bool
 }
 
 // What refuses a call before any event: 2 for the sizes of key and font digest, then 4 for a buffer with too little room for a stream.
-fn refusal(key: usize, font: usize, room: usize) -> Answer
+fn refusal(key: usize, font: usize, room: usize) -> Result<(), ReplayFault>
     ensures { result ≡ refusal_of key font room }
 {
     let sized = are_sized(key, font);
     let small = room < LONGEST_STREAM;
     if !sized {
-        return Answer::Sizes;
+        return Err(ReplayFault::Sizes);
     }
     if small {
-        return Answer::NoRoom;
+        return Err(ReplayFault::NoRoom);
     }
-    Answer::Done
+    Ok(())
 }
 
 // The call is refused.
-fn refused(answer: Answer) -> Replayed
+fn refused(answer: Result<(), ReplayFault>) -> Replayed
     ensures { result ≡ replayed_as answer 0 0 }
 {
     Replayed {
@@ -271,7 +268,7 @@ pub fn replay(
 }
 
 // Nothing stood at an event.
-fn none_stood(answer: Answer, received: usize) -> Stood
+fn none_stood(answer: Result<(), ReplayFault>, received: usize) -> Stood
     ensures { result ≡ none_stood answer received }
 {
     Stood {
@@ -290,24 +287,24 @@ fn stood_next(s: State, trace: &[u8]) -> Stood
 {
     let answer = s.answer;
     if !is_done(answer) {
-        return none_stood(Answer::Done, s.received);
+        return none_stood(Ok(()), s.received);
     }
     if s.at >= trace.len() {
-        return none_stood(Answer::Done, s.received);
+        return none_stood(Ok(()), s.received);
     }
     if !s.unprinted {
-        return none_stood(Answer::Done, s.received);
+        return none_stood(Ok(()), s.received);
     }
     let e = event_at(trace, s.at);
     let kind = e.kind;
     let line = s.line;
     match kind {
-        Kind::Received => none_stood(Answer::Done, s.received),
-        Kind::Asked => none_stood(Answer::Done, s.received),
+        Kind::Received => none_stood(Ok(()), s.received),
+        Kind::Asked => none_stood(Ok(()), s.received),
         Kind::Printed => {
             let printed = e.end - e.start;
             Stood {
-                answer: Answer::Done,
+                answer: Ok(()),
                 length: s.length,
                 line,
                 place: e.start,
@@ -315,7 +312,7 @@ fn stood_next(s: State, trace: &[u8]) -> Stood
                 received: s.received,
             }
         }
-        Kind::Bad => none_stood(Answer::Done, s.received),
+        Kind::Bad => none_stood(Ok(()), s.received),
     }
 }
 
@@ -338,22 +335,22 @@ pub fn stood(
         return none_stood(first, 0);
     }
     if event == 0 {
-        return none_stood(Answer::Done, 0);
+        return none_stood(Ok(()), 0);
     }
     let s = run(trace, event - 1, key, font, editions, layout, buf);
     stood_next(s, trace)
 }
 
 // The number of what a replay comes to.
-pub fn replay_number(answer: Answer) -> u32
+pub fn replay_number(answer: Result<(), ReplayFault>) -> u32
     ensures { result ≡ replay_number answer }
 {
     match answer {
-        Answer::Done => 0,
-        Answer::Sizes => 2,
-        Answer::NoRoom => 4,
-        Answer::Field => 20,
-        Answer::NoLine => 21,
-        Answer::TooLong => 3,
+        Ok(()) => 0,
+        Err(ReplayFault::Sizes) => 2,
+        Err(ReplayFault::NoRoom) => 4,
+        Err(ReplayFault::Field) => 20,
+        Err(ReplayFault::NoLine) => 21,
+        Err(ReplayFault::TooLong) => 3,
     }
 }

@@ -1,6 +1,6 @@
 -- `differs-exactly` (order W11), from the promise of `replay` alone: where the number is 0, the event named is the first print whose bytes are not the line
 -- given, and event 0 means that there is none. Assumes nothing.
-use Rattle.std.specs.Prelude.{◌≡◌, Bool, true, false, not, cond, ltb, length}
+use Rattle.std.specs.Prelude.{◌≡◌, Bool, true, false, not, cond, ltb, length, Ok, Err, Result, ⊤}
 use Rattle.std.proofs.Math.Path.{refl, sym, subst}
 use Rattle.std.proofs.Common.{ap, ◌∙◌, arith, ne_eqb}
 use mathlib.Core.List.{List, [], ◌∷◌, ◌++◌, head-eq_of_cons-eq, tail-eq_of_cons-eq}
@@ -15,8 +15,8 @@ use Rattle.read_call.specs.Answers.{longest_stream, sized_told}
 use Rattle.replay_spec.specs.declared.Kind.{Kind}
 use Rattle.replay_spec.specs.declared.Kind.TheVariants.{Received, Asked, Printed, Bad}
 use Rattle.replay_spec.specs.declared.Event.{Event}
-use Rattle.replay_spec.specs.declared.Answer.{Answer}
-use Rattle.replay_spec.specs.declared.Answer.TheVariants as answer-is
+use Rattle.replay_spec.specs.declared.ReplayFault.{ReplayFault}
+use Rattle.replay_spec.specs.declared.ReplayFault.TheVariants as answer-is
 use Rattle.replay_spec.specs.declared.Replayed.{Replayed}
 use Rattle.replay_spec.specs.Events.{events, bytes_of}
 use Rattle.replay_spec.specs.Press.{Given, nothing, gives, Press, press, start, counted, faulty, receive, ask, first_differing, print_on, does, is_done, step, turn, run}
@@ -63,7 +63,7 @@ module _ (judge : List ℕ → Judged) (trace : List ℕ) where
       v = bytes_of trace e
 
       by-limit : (b : Bool) → e.kind ≡ Received
-          → Compared s e (cond b (faulty answer-is.TooLong (counted s)) (press (s.event + 1) (s.stream ++ v) s.place s.given s.differs s.answer))
+          → Compared s e (cond b (faulty (Err answer-is.TooLong) (counted s)) (press (s.event + 1) (s.stream ++ v) s.place s.given s.differs s.answer))
       by-limit true k = fails refl
       by-limit false k = agrees (λ q. absurd (let y : ◌≡◌ {A = ℕ} 0 1 = cc (sym k ∙ q) in omega arith)) z
 
@@ -188,13 +188,13 @@ module _ (judge : List ℕ → Judged) (trace : List ℕ) where
       omega (arith, n)
 
 -- number 0 is no fault
-done-zero : (a : Answer) → replay_number a ≡ 0 → is_done a ≡ true
-done-zero answer-is.Done e = refl
-done-zero answer-is.Sizes e = absurd (omega (arith, e))
-done-zero answer-is.NoRoom e = absurd (omega (arith, e))
-done-zero answer-is.Field e = absurd (omega (arith, e))
-done-zero answer-is.NoLine e = absurd (omega (arith, e))
-done-zero answer-is.TooLong e = absurd (omega (arith, e))
+done-zero : (a : Result ⊤ ReplayFault) → replay_number a ≡ 0 → is_done a ≡ true
+done-zero (Ok tt) e = refl
+done-zero (Err answer-is.Sizes) e = absurd (omega (arith, e))
+done-zero (Err answer-is.NoRoom) e = absurd (omega (arith, e))
+done-zero (Err answer-is.Field) e = absurd (omega (arith, e))
+done-zero (Err answer-is.NoLine) e = absurd (omega (arith, e))
+done-zero (Err answer-is.TooLong) e = absurd (omega (arith, e))
 
 module _ (key font : List ℕ) (ed : ℕ) (lay : Layout) (trace o : List ℕ) (r : Replayed) (o' : List ℕ) where
   abbrev t : Told
@@ -206,8 +206,8 @@ module _ (key font : List ℕ) (ed : ℕ) (lay : Layout) (trace o : List ℕ) (r
     pub done : is_done (replayed t ed trace).answer ≡ true
     pub event-is : r.event ≡ (replayed t ed trace).differs
 
-  by_tests : (x y : Bool) → sized_told t ≡ x → r ≡ cond (not x) (replayed_as answer-is.Sizes 0 0)
-      (cond y (replayed_as answer-is.NoRoom 0 0) (answer_of (replayed t ed trace)))
+  by_tests : (x y : Bool) → sized_told t ≡ x → r ≡ cond (not x) (replayed_as (Err answer-is.Sizes) 0 0)
+      (cond y (replayed_as (Err answer-is.NoRoom) 0 0) (answer_of (replayed t ed trace)))
       → replay_number r.answer ≡ 0 → Sound
   by_tests false y e a n = absurd (omega (arith, sym (ap (λ (q : Replayed). replay_number q.answer) a) ∙ n))
   by_tests true true e a n = absurd (omega (arith, sym (ap (λ (q : Replayed). replay_number q.answer) a) ∙ n))

@@ -1,6 +1,6 @@
 -- `received-kept` (order W11), from the promise of `replay` alone: the buffer holds what the events before the fault received, and is else as it was. Assumes
 -- nothing.
-use Rattle.std.specs.Prelude.{◌≡◌, Bool, not, cond, List, ◌∷◌, ℕ, ◌-◌, ◌≤◌, ltb, length, take, drop}
+use Rattle.std.specs.Prelude.{◌≡◌, Bool, not, cond, List, ◌∷◌, ℕ, ◌-◌, ◌≤◌, ltb, length, take, drop, Err}
 use Rattle.std.proofs.Math.Path.{refl}
 use Rattle.std.proofs.Common.{sym, ap, ◌∙◌, arith, take_at, drop_at, ltb-false}
 use Rattle.std.proofs.Math.Bool.{true, false}
@@ -11,7 +11,7 @@ use Rattle.frame_spec.specs.Told.{Told, told}
 use Rattle.read_spec.specs.Judged.{Judged}
 use Rattle.read_call.specs.Answers.{longest_stream, sized_told}
 use Rattle.replay_spec.specs.declared.Event.{Event}
-use Rattle.replay_spec.specs.declared.Answer.TheVariants.{Sizes, NoRoom}
+use Rattle.replay_spec.specs.declared.ReplayFault.TheVariants.{Sizes, NoRoom}
 use Rattle.replay_spec.specs.declared.Replayed.{Replayed}
 use Rattle.replay_spec.specs.Events.{events}
 use Rattle.replay_spec.specs.Press.{Press, start, is_done, run}
@@ -49,7 +49,7 @@ module _ (key font : List ℕ) (ed : ℕ) (lay : Layout) (trace o : List ℕ) (r
   t = told key font lay
 
   by_tests : (x : Bool) → sized_told t ≡ x → (y : Bool) → ltb (length o) longest_stream ≡ y
-      → Keeps trace o (cond (not x) (replayed_as Sizes 0 0) (cond y (replayed_as NoRoom 0 0) (answer_of (replayed t ed trace))))
+      → Keeps trace o (cond (not x) (replayed_as (Err Sizes) 0 0) (cond y (replayed_as (Err NoRoom) 0 0) (answer_of (replayed t ed trace))))
       (cond (not x) o (cond y o (over (replayed t ed trace).stream o)))
   unfolding replayed
   by_tests false e y f = record { received = refl; holds = refl; behind = refl; long = refl }

@@ -1,6 +1,6 @@
 -- The order of the refusals (order W11), from the promise of `replay` alone: 2, then 4, with the buffer as it was; then the first event at fault decides, even
 -- after a difference, for what it is at fault (`first-decides`). Assumes nothing.
-use Rattle.std.specs.Prelude.{◌≡◌, Bool, cond, List, ◌∷◌, ◌++◌, ℕ, ◌+◌, ltb, length}
+use Rattle.std.specs.Prelude.{◌≡◌, Bool, cond, List, ◌∷◌, ◌++◌, ℕ, ◌+◌, ltb, length, Ok, Err, Result, ⊤}
 use Rattle.std.proofs.Math.Path.{refl}
 use Rattle.std.proofs.Common.{sym, ap, ap₂, arith}
 use Rattle.std.proofs.Math.Bool.{true, false, not}
@@ -9,8 +9,8 @@ use Rattle.line_layout.specs.declared.Layout.{Layout}
 use Rattle.frame_spec.specs.Told.{Told, told}
 use Rattle.read_call.specs.Answers.{longest_stream, sized_told}
 use Rattle.replay_spec.specs.declared.Event.{Event}
-use Rattle.replay_spec.specs.declared.Answer.{Answer}
-use Rattle.replay_spec.specs.declared.Answer.TheVariants as answer-is
+use Rattle.replay_spec.specs.declared.ReplayFault.{ReplayFault}
+use Rattle.replay_spec.specs.declared.ReplayFault.TheVariants as answer-is
 use Rattle.replay_spec.specs.declared.Replayed.{Replayed}
 use Rattle.replay_spec.specs.Events.{events}
 use Rattle.replay_spec.specs.Press.{start, is_done, run}
@@ -36,16 +36,16 @@ module _ (key font : List ℕ) (ed : ℕ) (lay : Layout) (trace o : List ℕ) wh
   pub data Decided (r : Replayed) (o' : List ℕ) : Type 0 where
     refused : replay_number r.answer ≡ refusal (sized_told t) (has_room o) → (replay_number r.answer ≡ 0 → ⊥) → r.event ≡ 0 → o' ≡ o → Decided r o'
     by-event : refusal (sized_told t) (has_room o) ≡ 0 → FirstFault r → Decided r o'
-    without-fault : refusal (sized_told t) (has_room o) ≡ 0 → r.answer ≡ answer-is.Done → Decided r o'
+    without-fault : refusal (sized_told t) (has_room o) ≡ 0 → r.answer ≡ Ok tt → Decided r o'
 
   -- done is the answer without a fault
-  is-done : (a : Answer) → is_done a ≡ true → a ≡ answer-is.Done
-  is-done answer-is.Done e = refl
-  is-done answer-is.Sizes e = absurd (let z : ◌≡◌ {A = ℕ} 0 1 = cc e in omega arith)
-  is-done answer-is.NoRoom e = absurd (let z : ◌≡◌ {A = ℕ} 0 1 = cc e in omega arith)
-  is-done answer-is.Field e = absurd (let z : ◌≡◌ {A = ℕ} 0 1 = cc e in omega arith)
-  is-done answer-is.NoLine e = absurd (let z : ◌≡◌ {A = ℕ} 0 1 = cc e in omega arith)
-  is-done answer-is.TooLong e = absurd (let z : ◌≡◌ {A = ℕ} 0 1 = cc e in omega arith)
+  is-done : (a : Result ⊤ ReplayFault) → is_done a ≡ true → a ≡ Ok tt
+  is-done (Ok tt) e = refl
+  is-done (Err answer-is.Sizes) e = absurd (let z : ◌≡◌ {A = ℕ} 0 1 = cc e in omega arith)
+  is-done (Err answer-is.NoRoom) e = absurd (let z : ◌≡◌ {A = ℕ} 0 1 = cc e in omega arith)
+  is-done (Err answer-is.Field) e = absurd (let z : ◌≡◌ {A = ℕ} 0 1 = cc e in omega arith)
+  is-done (Err answer-is.NoLine) e = absurd (let z : ◌≡◌ {A = ℕ} 0 1 = cc e in omega arith)
+  is-done (Err answer-is.TooLong) e = absurd (let z : ◌≡◌ {A = ℕ} 0 1 = cc e in omega arith)
 
   ran : (o' : List ℕ) → refusal (sized_told t) (has_room o) ≡ 0
       → Ended (judging t ed) trace start (events trace) (replayed t ed trace) → Decided (answer_of (replayed t ed trace)) o'
@@ -61,7 +61,7 @@ module _ (key font : List ℕ) (ed : ℕ) (lay : Layout) (trace o : List ℕ) wh
   })
 
   by_tests : (x : Bool) → sized_told t ≡ x → (y : Bool) → ltb (length o) longest_stream ≡ y
-      → Decided (cond (not x) (replayed_as answer-is.Sizes 0 0) (cond y (replayed_as answer-is.NoRoom 0 0) (answer_of (replayed t ed trace))))
+      → Decided (cond (not x) (replayed_as (Err answer-is.Sizes) 0 0) (cond y (replayed_as (Err answer-is.NoRoom) 0 0) (answer_of (replayed t ed trace))))
       (cond (not x) o (cond y o (over (replayed t ed trace).stream o)))
   unfolding replayed
   by_tests false e true f = refused (sym (ap₂ refusal e (ap not f))) (λ q. omega (arith, q)) refl refl

@@ -1,7 +1,7 @@
 -- The first difference as `stood` shows it (order W11), from the promises of `replay` and `stood` alone: where the number of a replay is 0, every event before
 -- the one named, and where none is named every event, is shown with the line given as its printed bytes (`shown-before`); the one named is not
 -- (`shown-named`). Assumes nothing.
-use Rattle.std.specs.Prelude.{◌≡◌, Bool, not, cond, ltb, length, take, drop}
+use Rattle.std.specs.Prelude.{◌≡◌, Bool, not, cond, ltb, length, take, drop, Ok, Err}
 use Rattle.std.proofs.Math.Path.{refl, subst}
 use Rattle.std.proofs.Common.{sym, ap, ap₂, ◌∙◌, arith, length-drop, take_at, drop_at}
 use Rattle.std.proofs.Math.Bool.{true, false}
@@ -16,7 +16,7 @@ use Rattle.read_call.specs.Answers.{longest_stream, sized_told}
 use Rattle.replay_spec.specs.declared.Kind.{Kind}
 use Rattle.replay_spec.specs.declared.Kind.TheVariants.{Received, Asked, Printed, Bad}
 use Rattle.replay_spec.specs.declared.Event.{Event}
-use Rattle.replay_spec.specs.declared.Answer.TheVariants as answer-is
+use Rattle.replay_spec.specs.declared.ReplayFault.TheVariants as answer-is
 use Rattle.replay_spec.specs.declared.Replayed.{Replayed}
 use Rattle.replay_spec.specs.declared.Stood.{Stood}
 use Rattle.replay_spec.specs.Events.{events, bytes_of}
@@ -56,7 +56,7 @@ module _ (judge : List ℕ → Judged) (trace : List ℕ) where
       by_kind Printed k = by-given s.given k refl
       by_kind Bad k = refl
 
-      by-done : (b : Bool) → Alike trace (cond b (stood_for e.kind e s.given (length s.stream)) (none_stood answer-is.Done (length s.stream)))
+      by-done : (b : Bool) → Alike trace (cond b (stood_for e.kind e s.given (length s.stream)) (none_stood (Ok tt) (length s.stream)))
       by-done true = by_kind e.kind refl
       by-done false = refl
 
@@ -125,7 +125,7 @@ module _ (key font : List ℕ) (ed : ℕ) (lay : Layout) (trace o : List ℕ) (r
     unfolding stood_answer
     shown-before h = rw c.0 (by_tests (sized_told t) (ltb (length b) longest_stream))
       where
-        by_tests : (x y : Bool) → Alike trace (cond (not x) (none_stood answer-is.Sizes 0) (cond y (none_stood answer-is.NoRoom 0) (stood_at n t ed trace)))
+        by_tests : (x y : Bool) → Alike trace (cond (not x) (none_stood (Err answer-is.Sizes) 0) (cond y (none_stood (Err answer-is.NoRoom) 0) (stood_at n t ed trace)))
         by_tests false y = refl
         by_tests true true = refl
         by_tests true false = at-event n h

@@ -11,7 +11,7 @@ use Rattle.frame_spec.specs.Told.{Told, told}
 use Rattle.read_spec.specs.Judged.{Judged}
 use Rattle.read_call.specs.Answers.{longest_stream, sized_told}
 use Rattle.replay_spec.specs.declared.Event.{Event}
-use Rattle.replay_spec.specs.declared.Answer.TheVariants.{Sizes, NoRoom}
+use Rattle.replay_spec.specs.declared.ReplayFault.TheVariants.{Sizes, NoRoom}
 use Rattle.replay_spec.specs.declared.Replayed.{Replayed}
 use Rattle.replay_spec.specs.Events.{events}
 use Rattle.replay_spec.specs.Press.{Press, start, is_done, run}

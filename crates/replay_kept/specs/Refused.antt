@@ -9,8 +9,7 @@ use Rattle.line_layout.specs.declared.Layout.{Layout}
 use Rattle.frame_spec.specs.Told.{Told, told}
 use Rattle.read_call.specs.Answers.{longest_stream, sized_told}
 use Rattle.replay_spec.specs.declared.Event.{Event}
-use Rattle.replay_spec.specs.declared.Answer.{Answer}
-use Rattle.replay_spec.specs.declared.Answer.TheVariants as answer-is
+use Rattle.replay_spec.specs.declared.ReplayFault.{ReplayFault}
 use Rattle.replay_spec.specs.declared.Replayed.{Replayed}
 use Rattle.replay_spec.specs.Events.{events}
 use Rattle.replay_spec.specs.Press.{start, is_done, run}

@@ -1,6 +1,6 @@
 -- What the events of a trace do to a press with no fault so far: each takes in the bytes it received, or is at fault and takes in none; a print compares.
 -- Over any way to judge a stretch's bytes. Assumes nothing.
-use Rattle.std.specs.Prelude.{◌≡◌, Bool, true, false, cond, ltb, length}
+use Rattle.std.specs.Prelude.{◌≡◌, Bool, true, false, cond, ltb, length, Err, Result, ⊤}
 use Rattle.std.proofs.Math.Path.{refl, ap}
 use Rattle.std.proofs.Common.{sym, subst, ◌∙◌, arith, ltb-true}
 use mathlib.Core.List.{List, [], ◌∷◌, ◌++◌, append_assoc, append-nil}
@@ -11,8 +11,8 @@ use Rattle.read_call.specs.Answers.{longest_stream}
 use Rattle.replay_spec.specs.declared.Kind.{Kind}
 use Rattle.replay_spec.specs.declared.Kind.TheVariants.{Received, Asked, Printed, Bad}
 use Rattle.replay_spec.specs.declared.Event.{Event}
-use Rattle.replay_spec.specs.declared.Answer.{Answer}
-use Rattle.replay_spec.specs.declared.Answer.TheVariants.{Field, NoLine, TooLong}
+use Rattle.replay_spec.specs.declared.ReplayFault.{ReplayFault}
+use Rattle.replay_spec.specs.declared.ReplayFault.TheVariants.{Field, NoLine, TooLong}
 use Rattle.replay_spec.specs.Events.{bytes_of}
 use Rattle.replay_spec.specs.Press.{Given, nothing, gives, Press, press, counted, faulty, receive, ask, print_on, does, is_done, step, turn, run}
 use Rattle.replay_spec.specs.Runs.{step_counts, turn-done, run-append, run-stays}
@@ -33,10 +33,10 @@ received_in trace [] = []
 received_in trace (e ∷ l) = took trace e ++ received_in trace l
 
 -- what an event is at fault for: a bad field, a print with no line given and unprinted, or bytes that take the stream past its limit
-pub data Fault (trace : List ℕ) (s : Press) (e : Event) : Answer → Type 0 where
-  bad-field : e.kind ≡ Bad → Fault trace s e Field
-  no_line : e.kind ≡ Printed → s.given ≡ nothing → Fault trace s e NoLine
-  too_long : e.kind ≡ Received → longest_stream < length s.stream + length (bytes_of trace e) → Fault trace s e TooLong
+pub data Fault (trace : List ℕ) (s : Press) (e : Event) : Result ⊤ ReplayFault → Type 0 where
+  bad-field : e.kind ≡ Bad → Fault trace s e (Err Field)
+  no_line : e.kind ≡ Printed → s.given ≡ nothing → Fault trace s e (Err NoLine)
+  too_long : e.kind ≡ Received → longest_stream < length s.stream + length (bytes_of trace e) → Fault trace s e (Err TooLong)
 
 -- an event that received w: it took w in, or it is at fault and the stream is as it was
 data Stepped (trace : List ℕ) (s : Press) (e : Event) (w : List ℕ) (p : Press) : Type 0 where
@@ -52,7 +52,7 @@ module _ (judge : List ℕ → Judged) (trace : List ℕ) where
       v = bytes_of trace e
 
       by-limit : (b : Bool) → ltb longest_stream (length s.stream + length v) ≡ b → e.kind ≡ Received
-          → Stepped trace s e v (cond b (faulty TooLong (counted s)) (press (s.event + 1) (s.stream ++ v) s.place s.given s.differs s.answer))
+          → Stepped trace s e v (cond b (faulty (Err TooLong) (counted s)) (press (s.event + 1) (s.stream ++ v) s.place s.given s.differs s.answer))
       by-limit true h k = fault refl refl (too_long k (ltb-true longest_stream (length s.stream + length v) h))
       by-limit false h k = fine d refl
 

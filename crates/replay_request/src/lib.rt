@@ -90,6 +90,7 @@ fn read_on(
     ensures { result ≡ reached_of (request (judging (told key.now font.now layout) editions) stream.now from) }
 {
     let mut at = from;
+    // A `while`: where a stretch closes decides where the next one is looked for, so no range and no part of the stream is gone through in order.
     while at < stream.len() {
         let seen = look_at(stream, at, key, font, editions, layout);
         if seen.outcome == LINE {

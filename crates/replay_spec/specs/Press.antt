@@ -2,7 +2,7 @@
 -- passes over refused stretches and gives the first line it meets; if there is none it gives nothing and stays at the last closing mark passed, or
 -- where it was. A given line may be printed once, before the next request. Over any way to judge a stretch's bytes.
 -- Assumes nothing: these are definitions.
-use Rattle.std.specs.Prelude.{Bool, true, false, cond, List, [], ◌∷◌, ◌++◌, ℕ, ◌+◌, eqb, ltb, length}
+use Rattle.std.specs.Prelude.{Bool, true, false, cond, List, [], ◌∷◌, ◌++◌, ℕ, ◌+◌, eqb, ltb, length, Ok, Err, Result, ⊤}
 use Rattle.base_lists.specs.Buffers.{same}
 use Rattle.read_spec.specs.Judged.{Judged, shape, stuffing, font, work, seal, unlisted, trade, layout, line}
 use Rattle.read_readings.specs.Readings.{Reading, readings}
@@ -10,8 +10,8 @@ use Rattle.read_call.specs.Answers.{longest_stream}
 use Rattle.replay_spec.specs.declared.Kind.{Kind}
 use Rattle.replay_spec.specs.declared.Kind.TheVariants.{Received, Asked, Printed, Bad}
 use Rattle.replay_spec.specs.declared.Event.{Event}
-use Rattle.replay_spec.specs.declared.Answer.{Answer}
-use Rattle.replay_spec.specs.declared.Answer.TheVariants.{Done, Sizes, NoRoom, Field, NoLine, TooLong}
+use Rattle.replay_spec.specs.declared.ReplayFault.{ReplayFault}
+use Rattle.replay_spec.specs.declared.ReplayFault.TheVariants.{Sizes, NoRoom, Field, NoLine, TooLong}
 use Rattle.replay_spec.specs.Events.{bytes_of}
 
 -- a line, or nothing
@@ -61,27 +61,27 @@ pub record Press : Type 0 where
   pub place : ℕ
   pub given : Given
   pub differs : ℕ
-  pub answer : Answer
+  pub answer : Result ⊤ ReplayFault
 
-abbrev pub press : ℕ → List ℕ → ℕ → Given → ℕ → Answer → Press
+abbrev pub press : ℕ → List ℕ → ℕ → Given → ℕ → Result ⊤ ReplayFault → Press
 press event stream place given differs answer =
     record { event = event; stream = stream; place = place; given = given; differs = differs; answer = answer }
 
 -- an empty stream
 abbrev pub start : Press
-start = press 0 [] 0 nothing 0 Done
+start = press 0 [] 0 nothing 0 (Ok tt)
 
 abbrev pub counted : Press → Press
 counted s = press (s.event + 1) s.stream s.place s.given s.differs s.answer
 
 -- an event at fault has no other effect
-abbrev pub faulty : Answer → Press → Press
+abbrev pub faulty : Result ⊤ ReplayFault → Press → Press
 faulty a s = press s.event s.stream s.place s.given s.differs a
 
 -- 20: stream bytes received, unless they take the stream past its limit
 unfoldable pub receive : List ℕ → Press → Press
 receive v s =
-    cond (ltb longest_stream (length s.stream + length v)) (faulty TooLong s)
+    cond (ltb longest_stream (length s.stream + length v)) (faulty (Err TooLong) s)
     (press s.event (s.stream ++ v) s.place s.given s.differs s.answer)
 
 -- 21: a line asked for; one that was given and not printed is dropped
@@ -96,7 +96,7 @@ unfoldable pub first_differing : ℕ → ℕ → Bool → ℕ
 first_differing differs event alike = cond (eqb differs 0) (cond alike 0 event) differs
 
 abbrev pub print_on : Given → List ℕ → Press → Press
-print_on nothing v s = faulty NoLine s
+print_on nothing v s = faulty (Err NoLine) s
 print_on (gives l) v s = press s.event s.stream s.place nothing (first_differing s.differs s.event (same v l)) s.answer
 
 abbrev pub print : List ℕ → Press → Press
@@ -107,19 +107,15 @@ abbrev pub does : (List ℕ → Judged) → Kind → List ℕ → Press → Pres
 does judge Received v s = receive v s
 does judge Asked v s = ask judge s
 does judge Printed v s = print v s
-does judge Bad v s = faulty Field s
+does judge Bad v s = faulty (Err Field) s
 
 -- one event of a trace
 unfoldable pub step : (List ℕ → Judged) → List ℕ → Press → Event → Press
 step judge trace s e = does judge e.kind (bytes_of trace e) (counted s)
 
-abbrev pub is_done : Answer → Bool
-is_done Done = true
-is_done Sizes = false
-is_done NoRoom = false
-is_done Field = false
-is_done NoLine = false
-is_done TooLong = false
+abbrev pub is_done : Result ⊤ ReplayFault → Bool
+is_done (Ok tt) = true
+is_done (Err f) = false
 
 -- the first event at fault decides: nothing is done behind it
 unfoldable pub turn : (List ℕ → Judged) → List ℕ → Press → Event → Press

@@ -21,10 +21,9 @@ pub struct Event {
     pub end: usize,
 }
 
-// What a replay comes to.
+// Why a replay stops.
 #[derive(Clone, Copy)]
-pub enum Answer {
-    Done,
+pub enum ReplayFault {
     // Key or font digest not of its size.
     Sizes,
     // A buffer with too little room for a stream.
@@ -41,7 +40,7 @@ pub enum Answer {
 // buffer holds.
 #[derive(Clone, Copy)]
 pub struct Replayed {
-    pub answer: Answer,
+    pub answer: Result<(), ReplayFault>,
     pub event: usize,
     pub received: usize,
 }
@@ -50,7 +49,7 @@ pub struct Replayed {
 // they are; all zero where no print stood there. And how many bytes of the stream the buffer holds.
 #[derive(Clone, Copy)]
 pub struct Stood {
-    pub answer: Answer,
+    pub answer: Result<(), ReplayFault>,
     pub length: usize,
     pub line: [u8; LONGEST_LINE],
     pub place: usize,

@@ -61,13 +61,9 @@ fn change(rt: &impl Print, i: usize, entry: u32, before: u32) {
 
 // The same of each entry, which is then kept as it is.
 fn changes(rt: &impl Print, table: &[u32], kept: &mut [u32]) {
-    for i in 0..table.len() {
-        if i >= kept.len() {
-            return;
-        }
-        let entry = table[i];
-        change(rt, i, entry, kept[i]);
-        kept[i] = entry;
+    for (i, (entry, before)) in table.iter().zip(kept.iter_mut()).enumerate() {
+        change(rt, i, *entry, *before);
+        *before = *entry;
     }
 }
 
@@ -112,13 +108,6 @@ fn line_row(rt: &impl Print, table: &[u32], count: usize, k: usize) {
     cell(rt, line.place);
 }
 
-// All entries alike.
-fn fill(table: &mut [u32], entry: u32) {
-    for i in 0..table.len() {
-        table[i] = entry;
-    }
-}
-
 // The last entry below the count.
 fn put_last(table: &mut [u32], count: usize, last: u32) {
     if count == 0 {
@@ -138,8 +127,8 @@ fn entry_in(h: &[u8], i: usize) -> u32 {
 fn set_row(rt: &impl Print, h: &[u8], table: &mut [u32], kept: &mut [u32]) -> Index {
     let entries = number_in(h, 10);
     let count = number_in(h, 11);
-    fill(table, entry_in(h, 12));
-    fill(kept, entry_in(h, 12));
+    table.fill(entry_in(h, 12));
+    kept.fill(entry_in(h, 12));
     put_last(table, count, entry_in(h, 13));
     put_last(kept, count, entry_in(h, 13));
     cell(rt, entries);

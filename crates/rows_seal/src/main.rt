@@ -4,10 +4,10 @@
 // what comes out, which call, the cipher's instance and a frame's layout: four bytes each, the high byte first.
 #![tactic(auto)]
 
-use convert_spec::Converted;
+use convert_spec::ConvertFault;
 use digest_call::DIGEST;
-use frame_write::Written;
-use ingage_answers::{Opened, Sealed};
+use frame_write::{FrameRefusal, Written};
+use ingage_answers::{OpenRefusal, SealRefusal};
 use line_layout::{Layout, layout_of};
 use rows_case::{MOST_CASES, cell, end_in, hex_cell, number_in, part, say};
 use std::io::Read;
@@ -65,11 +65,12 @@ fn shown(rt: &impl Print, bytes: &[u8]) {
         hex_cell(rt, bytes);
         return;
     }
-    digest_call::digest(1, bytes, &mut digest);
+    // Bytes that are too long for a digest show as zeros.
+    let _ = digest_call::digest(1, bytes, &mut digest);
     hex_cell(rt, &digest);
 }
 
-fn of_seal(answer: Sealed) -> Outcome {
+fn of_seal(answer: Result<usize, SealRefusal>) -> Outcome {
     Outcome {
         number: ingage_answers::seal_number(answer),
         length: 0,
@@ -77,7 +78,7 @@ fn of_seal(answer: Sealed) -> Outcome {
     }
 }
 
-fn of_open(answer: Opened) -> Outcome {
+fn of_open(answer: Result<usize, OpenRefusal>) -> Outcome {
     Outcome {
         number: ingage_answers::open_number(answer),
         length: 0,
@@ -85,7 +86,7 @@ fn of_open(answer: Opened) -> Outcome {
     }
 }
 
-fn of_write(answer: Written) -> Outcome {
+fn of_write(answer: Result<Written, FrameRefusal>) -> Outcome {
     Outcome {
         number: frame_write::write_number(answer),
         length: frame_write::write_length(answer),
@@ -94,7 +95,7 @@ fn of_write(answer: Written) -> Outcome {
 }
 
 // The converter's answer has no count.
-fn of_convert(answer: Converted) -> Outcome {
+fn of_convert(answer: Result<usize, ConvertFault>) -> Outcome {
     Outcome {
         number: convert_call::number(answer),
         length: convert_call::frame_length(answer),

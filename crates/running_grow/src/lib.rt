@@ -3,6 +3,7 @@
 #![tactic(auto)]
 
 ghost use Rattle.std.specs.Prelude.{◌≡◌, ◌++◌, ◌≤◌, take};
+ghost use Rattle.std.proofs.Props.{props};
 ghost use Rattle.gage_sponge.specs.Padding.{LARGEST-RATE};
 ghost use Rattle.digest_sponge.specs.Parts.{within, taken_in};
 ghost use Rattle.running_spec.specs.Running.{left_of};
@@ -29,46 +30,44 @@ fn joined(block: [u8; LARGEST_RATE], held: usize, bytes: &[u8]) -> [u8; LARGEST_
     out
 }
 
-// A state after the blocks that fill: the one begun, of which some bytes are held and some missing, and those whole in the bytes fed.
-fn grow_state(
+// A block begun by a known instance, of which some bytes are held and some missing.
+#[derive(Clone, Copy)]
+struct Begun {
     instance: usize,
-    state: [u8; LARGEST],
     block: [u8; LARGEST_RATE],
     held: usize,
     missing: usize,
-    bytes: &[u8],
-) -> [u8; LARGEST]
-    requires { Growing instance held missing }
-    ensures { result ≡ taken_in instance state (take held block ++ bytes.now) }
-{
-    if bytes.len() < missing {
-        return digest_sponge::take_in(instance, state, &block[0..held]);
-    }
-    let first = joined(block, held, &bytes[0..missing]);
-    let rate = held + missing;
-    let filled = digest_sponge::take_in(instance, state, &first[0..rate]);
-    digest_sponge::take_in(instance, filled, &bytes[missing..])
+    ghost grows: { Growing instance held missing } by { Prim.hlevel props },
 }
 
-// The block after them: what fills none.
-fn grow_block(
-    instance: usize,
-    block: [u8; LARGEST_RATE],
-    held: usize,
-    missing: usize,
-    bytes: &[u8],
-) -> [u8; LARGEST_RATE]
-    requires { Growing instance held missing }
-    ensures { result ≡ within LARGEST-RATE (left_of instance (take held block ++ bytes.now)) }
-{
-    let fed = bytes.len();
-    if fed < missing {
-        return joined(block, held, bytes);
+impl Begun {
+    // A state after the blocks that fill: the one begun, and those whole in the bytes fed.
+    fn state_after(self, state: [u8; LARGEST], bytes: &[u8]) -> [u8; LARGEST]
+        ensures { result ≡ taken_in self.instance state (take self.held self.block ++ bytes.now) }
+    {
+        let block = self.block;
+        if bytes.len() < self.missing {
+            return digest_sponge::take_in(self.instance, state, &block[0..self.held]);
+        }
+        let first = joined(block, self.held, &bytes[0..self.missing]);
+        let rate = self.held + self.missing;
+        let filled = digest_sponge::take_in(self.instance, state, &first[0..rate]);
+        digest_sponge::take_in(self.instance, filled, &bytes[self.missing..])
     }
-    let rate = held + missing;
-    let whole = (fed - missing) / rate * rate;
-    let at = missing + whole;
-    joined(block, 0, &bytes[at..])
+
+    // The block after them: what fills none.
+    fn block_after(self, bytes: &[u8]) -> [u8; LARGEST_RATE]
+        ensures { result ≡ within LARGEST-RATE (left_of self.instance (take self.held self.block ++ bytes.now)) }
+    {
+        let fed = bytes.len();
+        if fed < self.missing {
+            return joined(self.block, self.held, bytes);
+        }
+        let rate = self.held + self.missing;
+        let whole = (fed - self.missing) / rate * rate;
+        let at = self.missing + whole;
+        joined(self.block, 0, &bytes[at..])
+    }
 }
 
 // State and block after the bytes that are fed, of a message of which so many were before; as they were for an unknown instance.
@@ -86,9 +85,14 @@ pub fn grow(
     }
     let shape = digest_sponge::sponge_of(instance);
     let held = total % shape.rate;
-    let missing = shape.rate - held;
-    let after = grow_state(instance, state, block, held, missing, bytes);
-    let left = grow_block(instance, block, held, missing, bytes);
+    let begun = Begun {
+        instance,
+        block,
+        held,
+        missing: shape.rate - held,
+    };
+    let after = begun.state_after(state, bytes);
+    let left = begun.block_after(bytes);
     Grown {
         state: after,
         block: left,

@@ -1,6 +1,6 @@
 -- Order W4's demands over the promises of start, feed and finish alone: any cutting of a message gives document 01's digest and its count, two
 -- feeds leave what one leaves, and a record holds no more of the message than its unfinished block. Assumes nothing.
-use Rattle.std.specs.Prelude.{◌≡◌, refl, false, ℕ, ◌+◌, ◌/◌, ◌≤◌, ◌<◌}
+use Rattle.std.specs.Prelude.{◌≡◌, refl, false, ℕ, ◌+◌, ◌/◌, ◌≤◌, ◌<◌, Ok, Result, ⊤}
 use Rattle.std.proofs.Math.Path.{sym, ap}
 use Rattle.std.proofs.Common.{◌∙◌, mod-lt, le-ltb, length-append}
 use mathlib.Core.List.{List, [], ◌∷◌, ◌++◌, append_assoc, append-nil}
@@ -17,18 +17,15 @@ use Rattle.running_spec.specs.Growth.{Sized}
 use Rattle.running_spec.proofs.Growth.{length-left, grown-twice, running-grown, running-concluded}
 use Rattle.running_spec.specs.Order.{Tested, known_of, feed-tested, feed-passes, finish-passes}
 use Rattle.running_spec.specs.declared.Record.{Record}
-use Rattle.running_spec.specs.declared.Started.{Started}
-use Rattle.running_spec.specs.declared.Started.TheVariants as started-is
-use Rattle.running_spec.specs.declared.Fed.{Fed}
-use Rattle.running_spec.specs.declared.Fed.TheVariants as fed-is
-use Rattle.running_spec.specs.declared.Finished.{Finished}
-use Rattle.running_spec.specs.declared.Finished.TheVariants as finished-is
+use Rattle.running_spec.specs.declared.StartRefusal.{StartRefusal}
+use Rattle.running_spec.specs.declared.FeedRefusal.{FeedRefusal}
+use Rattle.running_spec.specs.declared.FinishRefusal.{FinishRefusal}
 use Rattle.running_spec.specs.Cutting.{Starts, Feeds, Finishes, Feeding, none, next, joined, all_done}
 
 -- feeding a ++ b leaves what feeding a and then b leaves, and they are done where it is
-module _ (r : Record) (a b : List ℕ) {r₁ r₂ r₃ : Record} {x y z : Fed} (sized : Sized r) (whole : Feeds r (a ++ b) z r₃) (first : Feeds r a x r₁)
+module _ (r : Record) (a b : List ℕ) {r₁ r₂ r₃ : Record} {x y z : Result ⊤ FeedRefusal} (sized : Sized r) (whole : Feeds r (a ++ b) z r₃) (first : Feeds r a x r₁)
     (second : Feeds r₁ b y r₂) where
-  pub feed-join : z ≡ fed-is.Done → (x ≡ fed-is.Done) × (y ≡ fed-is.Done) × (r₂ ≡ r₃)
+  pub feed-join : z ≡ Ok tt → (x ≡ Ok tt) × (y ≡ Ok tt) × (r₂ ≡ r₃)
   unfolding grown written unfeedable
   feed-join done =
       let t = feed-tested r (a ++ b) (sym done ∙ whole.0) in
@@ -62,16 +59,16 @@ module _ (i : ℕ) (known : unknown i ≡ false) where
       record { goes_on = refl; usable = rw known (le-ltb LONGEST-MESSAGE (length m) (omega arith)); fits = fits }
 
   pub finish-running : (m o : List ℕ) → length m ≤ LONGEST-MESSAGE → DIGEST ≤ length o
-      → (finish_answer (running_of i m) o ≡ finished-is.Done (digest_calls i m)) × (finish_out (running_of i m) o ≡ over (digest_of i m) o)
+      → (finish_answer (running_of i m) o ≡ Ok (digest_calls i m)) × (finish_out (running_of i m) o ≡ over (digest_of i m) o)
   unfolding digest_of digest_calls
   finish-running m o h room =
       let t = running-passes m [] (rw (append-nil m) h) in
       let p = finish-passes (running_of i m) o t.goes_on t.usable room in
       let c = running-concluded i known m in
-      (p.0 ∙ ap (λ (q : Squeezed). finished-is.Done q.run.calls) c, p.1 ∙ ap (λ (q : Squeezed). over q.hash o) c)
+      (p.0 ∙ ap (λ (q : Squeezed). Ok q.run.calls) c, p.1 ∙ ap (λ (q : Squeezed). over q.hash o) c)
 
   -- pieces within the limit are all taken, and the record is that of the message
-  pub fed-running : (m : List ℕ) {r r' : Record} {bs : List (List ℕ)} {as' : List Fed} → r ≡ running_of i m → Feeding r bs as' r'
+  pub fed-running : (m : List ℕ) {r r' : Record} {bs : List (List ℕ)} {as' : List (Result ⊤ FeedRefusal)} → r ≡ running_of i m → Feeding r bs as' r'
       → length (m ++ joined bs) ≤ LONGEST-MESSAGE → (as' ≡ all_done bs) × (r' ≡ running_of i (m ++ joined bs))
   fed-running m e none h = (refl, e ∙ ap (running_of i) (sym (append-nil m)))
   fed-running m e (next {b = b} {bs = bs} p ps) h =
@@ -82,12 +79,12 @@ module _ (i : ℕ) (known : unknown i ≡ false) where
       let rest = fed-running (m ++ b) grew ps step in
       (cons (p.0 ∙ ap (λ (x : Record). feed_answer x b) e ∙ q.0) rest.0, rest.1 ∙ ap (running_of i) (append_assoc m b (joined bs)))
     where
-      cons : {a c : Fed} {l l' : List Fed} → a ≡ c → l ≡ l' → a ∷ l ≡ c ∷ l'
+      cons : {a c : Result ⊤ FeedRefusal} {l l' : List (Result ⊤ FeedRefusal)} → a ≡ c → l ≡ l' → a ∷ l ≡ c ∷ l'
       cons p q = cc
 
-module _ (i : ℕ) (known : unknown i ≡ false) (r₀ : Record) {r r' : Record} {a : Started} {as' : List Fed} {pieces : List (List ℕ)}
+module _ (i : ℕ) (known : unknown i ≡ false) (r₀ : Record) {r r' : Record} {a : Result ⊤ StartRefusal} {as' : List (Result ⊤ FeedRefusal)} {pieces : List (List ℕ)}
     (start : Starts r₀ i a r) (feeds : Feeding r pieces as' r') (fits : length (joined pieces) ≤ LONGEST-MESSAGE) where
-  from_start : (a ≡ started-is.Done) × (as' ≡ all_done pieces) × (r' ≡ running_of i (joined pieces))
+  from_start : (a ≡ Ok tt) × (as' ≡ all_done pieces) × (r' ≡ running_of i (joined pieces))
   unfolding start_answer start_record
   from_start =
       let s : r ≡ running_of i [] = start.1 ∙ rw known in
@@ -103,8 +100,8 @@ module _ (i : ℕ) (known : unknown i ≡ false) (r₀ : Record) {r r' : Record}
   holds-no-more = (from_start.2, rw (length-left i (joined pieces)) (mod-lt (length (joined pieces)) (known-whole i known).fits.some))
 
   -- start, feeds and finish give the digest of the pieces joined, and its count
-  pub any-cutting : {r'' : Record} {f : Finished} (o : List ℕ) {o' : List ℕ} → Finishes r' o f r'' o' → DIGEST ≤ length o
-      → (a ≡ started-is.Done) × (as' ≡ all_done pieces) × (f ≡ finished-is.Done (digest_calls i (joined pieces))) × (o' ≡ over (digest_of i (joined pieces)) o)
+  pub any-cutting : {r'' : Record} {f : Result ℕ FinishRefusal} (o : List ℕ) {o' : List ℕ} → Finishes r' o f r'' o' → DIGEST ≤ length o
+      → (a ≡ Ok tt) × (as' ≡ all_done pieces) × (f ≡ Ok (digest_calls i (joined pieces))) × (o' ≡ over (digest_of i (joined pieces)) o)
   any-cutting o finish room =
       let e = from_start.2 in
       let d = finish-running i known (joined pieces) o fits room in

@@ -1,6 +1,6 @@
 -- The running digest (order W4): the record that feeding a message gives, and what start, feed and finish answer and leave, each refusal
 -- one line, in order. Assumes nothing: these are definitions.
-use Rattle.std.specs.Prelude.{◌≡◌, ℕ, ◌+◌, ◌*◌, ◌/◌, ◌%◌, Bool, true, cond, List, [], ◌++◌, ltb, length, take, drop, replicate}
+use Rattle.std.specs.Prelude.{◌≡◌, ℕ, ◌+◌, ◌*◌, ◌/◌, ◌%◌, Bool, true, cond, List, [], ◌++◌, ltb, length, take, drop, replicate, Ok, Err, Result, ⊤}
 use Rattle.base_lists.specs.Buffers.{over}
 use Rattle.gage_spec.specs.Permutation.{LARGEST}
 use Rattle.gage_sponge.specs.Padding.{LARGEST-RATE}
@@ -10,12 +10,12 @@ use Rattle.digest_spec.specs.Hashing.{Squeezed, absorbed}
 use Rattle.digest_call.specs.Answers.{LONGEST-MESSAGE}
 use Rattle.digest_sponge.specs.Parts.{taken, closed, within}
 use Rattle.running_spec.specs.declared.Record.{Record}
-use Rattle.running_spec.specs.declared.Started.{Started}
-use Rattle.running_spec.specs.declared.Started.TheVariants as started-is
-use Rattle.running_spec.specs.declared.Fed.{Fed}
-use Rattle.running_spec.specs.declared.Fed.TheVariants as fed-is
-use Rattle.running_spec.specs.declared.Finished.{Finished}
-use Rattle.running_spec.specs.declared.Finished.TheVariants as finished-is
+use Rattle.running_spec.specs.declared.StartRefusal.{StartRefusal}
+use Rattle.running_spec.specs.declared.StartRefusal.TheVariants as started-is
+use Rattle.running_spec.specs.declared.FeedRefusal.{FeedRefusal}
+use Rattle.running_spec.specs.declared.FeedRefusal.TheVariants as fed-is
+use Rattle.running_spec.specs.declared.FinishRefusal.{FinishRefusal}
+use Rattle.running_spec.specs.declared.FinishRefusal.TheVariants as finished-is
 
 -- a record written anew from its instance, its total, the state's bytes and the unfinished bytes; all else in it is zero
 unfoldable pub written : ℕ → ℕ → List ℕ → List ℕ → Record
@@ -51,21 +51,21 @@ unfoldable pub unfeedable : Record → Bool
 unfeedable r = cond (unknown r.instance) true (ltb LONGEST-MESSAGE r.total)
 
 -- start: on any record. Done, it is the record that feeding nothing gives
-unfoldable pub start_answer : ℕ → Started
+unfoldable pub start_answer : ℕ → Result ⊤ StartRefusal
 start_answer i =
-    cond (unknown i) started-is.Unknown
-    started-is.Done
+    cond (unknown i) (Err started-is.Unknown)
+    (Ok tt)
 
 unfoldable pub start_record : Record → ℕ → Record
 start_record r i = cond (unknown i) r (running_of i [])
 
 -- feed: 14, 1, 3
-unfoldable pub feed_answer : Record → List ℕ → Fed
+unfoldable pub feed_answer : Record → List ℕ → Result ⊤ FeedRefusal
 feed_answer r b =
-    cond (is_finished r) fed-is.AfterFinish
-    (cond (unfeedable r) fed-is.Unknown
-    (cond (ltb LONGEST-MESSAGE (r.total + length b)) fed-is.TooLong
-    fed-is.Done))
+    cond (is_finished r) (Err fed-is.AfterFinish)
+    (cond (unfeedable r) (Err fed-is.Unknown)
+    (cond (ltb LONGEST-MESSAGE (r.total + length b)) (Err fed-is.TooLong)
+    (Ok tt)))
 
 -- x is the unfinished bytes and those fed: each full block of it is taken in, and what is left is unfinished
 unfoldable pub taken_up : Record → List ℕ → List ℕ
@@ -75,11 +75,11 @@ unfoldable pub grown : Record → ℕ → List ℕ → Record
 grown r t x = written r.instance t (taken_up r x) (left_of r.instance x)
 
 -- done: the new record; refused: the record as it was
-abbrev pub on_feed : Fed → Record → Record → Record
-on_feed fed-is.Done new r = new
-on_feed fed-is.AfterFinish new r = r
-on_feed fed-is.Unknown new r = r
-on_feed fed-is.TooLong new r = r
+abbrev pub on_feed : Result ⊤ FeedRefusal → Record → Record → Record
+on_feed (Ok tt) new r = new
+on_feed (Err fed-is.AfterFinish) new r = r
+on_feed (Err fed-is.Unknown) new r = r
+on_feed (Err fed-is.TooLong) new r = r
 
 unfoldable pub feed_record : Record → List ℕ → Record
 feed_record r b = on_feed (feed_answer r b) (grown r (r.total + length b) (unfinished r ++ b)) r
@@ -89,19 +89,17 @@ unfoldable pub concluded : Record → Squeezed
 concluded r = closed (rate_of r.instance) (outputs_of r.instance) (unfinished r) (so_far r)
 
 -- 14, 1, 4
-unfoldable pub finish_answer : Record → List ℕ → Finished
+unfoldable pub finish_answer : Record → List ℕ → Result ℕ FinishRefusal
 finish_answer r o =
-    cond (is_finished r) finished-is.AfterFinish
-    (cond (unfeedable r) finished-is.Unknown
-    (cond (ltb (length o) DIGEST) finished-is.NoRoom
-    (finished-is.Done (concluded r).run.calls)))
+    cond (is_finished r) (Err finished-is.AfterFinish)
+    (cond (unfeedable r) (Err finished-is.Unknown)
+    (cond (ltb (length o) DIGEST) (Err finished-is.NoRoom)
+    (Ok (concluded r).run.calls)))
 
 -- done: the new value; refused: what was there
-abbrev pub on_finish : {A : Type 0} → Finished → A → A → A
-on_finish (finished-is.Done n) new x = new
-on_finish finished-is.AfterFinish new x = x
-on_finish finished-is.Unknown new x = x
-on_finish finished-is.NoRoom new x = x
+abbrev pub on_finish : {A : Type 0} → Result ℕ FinishRefusal → A → A → A
+on_finish (Ok n) new x = new
+on_finish (Err f) new x = x
 
 unfoldable pub finish_out : Record → List ℕ → List ℕ
 finish_out r o = on_finish (finish_answer r o) (over (concluded r).hash o) o
@@ -120,24 +118,22 @@ unfoldable pub finish_record : Record → List ℕ → Record
 finish_record r o = on_finish (finish_answer r o) (ended r) r
 
 -- the order's numbers, and the count that finish reports
-abbrev pub start_number : Started → ℕ
-start_number started-is.Done = 0
-start_number started-is.Unknown = 1
+abbrev pub start_number : Result ⊤ StartRefusal → ℕ
+start_number (Ok tt) = 0
+start_number (Err started-is.Unknown) = 1
 
-abbrev pub feed_number : Fed → ℕ
-feed_number fed-is.Done = 0
-feed_number fed-is.AfterFinish = 14
-feed_number fed-is.Unknown = 1
-feed_number fed-is.TooLong = 3
+abbrev pub feed_number : Result ⊤ FeedRefusal → ℕ
+feed_number (Ok tt) = 0
+feed_number (Err fed-is.AfterFinish) = 14
+feed_number (Err fed-is.Unknown) = 1
+feed_number (Err fed-is.TooLong) = 3
 
-abbrev pub finish_number : Finished → ℕ
-finish_number (finished-is.Done n) = 0
-finish_number finished-is.AfterFinish = 14
-finish_number finished-is.Unknown = 1
-finish_number finished-is.NoRoom = 4
+abbrev pub finish_number : Result ℕ FinishRefusal → ℕ
+finish_number (Ok n) = 0
+finish_number (Err finished-is.AfterFinish) = 14
+finish_number (Err finished-is.Unknown) = 1
+finish_number (Err finished-is.NoRoom) = 4
 
-abbrev pub finish_count : Finished → ℕ
-finish_count (finished-is.Done n) = n
-finish_count finished-is.AfterFinish = 0
-finish_count finished-is.Unknown = 0
-finish_count finished-is.NoRoom = 0
+abbrev pub finish_count : Result ℕ FinishRefusal → ℕ
+finish_count (Ok n) = n
+finish_count (Err f) = 0

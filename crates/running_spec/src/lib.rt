@@ -21,26 +21,23 @@ pub struct Record {
     pub block: [u8; LARGEST_RATE],
 }
 
-// Done, or refused: no known instance.
+// Why a start is refused: no known instance.
 #[derive(Clone, Copy)]
-pub enum Started {
-    Done,
+pub enum StartRefusal {
     Unknown,
 }
 
-// Done, or refused: after a finish; a record with no known instance or with a count no feeding gives; too long.
+// Why a feed is refused: after a finish; a record with no known instance or with a count no feeding gives; too long.
 #[derive(Clone, Copy)]
-pub enum Fed {
-    Done,
+pub enum FeedRefusal {
     AfterFinish,
     Unknown,
     TooLong,
 }
 
-// Done with the calls of the permutation, or refused: after a finish; such a record; no room for the digest.
+// Why a finish is refused: after a finish; such a record; no room for the digest. One that is done counts the calls of the permutation.
 #[derive(Clone, Copy)]
-pub enum Finished {
-    Done(usize),
+pub enum FinishRefusal {
     AfterFinish,
     Unknown,
     NoRoom,

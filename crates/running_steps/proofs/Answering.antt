@@ -1,4 +1,5 @@
 -- Each return of a step by value gives what the order's refusals say, in their order. Assumes nothing.
+use Rattle.std.specs.Prelude.{Ok, Err, Result, ⊤}
 use mathlib.Core.Path.{◌≡◌, refl, sym, ap, ◌∙◌}
 use mathlib.Core.Bool.{false}
 use mathlib.Core.List.{List, ◌++◌}
@@ -23,25 +24,25 @@ use Rattle.running_grow.specs.Growing.{grown_by}
 use Rattle.running_grow.specs.Held.{rate-is, outputs-is}
 use Rattle.running_spec.specs.Order.{finish-passes}
 use Rattle.running_spec.specs.declared.Record.{Record}
-use Rattle.running_spec.specs.declared.Fed.{Fed}
-use Rattle.running_spec.specs.declared.Fed.TheVariants as fed-is
-use Rattle.running_spec.specs.declared.Finished.{Finished}
-use Rattle.running_spec.specs.declared.Finished.TheVariants as finished-is
+use Rattle.running_spec.specs.declared.FeedRefusal.{FeedRefusal}
+use Rattle.running_spec.specs.declared.FeedRefusal.TheVariants as fed-is
+use Rattle.running_spec.specs.declared.FinishRefusal.{FinishRefusal}
+use Rattle.running_spec.specs.declared.FinishRefusal.TheVariants as finished-is
 
 -- a refused feed leaves the record
-pub feed-refused : (r : Record) (b : List ℕ) (a : Fed) → (a ≡ fed-is.Done → ⊥) → a ≡ feed_answer r b → r ≡ feed_record r b
+pub feed-refused : (r : Record) (b : List ℕ) (a : Result ⊤ FeedRefusal) → (a ≡ Ok tt → ⊥) → a ≡ feed_answer r b → r ≡ feed_record r b
 unfolding feed_record
-feed-refused r b fed-is.Done k e = absurd (k refl)
-feed-refused r b fed-is.AfterFinish k e = rw (sym e)
-feed-refused r b fed-is.Unknown k e = rw (sym e)
-feed-refused r b fed-is.TooLong k e = rw (sym e)
+feed-refused r b (Ok tt) k e = absurd (k refl)
+feed-refused r b (Err fed-is.AfterFinish) k e = rw (sym e)
+feed-refused r b (Err fed-is.Unknown) k e = rw (sym e)
+feed-refused r b (Err fed-is.TooLong) k e = rw (sym e)
 
 -- a refused finish leaves the record
-pub finish-refused : (r : Record) (a : Finished) → ((n : ℕ) → a ≡ finished-is.Done n → ⊥) → r ≡ on_finish a (ended r) r
-finish-refused r (finished-is.Done n) k = absurd (k n refl)
-finish-refused r finished-is.AfterFinish k = refl
-finish-refused r finished-is.Unknown k = refl
-finish-refused r finished-is.NoRoom k = refl
+pub finish-refused : (r : Record) (a : Result ℕ FinishRefusal) → ((n : ℕ) → a ≡ Ok n → ⊥) → r ≡ on_finish a (ended r) r
+finish-refused r (Ok n) k = absurd (k n refl)
+finish-refused r (Err finished-is.AfterFinish) k = refl
+finish-refused r (Err finished-is.Unknown) k = refl
+finish-refused r (Err finished-is.NoRoom) k = refl
 
 -- a record that is fed, and what `grow` gives for it
 module _ (r : Record) (known : unknown r.instance ≡ false) where
@@ -53,7 +54,7 @@ module _ (r : Record) (known : unknown r.instance ≡ false) where
       (ap (within LARGEST) (taken-state (rate_of r.instance) x (from (take (size_of r.instance) r.state)) (so_far r)
       (length x / rate_of r.instance) refl))
 
-  pub feed-done : (b : List ℕ) (g : Grown) → fed-is.Done ≡ feed_answer r b → g ≡ grown_by r.instance r.state r.block r.total b
+  pub feed-done : (b : List ℕ) (g : Grown) → Ok tt ≡ feed_answer r b → g ≡ grown_by r.instance r.state r.block r.total b
       → record { total = r.total + length b; instance = r.instance; finished = 0; state = g.state; block = g.block } ≡ feed_record r b
   unfolding feed_record grown written unfinished grown_by
   feed-done b g e g-is =
@@ -88,8 +89,8 @@ module _ (r : Record) (known : unknown r.instance ≡ false) {shape : Shape} (Sh
 
   pub finish-done : (o hash w : List ℕ) → length hash ≡ DIGEST → unfeedable r ≡ false → r.finished ≤ 0 → DIGEST ≤ length o
       → hash ≡ closed_by r.instance r.state (take (r.total % shape.rate) r.block) → w ≡ copied hash o
-      → (finished-is.Done (r.total / shape.rate + 1 + shape.outputs) ≡ finish_answer r o) × (w ≡ finish_out r o)
+      → (Ok (r.total / shape.rate + 1 + shape.outputs) ≡ finish_answer r o) × (w ≡ finish_out r o)
   finish-done o hash w long u f h hash-is w-is =
       let p = finish-passes r o (le-ltb 0 r.finished f) u h in
       let copy : w ≡ over hash o = w-is ∙ copied_all hash o (omega arith) in
-      (ap finished-is.Done counted ∙ sym p.0, copy ∙ ap (λ (l : List ℕ). over l o) (given_out hash hash-is) ∙ sym p.1)
+      (ap Ok counted ∙ sym p.0, copy ∙ ap (λ (l : List ℕ). over l o) (given_out hash hash-is) ∙ sym p.1)

@@ -1,14 +1,15 @@
 -- The promises of the steps by value, as the check reads them (`Post`), admit a single answer, and of `give` a single buffer.
 -- Assumes nothing.
+use Rattle.std.specs.Prelude.{Result, ⊤}
 use mathlib.Core.Path.{◌≡◌, sym, ◌∙◌}
 use Prim.Native.Nat.{ℕ}
 use contract.Lifetimes.{Lfts}
 use denote.Triple.Clauses.{AtExit}
 use borrow.Fn.Kinds.{Dens, ended_of}
 use Rattle.running_spec.specs.declared.Record.{Record}
-use Rattle.running_spec.specs.declared.Started.{Started}
-use Rattle.running_spec.specs.declared.Fed.{Fed}
-use Rattle.running_spec.specs.declared.Finished.{Finished}
+use Rattle.running_spec.specs.declared.StartRefusal.{StartRefusal}
+use Rattle.running_spec.specs.declared.FeedRefusal.{FeedRefusal}
+use Rattle.running_spec.specs.declared.FinishRefusal.{FinishRefusal}
 use Rattle.running_steps.proofs.start_answer.Kinds as start-answer-kinds
 use Rattle.running_steps.proofs.start_answer.Reads as start-answer-reads
 use Rattle.running_steps.proofs.after_start.Kinds as after-start-kinds
@@ -30,7 +31,7 @@ use Rattle.running_steps.proofs.finish_number.Reads as finish-number-reads
 use Rattle.running_steps.proofs.finish_count.Kinds as finish-count-kinds
 use Rattle.running_steps.proofs.finish_count.Reads as finish-count-reads
 
-pub start-answer-single : (κs : Lfts 0) (a : Dens κs start-answer-kinds.ps) (r r' : Started)
+pub start-answer-single : (κs : Lfts 0) (a : Dens κs start-answer-kinds.ps) (r r' : Result ⊤ StartRefusal)
     (x x' : AtExit (ended_of 0 start-answer-kinds.ps start-answer-kinds.r) κs)
     → start-answer-reads.Post κs a r x → start-answer-reads.Post κs a r' x' → r ≡ r'
 start-answer-single κs a r r' x x' p q = p ∙ sym q
@@ -40,7 +41,7 @@ pub after-start-single : (κs : Lfts 0) (a : Dens κs after-start-kinds.ps) (r r
     → after-start-reads.Post κs a r x → after-start-reads.Post κs a r' x' → r ≡ r'
 after-start-single κs a r r' x x' p q = p ∙ sym q
 
-pub feed-answer-single : (κs : Lfts 1) (a : Dens κs feed-answer-kinds.ps) (r r' : Fed) (x x' : AtExit (ended_of 1 feed-answer-kinds.ps feed-answer-kinds.r) κs)
+pub feed-answer-single : (κs : Lfts 1) (a : Dens κs feed-answer-kinds.ps) (r r' : Result ⊤ FeedRefusal) (x x' : AtExit (ended_of 1 feed-answer-kinds.ps feed-answer-kinds.r) κs)
     → feed-answer-reads.Post κs a r x → feed-answer-reads.Post κs a r' x' → r ≡ r'
 feed-answer-single κs a r r' x x' p q = p ∙ sym q
 
@@ -48,7 +49,7 @@ pub after-feed-single : (κs : Lfts 1) (a : Dens κs after-feed-kinds.ps) (r r' 
     → after-feed-reads.Post κs a r x → after-feed-reads.Post κs a r' x' → r ≡ r'
 after-feed-single κs a r r' x x' p q = p ∙ sym q
 
-pub give-single : (κs : Lfts 1) (a : Dens κs give-kinds.ps) (r r' : Finished) (x x' : AtExit (ended_of 1 give-kinds.ps give-kinds.r) κs)
+pub give-single : (κs : Lfts 1) (a : Dens κs give-kinds.ps) (r r' : Result ℕ FinishRefusal) (x x' : AtExit (ended_of 1 give-kinds.ps give-kinds.r) κs)
     → give-reads.Post κs a r x → give-reads.Post κs a r' x' → (r ≡ r') × (x.1.0.now ≡ x'.1.0.now)
 give-single κs a r r' x x' p q = (p.0 ∙ sym q.0, p.1 ∙ sym q.1)
 

@@ -12,7 +12,7 @@ ghost use Rattle.running_spec.specs.Running.{start_number, feed_number, finish_n
 use digest_call::{DIGEST, LONGEST_MESSAGE};
 use gage_spec::LARGEST;
 use gage_sponge::LARGEST_RATE;
-use running_spec::{Fed, Finished, Record, Started};
+use running_spec::{FeedRefusal, FinishRefusal, Record, StartRefusal};
 
 // What `finished` holds before a finish, and what a finish writes there: every number but 0 is finished.
 const NOT_FINISHED: u32 = 0;
@@ -23,13 +23,13 @@ const FINISHED: u32 = 1;
 const NO_CALLS: usize = 0;
 
 // What `start` answers.
-pub fn start_answer(instance: usize) -> Started
+pub fn start_answer(instance: usize) -> Result<(), StartRefusal>
     ensures { result ≡ start_answer instance }
 {
     if digest_sponge::is_unknown(instance) {
-        return Started::Unknown;
+        return Err(StartRefusal::Unknown);
     }
-    Started::Done
+    Ok(())
 }
 
 // The record after a start; as it was where that is refused.
@@ -51,19 +51,19 @@ pub fn after_start(running: Record, instance: usize) -> Record
 }
 
 // What `feed` answers.
-pub fn feed_answer(running: Record, bytes: &[u8]) -> Fed
+pub fn feed_answer(running: Record, bytes: &[u8]) -> Result<(), FeedRefusal>
     ensures { result ≡ feed_answer running bytes.now }
 {
     if running.finished > NOT_FINISHED {
-        return Fed::AfterFinish;
+        return Err(FeedRefusal::AfterFinish);
     }
     if running_spec::is_unfeedable(running) {
-        return Fed::Unknown;
+        return Err(FeedRefusal::Unknown);
     }
     if bytes.len() > LONGEST_MESSAGE - running.total {
-        return Fed::TooLong;
+        return Err(FeedRefusal::TooLong);
     }
-    Fed::Done
+    Ok(())
 }
 
 // The digest from a state and the bytes held of the unfinished block.
@@ -83,7 +83,7 @@ fn hash_of(
 pub fn after_feed(running: Record, bytes: &[u8]) -> Record
     ensures { result ≡ feed_record running bytes.now }
 {
-    let Fed::Done = feed_answer(running, bytes) else {
+    let Ok(()) = feed_answer(running, bytes) else {
         return running;
     };
     let instance = running.instance as usize;
@@ -103,17 +103,17 @@ pub fn after_feed(running: Record, bytes: &[u8]) -> Record
 }
 
 // What `finish` answers; done, the digest stands over the first 32 bytes of out, and else out is as it was.
-pub fn give(running: Record, out: &mut [u8]) -> Finished
+pub fn give(running: Record, out: &mut [u8]) -> Result<usize, FinishRefusal>
     ensures { (result ≡ finish_answer running out.old) × (out.new ≡ finish_out running out.old) }
 {
     if running.finished > NOT_FINISHED {
-        return Finished::AfterFinish;
+        return Err(FinishRefusal::AfterFinish);
     }
     if running_spec::is_unfeedable(running) {
-        return Finished::Unknown;
+        return Err(FinishRefusal::Unknown);
     }
     if out.len() < DIGEST {
-        return Finished::NoRoom;
+        return Err(FinishRefusal::NoRoom);
     }
     let instance = running.instance as usize;
     let shape = digest_sponge::sponge_of(instance);
@@ -124,14 +124,14 @@ pub fn give(running: Record, out: &mut [u8]) -> Finished
     let block = running.block;
     let hash = hash_of(instance, state, block, held);
     base_lists::copy(&hash, out);
-    Finished::Done(total / rate + 1 + shape.outputs)
+    Ok(total / rate + 1 + shape.outputs)
 }
 
 // The record after a finish that gave this answer; as it was where that is a refusal.
-pub fn after_finish(running: Record, answer: Finished) -> Record
+pub fn after_finish(running: Record, answer: Result<usize, FinishRefusal>) -> Record
     ensures { result ≡ on_finish answer (ended running) running }
 {
-    let Finished::Done(_) = answer else {
+    let Ok(_) = answer else {
         return running;
     };
     let state = [0u8; LARGEST];
@@ -146,47 +146,42 @@ pub fn after_finish(running: Record, answer: Finished) -> Record
 }
 
 // The number of what `start` answers.
-pub fn start_number(answer: Started) -> u32
+pub fn start_number(answer: Result<(), StartRefusal>) -> u32
     ensures { result ≡ start_number answer }
 {
     match answer {
-        Started::Done => 0,
-        Started::Unknown => 1,
+        Ok(()) => 0,
+        Err(StartRefusal::Unknown) => 1,
     }
 }
 
 // The number of what `feed` answers.
-pub fn feed_number(answer: Fed) -> u32
+pub fn feed_number(answer: Result<(), FeedRefusal>) -> u32
     ensures { result ≡ feed_number answer }
 {
     match answer {
-        Fed::Done => 0,
-        Fed::AfterFinish => 14,
-        Fed::Unknown => 1,
-        Fed::TooLong => 3,
+        Ok(()) => 0,
+        Err(FeedRefusal::AfterFinish) => 14,
+        Err(FeedRefusal::Unknown) => 1,
+        Err(FeedRefusal::TooLong) => 3,
     }
 }
 
 // The number of what `finish` answers.
-pub fn finish_number(answer: Finished) -> u32
+pub fn finish_number(answer: Result<usize, FinishRefusal>) -> u32
     ensures { result ≡ finish_number answer }
 {
     match answer {
-        Finished::Done(_) => 0,
-        Finished::AfterFinish => 14,
-        Finished::Unknown => 1,
-        Finished::NoRoom => 4,
+        Ok(_) => 0,
+        Err(FinishRefusal::AfterFinish) => 14,
+        Err(FinishRefusal::Unknown) => 1,
+        Err(FinishRefusal::NoRoom) => 4,
     }
 }
 
 // The count of what `finish` answers.
-pub fn finish_count(answer: Finished) -> usize
+pub fn finish_count(answer: Result<usize, FinishRefusal>) -> usize
     ensures { result ≡ finish_count answer }
 {
-    match answer {
-        Finished::Done(calls) => calls,
-        Finished::AfterFinish => NO_CALLS,
-        Finished::Unknown => NO_CALLS,
-        Finished::NoRoom => NO_CALLS,
-    }
+    answer.unwrap_or(NO_CALLS)
 }

@@ -1,4 +1,5 @@
 -- What a tested answer of a read is by definition, and what becomes of a load after it. Assumes nothing.
+use Rattle.std.specs.Prelude.{Ok, Err, Result}
 use mathlib.Core.Path.{◌≡◌, refl, sym, ap, subst}
 use mathlib.Core.Bool.{Bool, true, false, cond}
 use Prim.Native.Nat.{ℕ, ◌+◌, ◌≤◌, ◌<◌}
@@ -13,8 +14,8 @@ use mir.Facts.{to_z-of_z}
 use Rattle.tool_files.specs.Loading.{heard_of, stepped, held_in, HeardIn}
 use Rattle.tool_files.specs.declared.Heard.{Heard}
 use Rattle.tool_files.specs.declared.Heard.TheVariants as heard
-use Rattle.tool_files.specs.declared.Loaded.{Loaded}
-use Rattle.tool_files.specs.declared.Loaded.TheVariants.{Bytes, Long, Failed}
+use Rattle.tool_files.specs.declared.LoadFault.{LoadFault}
+use Rattle.tool_files.specs.declared.LoadFault.TheVariants.{Long, Failed}
 use Rattle.tool_files.specs.declared.Step.TheVariants.{On, Ended}
 
 -- a number above 0, as the machine tests it
@@ -63,7 +64,7 @@ pub error_within : (n : ℕ) (i : Bool) (room : ℕ) (h : Heard) → h ≡ heard
 error_within n i room h e = subst (λ (x : Heard). HeardIn x room) (sym e) (heard_error n i room)
 
 -- after a read: the buffer is full and more came; bytes that fit
-pub too_long : (done room n : ℕ) (h : Heard) → h ≡ heard.Some n → room < done + n → Ended Long ≡ stepped done room h
+pub too_long : (done room n : ℕ) (h : Heard) → h ≡ heard.Some n → room < done + n → Ended (Err Long) ≡ stepped done room h
 unfolding stepped
 too_long done room n h e f = rw (e, lt-leb (done + n) room f) refl
 
@@ -72,10 +73,14 @@ unfolding stepped
 goes_on done room n h e f = rw (e, le-leb (done + n) room f) refl
 
 -- a load as it stands in a buffer
-pub beyond : (n room : ℕ) (l : Loaded) → l ≡ Bytes n → room < n → Failed ≡ held_in l room
+pub beyond : (n room : ℕ) (l : Result ℕ LoadFault) → l ≡ Ok n → room < n → Err Failed ≡ held_in l room
 unfolding held_in
 beyond n room l e f = rw (e, lt-leb n room f) refl
 
-pub inside : (n room : ℕ) (l : Loaded) → l ≡ Bytes n → n ≤ room → Bytes n ≡ held_in l room
+pub inside : (n room : ℕ) (l : Result ℕ LoadFault) → l ≡ Ok n → n ≤ room → Ok n ≡ held_in l room
 unfolding held_in
 inside n room l e f = rw (e, le-leb n room f) refl
+
+pub as-it-was : (f : LoadFault) (room : ℕ) (l : Result ℕ LoadFault) → l ≡ Err f → Err f ≡ held_in l room
+unfolding held_in
+as-it-was f room l e = rw e refl

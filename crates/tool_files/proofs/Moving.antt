@@ -1,4 +1,5 @@
 -- A buffer that takes a file in, part behind part, and what is known of it when the load ends. Assumes nothing.
+use Rattle.std.specs.Prelude.{Err, Result}
 use mathlib.Core.Path.{◌≡◌, refl, sym, ap, subst, ◌∙◌}
 use mathlib.Core.Bool.{Bool, true, false, cond}
 use mathlib.Core.List.{List, ◌++◌}
@@ -14,8 +15,8 @@ use Rattle.base_lists.specs.Over.{copied_all, over-part}
 use Rattle.tool_files.specs.Loading.{stepped, HeardIn, LoadedIn}
 use Rattle.tool_files.specs.declared.Heard.{Heard}
 use Rattle.tool_files.specs.declared.Heard.TheVariants as heard
-use Rattle.tool_files.specs.declared.Loaded.{Loaded}
-use Rattle.tool_files.specs.declared.Loaded.TheVariants.{Long, Failed}
+use Rattle.tool_files.specs.declared.LoadFault.{LoadFault}
+use Rattle.tool_files.specs.declared.LoadFault.TheVariants.{Long, Failed}
 use Rattle.tool_files.specs.declared.Step.{Step}
 use Rattle.tool_files.specs.declared.Step.TheVariants.{On, Ended}
 
@@ -72,25 +73,25 @@ pub went : (done room most n : ℕ) (h : Heard) → stepped done room h ≡ On n
 unfolding stepped is_on on_of
 went done room most n (heard.Some k) e i f = go (leb (done + k) room) refl e
   where
-    go : (t : Bool) → leb (done + k) room ≡ t → cond t (On (done + k)) (Ended Long) ≡ On n → (done ≤ n) × (n - done ≤ most) × (n ≤ room)
+    go : (t : Bool) → leb (done + k) room ≡ t → cond t (On (done + k)) (Ended (Err Long)) ≡ On n → (done ≤ n) × (n - done ≤ most) × (n ≤ room)
     go true p q = let m = ap on_of q in let l = leb-true (done + k) room p in (omega (arith, m), omega (arith, m, i), omega (arith, m, l))
     go false p q = absurd (subst T (sym (ap is_on q)) tt)
 went done room most n heard.Again e i f = let m = ap on_of e in (omega (arith, m), omega (arith, m), omega (arith, m, f))
 went done room most n heard.End e i f = absurd (subst T (sym (ap is_on e)) tt)
 went done room most n heard.Failed e i f = absurd (subst T (sym (ap is_on e)) tt)
 
-end_of : Step → Loaded
-end_of (On n) = Failed
+end_of : Step → Result ℕ LoadFault
+end_of (On n) = Err Failed
 end_of (Ended l) = l
 
 -- where it ends, what is known of the buffer
-pub came : {o b : List ℕ} {done : ℕ} → Taken o b done → (room : ℕ) (l : Loaded) (h : Heard) → stepped done room h ≡ Ended l → LoadedIn l o b
+pub came : {o b : List ℕ} {done : ℕ} → Taken o b done → (room : ℕ) (l : Result ℕ LoadFault) (h : Heard) → stepped done room h ≡ Ended l → LoadedIn l o b
 unfolding stepped is_on end_of
 came {o} {b} {done} t room l (heard.Some k) e = go (leb (done + k) room) e
   where
-    go : (u : Bool) → cond u (On (done + k)) (Ended Long) ≡ Ended l → LoadedIn l o b
+    go : (u : Bool) → cond u (On (done + k)) (Ended (Err Long)) ≡ Ended l → LoadedIn l o b
     go true q = absurd (subst T (ap is_on q) tt)
-    go false q = subst (λ (x : Loaded). LoadedIn x o b) (ap end_of q) tt
+    go false q = subst (λ (x : Result ℕ LoadFault). LoadedIn x o b) (ap end_of q) tt
 came {o} {b} {done} t room l heard.Again e = absurd (subst T (ap is_on e) tt)
-came {o} {b} {done} t room l heard.End e = subst (λ (x : Loaded). LoadedIn x o b) (ap end_of e) (t.within, t.rest)
-came {o} {b} {done} t room l heard.Failed e = subst (λ (x : Loaded). LoadedIn x o b) (ap end_of e) tt
+came {o} {b} {done} t room l heard.End e = subst (λ (x : Result ℕ LoadFault). LoadedIn x o b) (ap end_of e) (t.within, t.rest)
+came {o} {b} {done} t room l heard.Failed e = subst (λ (x : Result ℕ LoadFault). LoadedIn x o b) (ap end_of e) tt

@@ -1,10 +1,11 @@
 -- The promises of `judge_read`, `after_read` and `held`, as the check reads them (`Post`), admit a single answer. Assumes nothing.
+use Rattle.std.specs.Prelude.{Result, ℕ}
 use mathlib.Core.Path.{◌≡◌, sym, ◌∙◌}
 use contract.Lifetimes.{Lfts}
 use denote.Triple.Clauses.{AtExit}
 use borrow.Fn.Kinds.{Dens, ended_of}
 use Rattle.tool_files.specs.declared.Heard.{Heard}
-use Rattle.tool_files.specs.declared.Loaded.{Loaded}
+use Rattle.tool_files.specs.declared.LoadFault.{LoadFault}
 use Rattle.tool_files.specs.declared.Step.{Step}
 use Rattle.tool_files.proofs.judge_read.Kinds as judge-kinds
 use Rattle.tool_files.proofs.judge_read.Reads as judge-reads
@@ -21,6 +22,6 @@ pub after-read-single : (κs : Lfts 0) (a : Dens κs after-kinds.ps) (r r' : Ste
     → after-reads.Post κs a r x → after-reads.Post κs a r' x' → r ≡ r'
 after-read-single κs a r r' x x' p q = p ∙ sym q
 
-pub held-single : (κs : Lfts 0) (a : Dens κs held-kinds.ps) (r r' : Loaded) (x x' : AtExit (ended_of 0 held-kinds.ps held-kinds.r) κs)
+pub held-single : (κs : Lfts 0) (a : Dens κs held-kinds.ps) (r r' : Result ℕ LoadFault) (x x' : AtExit (ended_of 0 held-kinds.ps held-kinds.r) κs)
     → held_reads.Post κs a r x → held_reads.Post κs a r' x' → r ≡ r'
 held-single κs a r r' x x' p q = p ∙ sym q

@@ -31,11 +31,9 @@ pub enum Heard {
     Failed,
 }
 
-// How a load ended.
+// Why a load gives no bytes.
 #[derive(Clone, Copy)]
-pub enum Loaded {
-    // So many bytes, and no more.
-    Bytes(usize),
+pub enum LoadFault {
     // More than the buffer holds.
     Long,
     // It is missing, or can't be read to its end.
@@ -47,7 +45,7 @@ pub enum Loaded {
 pub enum Step {
     // It goes on with so many bytes.
     On(usize),
-    Ended(Loaded),
+    Ended(Result<usize, LoadFault>),
 }
 
 // What the answer of a read says, given whether the system's error is that it was interrupted.
@@ -73,32 +71,31 @@ pub fn after_read(done: usize, room: usize, heard: Heard) -> Step
     match heard {
         Heard::Some(n) => {
             if done > room {
-                return Step::Ended(Loaded::Long);
+                return Step::Ended(Err(LoadFault::Long));
             }
             if n > room - done {
-                return Step::Ended(Loaded::Long);
+                return Step::Ended(Err(LoadFault::Long));
             }
             Step::On(done + n)
         }
         Heard::Again => Step::On(done),
-        Heard::End => Step::Ended(Loaded::Bytes(done)),
-        Heard::Failed => Step::Ended(Loaded::Failed),
+        Heard::End => Step::Ended(Ok(done)),
+        Heard::Failed => Step::Ended(Err(LoadFault::Failed)),
     }
 }
 
 // What a load is in a buffer of so much room: a count beyond it is none.
-pub fn held(loaded: Loaded, room: usize) -> Loaded
+pub fn held(loaded: Result<usize, LoadFault>, room: usize) -> Result<usize, LoadFault>
     ensures { result ≡ held_in loaded room }
 {
     match loaded {
-        Loaded::Bytes(n) => {
+        Ok(n) => {
             if n > room {
-                return Loaded::Failed;
+                return Err(LoadFault::Failed);
             }
-            Loaded::Bytes(n)
+            Ok(n)
         }
-        Loaded::Long => Loaded::Long,
-        Loaded::Failed => Loaded::Failed,
+        Err(fault) => Err(fault),
     }
 }
 
@@ -121,7 +118,7 @@ fn put(part: &[u8], buf: &mut [u8], done: usize)
 }
 
 // What is left to read, at the start of buf.
-pub fn take_in<R: Read>(reader: &mut R, buf: &mut [u8]) -> Loaded
+pub fn take_in<R: Read>(reader: &mut R, buf: &mut [u8]) -> Result<usize, LoadFault>
     ensures { LoadedIn result buf.old buf.new }
 {
     let mut chunk = [0u8; CHUNK];
@@ -137,19 +134,19 @@ pub fn take_in<R: Read>(reader: &mut R, buf: &mut [u8]) -> Loaded
             Step::Ended(loaded) => return loaded,
         }
     }
-    Loaded::Failed
+    Err(LoadFault::Failed)
 }
 
 // The file at a path, at the start of buf. A path that is no text names none.
-pub fn load<F: Files>(files: &F, path: &[u8], buf: &mut [u8]) -> Loaded
+pub fn load<F: Files>(files: &F, path: &[u8], buf: &mut [u8]) -> Result<usize, LoadFault>
     ensures { LoadedIn result buf.old buf.new }
 {
     let Ok(name) = str::from_utf8(path) else {
-        return Loaded::Failed;
+        return Err(LoadFault::Failed);
     };
     match fs::open(files, name) {
         Ok(mut file) => take_in(&mut file, buf),
-        Err(_) => Loaded::Failed,
+        Err(_) => Err(LoadFault::Failed),
     }
 }
 

@@ -5,39 +5,30 @@
 ghost use Rattle.std.specs.Prelude.{◌≡◌};
 ghost use Rattle.tool_key_font.specs.Told.{is_key, is_font, font_out};
 
-use digest_call::Digested;
 use frame_spec::KEY_LENGTH;
-use tool_files::Loaded;
+use tool_files::LoadFault;
 
 // Fonts are digested with this hash instance (document 01, 'The listing program').
 pub const FONT_INSTANCE: usize = 1;
 
 // Whether what was loaded is a key: whole, with exactly as many bytes as a key has.
-pub fn is_key(loaded: Loaded) -> bool
+pub fn is_key(loaded: Result<usize, LoadFault>) -> bool
     ensures { result ≡ is_key loaded }
 {
     match loaded {
-        Loaded::Bytes(n) => n == KEY_LENGTH,
-        Loaded::Long => false,
-        Loaded::Failed => false,
+        Ok(n) => n == KEY_LENGTH,
+        Err(_) => false,
     }
 }
 
 // The digest of the bytes loaded into a buffer, over the start of another; false, and that buffer as it was, where they are no font that the
 // buffer holds, or the digest has no room.
-pub fn digest_font(loaded: Loaded, buffer: &[u8], digest: &mut [u8]) -> bool
+pub fn digest_font(loaded: Result<usize, LoadFault>, buffer: &[u8], digest: &mut [u8]) -> bool
     ensures { (result ≡ is_font loaded buffer.now digest.old)
         × (digest.new ≡ font_out loaded buffer.now digest.old) }
 {
-    let n = match tool_files::held(loaded, buffer.len()) {
-        Loaded::Bytes(n) => n,
-        Loaded::Long => return false,
-        Loaded::Failed => return false,
+    let Ok(n) = tool_files::held(loaded, buffer.len()) else {
+        return false;
     };
-    match digest_call::digest(FONT_INSTANCE, &buffer[0..n], digest) {
-        Digested::Done(_) => true,
-        Digested::Instance => false,
-        Digested::TooLong => false,
-        Digested::NoRoom => false,
-    }
+    digest_call::digest(FONT_INSTANCE, &buffer[0..n], digest).is_ok()
 }

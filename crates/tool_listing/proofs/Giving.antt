@@ -1,4 +1,5 @@
 -- What each return of `count`, `give` and `next_row` gives. Assumes nothing.
+use Rattle.std.specs.Prelude.{Ok, Err, None, Result, Option}
 use Rattle.std.proofs.Common.{◌≡◌, ℕ, ◌-◌, ◌<◌, ◌≤◌, Bool, true, false, cond, List, length, take, drop, replicate, sym, refl, ap, ◌∙◌, ap₂, arith, length-append, le-ltb, lt-ltb, eq-eqb, ne_eqb}
 use lib.ListN.{length-replicate}
 use borrow.Author.Tests.{eqb-false}
@@ -20,13 +21,13 @@ use Rattle.demand_reading.proofs.GivenWritten.{told-sized}
 use Rattle.tool_row.specs.Rows.{last_row_text, row_room}
 use Rattle.tool_row.specs.Answers.{put_answer, put_out, row_answer, row_out}
 use Rattle.tool_row.specs.Done.{put-done, row_done}
-use Rattle.tool_row.specs.declared.Put.{Put}
+use Rattle.tool_row.specs.declared.RowRefusal.{RowRefusal}
 use Rattle.tool_listing.specs.Listing.{all_asked, judged_for}
 use Rattle.tool_listing.specs.Steps.{cursor_at, one_more, counted_on, ended_at, Given, refusal, step_of, next_given, given, Ready, listed_by}
 use Rattle.tool_listing.specs.Going.{given_is}
 use Rattle.tool_listing.specs.declared.Cursor.{Cursor}
-use Rattle.tool_listing.specs.declared.Listed.{Listed}
-use Rattle.tool_listing.specs.declared.Listed.TheVariants as listed-is
+use Rattle.tool_listing.specs.declared.ListRefusal.{ListRefusal}
+use Rattle.tool_listing.specs.declared.ListRefusal.TheVariants as listed-is
 use Rattle.tool_listing.specs.declared.Step.{Step}
 
 -- one row more, by its number
@@ -72,7 +73,7 @@ line-length (line k w n) = refl
 abbrev Gives : Given → List ℕ → Step → List ℕ → Type 0
 Gives g o r o' = (r ≡ step_of g) × (o' ≡ over g.row o)
 
-step : Listed → Cursor → Step
+step : Result (Option ℕ) ListRefusal → Cursor → Step
 step a c = record { answer = a; cursor = c }
 
 -- the read call with the line buffer l answers r and leaves l' in it
@@ -112,7 +113,7 @@ module _ (t : Told) (ed : ℕ) (s : List ℕ) (c : Cursor) (o l : List ℕ) (y :
           omega (arith, z, line-within judged l, ap length v)
 
   -- the last row
-  pub last-given : r.first ≡ r.closing → {p : Put} {o' : List ℕ} {a : Listed} {c' : Cursor}
+  pub last-given : r.first ≡ r.closing → {p : Result ℕ RowRefusal} {o' : List ℕ} {a : Result (Option ℕ) ListRefusal} {c' : Cursor}
       → p ≡ put_answer (last_row_text c.lines c.refused) o → o' ≡ put_out (last_row_text c.lines c.refused) o
       → a ≡ listed_by p → c' ≡ ended_at c r.closing → Gives (next_given t ed s c) o (record { answer = a; cursor = c' }) o'
   unfolding next_given step
@@ -126,7 +127,7 @@ module _ (t : Told) (ed : ℕ) (s : List ℕ) (c : Cursor) (o l : List ℕ) (y :
           (λ (x : Reading). x.closing) w))
 
   -- the row of a stretch
-  pub row-given : (r.first ≡ r.closing → ⊥) → length l' ≤ longest → {n m : ℕ} {p : Put} {o' : List ℕ} {a : Listed} {c' : Cursor}
+  pub row-given : (r.first ≡ r.closing → ⊥) → length l' ≤ longest → {n m : ℕ} {p : Result ℕ RowRefusal} {o' : List ℕ} {a : Result (Option ℕ) ListRefusal} {c' : Cursor}
       → n ≡ answer_number r.answer → m ≡ length_of r.answer
       → p ≡ row_answer r.first n (take (m - 0) l') o → o' ≡ row_out r.first n (take (m - 0) l') o
       → a ≡ listed_by p → c' ≡ counted_on c n r.closing → Gives (next_given t ed s c) o (record { answer = a; cursor = c' }) o'
@@ -151,27 +152,27 @@ module _ (t : Told) (ed : ℕ) (s : List ℕ) (c : Cursor) (o l : List ℕ) (y :
 
 -- the refusals, in their order
 module _ (t : Told) (ed : ℕ) (s : List ℕ) (c : Cursor) (o : List ℕ) where
-  pub bad-key : (length t.key ≡ key_length → ⊥) → {r : Step} → r ≡ step_of (refusal listed-is.Sizes c) → Gives (given t ed s c (length o)) o r o
+  pub bad-key : (length t.key ≡ key_length → ⊥) → {r : Step} → r ≡ step_of (refusal (Err listed-is.Sizes) c) → Gives (given t ed s c (length o)) o r o
   unfolding given sized_told
   bad-key h e = rw (ne_eqb (length t.key) key_length h) (e, refl)
 
   module _ (k : length t.key ≡ key_length) where
-    pub bad-font : (length t.font ≡ digest_length → ⊥) → {r : Step} → r ≡ step_of (refusal listed-is.Sizes c) → Gives (given t ed s c (length o)) o r o
+    pub bad-font : (length t.font ≡ digest_length → ⊥) → {r : Step} → r ≡ step_of (refusal (Err listed-is.Sizes) c) → Gives (given t ed s c (length o)) o r o
     unfolding given sized_told
     bad-font h e = rw (eq-eqb (length t.key) key_length k, ne_eqb (length t.font) digest_length h) (e, refl)
 
     module _ (d : length t.font ≡ digest_length) where
-      pub too_long : longest_stream < length s → {r : Step} → r ≡ step_of (refusal listed-is.TooLong c) → Gives (given t ed s c (length o)) o r o
+      pub too_long : longest_stream < length s → {r : Step} → r ≡ step_of (refusal (Err listed-is.TooLong) c) → Gives (given t ed s c (length o)) o r o
       unfolding given
       too_long h e = rw (told-sized t k d, lt-ltb longest_stream (length s) h) (e, refl)
 
       module _ (h : length s ≤ longest_stream) where
-        pub no_room : length o < row_room → {r : Step} → r ≡ step_of (refusal listed-is.NoRoom c) → Gives (given t ed s c (length o)) o r o
+        pub no_room : length o < row_room → {r : Step} → r ≡ step_of (refusal (Err listed-is.NoRoom) c) → Gives (given t ed s c (length o)) o r o
         unfolding given
         no_room g e = rw (told-sized t k d, le-ltb longest_stream (length s) h, lt-ltb (length o) row_room g) (e, refl)
 
         module _ (g : row_room ≤ length o) where
-          pub beyond : length s < c.place → {r : Step} → r ≡ step_of (refusal listed-is.Beyond c) → Gives (given t ed s c (length o)) o r o
+          pub beyond : length s < c.place → {r : Step} → r ≡ step_of (refusal (Err listed-is.Beyond) c) → Gives (given t ed s c (length o)) o r o
           unfolding given
           beyond f e = rw (told-sized t k d, le-ltb longest_stream (length s) h, le-ltb (length o) row_room g, lt-ltb (length s) c.place f) (e, refl)
 
@@ -179,9 +180,9 @@ module _ (t : Told) (ed : ℕ) (s : List ℕ) (c : Cursor) (o : List ℕ) where
             ready : Ready t s c (length o)
             ready = record { sizes = record { key-is = k; font-is = d }; short = h; roomy = g; inside = f }
 
-            pub over-before : c.ended ≡ true → {r : Step} → r ≡ step_of (refusal listed-is.Over c) → Gives (given t ed s c (length o)) o r o
+            pub over-before : c.ended ≡ true → {r : Step} → r ≡ step_of (refusal (Ok None) c) → Gives (given t ed s c (length o)) o r o
             over-before b {r} e =
-                let x : refusal listed-is.Over c ≡ given t ed s c (length o) = sym (given_is t ed s c (length o) ready true b) in
+                let x : refusal (Ok None) c ≡ given t ed s c (length o) = sym (given_is t ed s c (length o) ready true b) in
                 (e ∙ ap step_of x, ap (λ (y : Given). over y.row o) x)
 
             pub nothing-against : c.ended ≡ false → {r : Step} {o' : List ℕ} → Gives (next_given t ed s c) o r o' → Gives (given t ed s c (length o)) o r o'

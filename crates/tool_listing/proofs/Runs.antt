@@ -9,7 +9,7 @@ use Rattle.line_layout.specs.declared.Layout.{Layout}
 use Rattle.read_stretch.specs.Stretches.{next_span, next_stretch}
 use Rattle.read_stretch.proofs.Places.{next-within}
 use Rattle.frame_spec.specs.Told.{told}
-use Rattle.read_spec.specs.Judged.{number_in, line_in, label_in, calls_in}
+use Rattle.read_spec.specs.Judged.{number_in, line_in}
 use Rattle.read_spec.specs.Sizes.{Sizes}
 use Rattle.read_readings.specs.Readings.{Reading, ends, readings, readings-step}
 use Rattle.read_call.specs.declared.Reading as call-reading

@@ -1,5 +1,5 @@
 -- Where nothing is against a row, a call goes by whether the last row was given, and else by whether a stretch is left. Assumes nothing.
-use Rattle.std.specs.Prelude.{◌≡◌, ℕ, Bool, cond, List, length}
+use Rattle.std.specs.Prelude.{◌≡◌, ℕ, Bool, cond, List, length, Ok, None}
 use Rattle.std.proofs.Common.{ap, le-ltb}
 use Rattle.read_stretch.specs.Stretches.{next_span}
 use Rattle.frame_spec.specs.Told.{Told}
@@ -9,10 +9,9 @@ use Rattle.demand_reading.proofs.GivenWritten.{told-sized}
 use Rattle.tool_row.specs.Rows.{row_room, last_row_text}
 use Rattle.tool_listing.specs.Steps.{refusal, row_given, ended_at, next_reading, reading_given, next_given, given, Ready}
 use Rattle.tool_listing.specs.declared.Cursor.{Cursor}
-use Rattle.tool_listing.specs.declared.Listed.TheVariants as listed-is
 
 pub given_is : (t : Told) (ed : ℕ) (s : List ℕ) (c : Cursor) (room : ℕ) → Ready t s c room → (b : Bool) → c.ended ≡ b
-    → given t ed s c room ≡ cond b (refusal listed-is.Over c) (next_given t ed s c)
+    → given t ed s c room ≡ cond b (refusal (Ok None) c) (next_given t ed s c)
 unfolding given
 given_is t ed s c room y b e =
     rw (
@@ -21,7 +20,7 @@ given_is t ed s c room y b e =
       le-ltb room row_room y.roomy,
       le-ltb (length s) c.place y.inside,
     )
-    (ap (λ (x : Bool). cond x (refusal listed-is.Over c) (next_given t ed s c)) e)
+    (ap (λ (x : Bool). cond x (refusal (Ok None) c) (next_given t ed s c)) e)
 
 pub next-is : (t : Told) (ed : ℕ) (s : List ℕ) (c : Cursor) (b : Bool) → ends (next_span s c.place) ≡ b
     → next_given t ed s c ≡ cond b (row_given (last_row_text c.lines c.refused) (ended_at c (length s))) (reading_given c (next_reading t ed s c.place))

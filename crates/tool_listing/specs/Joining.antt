@@ -1,6 +1,7 @@
 -- Calls of `next_row` one after the other, from the stream's start, each from the cursor that the one before gave: until the last row was given, what they
 -- write joins to the listing of the stream, and more calls than the stream has bytes come to it. From the promise of `next_row` alone (`next-row-promises`
 -- under proofs/). Assumes nothing.
+use Rattle.std.specs.Prelude.{Ok, None}
 use Rattle.std.specs.Prelude.{◌≡◌, ℕ, zero, suc, ◌+◌, ◌^◌, ◌<◌, ◌≤◌, Bool, true, false, cond, List, [], ◌∷◌, ◌++◌, map, length, take, replicate, ◌==◌}
 use Rattle.std.proofs.Math.Path.{refl, sym, ap, ap₂}
 use Rattle.std.proofs.Common.{◌∙◌, append_assoc, append-nil, mod-eq_of_lt}
@@ -25,7 +26,6 @@ use Rattle.tool_listing.specs.Steps.{cursor_at, start_cursor, one_more, counted_
 use Rattle.tool_listing.specs.Steps.{row_given, step_of, next_reading, reading_given, given, Ready, listed_length}
 use Rattle.tool_listing.specs.Going.{given_is, next-is}
 use Rattle.tool_listing.specs.declared.Cursor.{Cursor}
-use Rattle.tool_listing.specs.declared.Listed.TheVariants as listed-is
 use Rattle.tool_listing.specs.declared.Step.{Step}
 
 -- a call from the cursor c, with the buffer o before it, may answer r and leave o' in it
@@ -100,7 +100,7 @@ module _ (key font : List ℕ) (ed : ℕ) (lay : Layout) (s : List ℕ) (z : Siz
   over-after : {n : ℕ} {w : List ℕ} {c c' : Cursor} → c.place ≤ length s → c.ended ≡ true → Calls key font ed lay s n c w c' → (w ≡ []) × (c' ≡ c)
   over-after f e none = (refl, refl)
   over-after {c = c} f e (next r o o' {rest} g p q) =
-      let a : r ≡ step_of (refusal listed-is.Over c) = p.0 ∙ ap step_of (given_is (told key font lay) ed s c (length o) (ready c (length o) f g) true e) in
+      let a : r ≡ step_of (refusal (Ok None) c) = p.0 ∙ ap step_of (given_is (told key font lay) ed s c (length o) (ready c (length o) f g) true e) in
       let same : r.cursor ≡ c = ap (λ (x : Step). x.cursor) a in
       let i = over-after (rw same f) (ap (λ (x : Cursor). x.ended) same ∙ e) q in (
         ap₂ ◌++◌ (ap (λ (x : Step). take (listed_length x.answer) o') a) i.0,

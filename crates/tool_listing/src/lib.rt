@@ -9,7 +9,7 @@ ghost use Rattle.frame_body.specs.declared.Edition.TheVariants.{One};
 ghost use Rattle.frame_body.specs.Answers.{edition_number};
 ghost use Rattle.frame_spec.specs.Told.{told};
 ghost use Rattle.tool_row.specs.Rows.{row_room};
-ghost use Rattle.tool_listing.specs.Steps.{Ready, start_cursor, counted_on, ended_at, listed_by, refusal};
+ghost use Rattle.tool_listing.specs.Steps.{Ready, start_cursor, counted_on, ended_at, row_refused, listed_by, refusal};
 ghost use Rattle.tool_listing.specs.Steps.{step_of, next_given, given, listed_number, listed_length};
 
 use frame_body::DIGEST_LENGTH;
@@ -17,7 +17,7 @@ use frame_spec::KEY_LENGTH;
 use line_layout::Layout;
 use line_spec::LONGEST;
 use read_call::{ALL_WORK, Asked, EDITION_ONE, LONGEST_STREAM};
-use tool_row::{Put, ROW_ROOM};
+use tool_row::{ROW_ROOM, RowRefusal};
 
 // The number of a line that is given (document 01).
 const GIVEN: u32 = 0;
@@ -32,24 +32,32 @@ pub struct Cursor {
     pub ended: bool,
 }
 
-// What a call comes to.
+// Why a call is refused. One that is not gives a row, or none where the last row was given before.
 #[derive(Clone, Copy)]
-pub enum Listed {
-    // The call is refused: key or font digest not of their sizes, stream too long, no room for every row, place beyond the end.
+pub enum ListRefusal {
+    // Key or font digest not of their sizes, stream too long, no room for every row, place beyond the end.
     Sizes,
     TooLong,
     NoRoom,
     Beyond,
-    // The last row was given before.
-    Over,
-    // A row of that length.
-    Row(usize),
+}
+
+// A row that is not written refuses the call.
+impl From<RowRefusal> for ListRefusal {
+    ghost from_gives = { λ put listed. listed ≡ row_refused put };
+
+    fn from(put: RowRefusal) -> ListRefusal {
+        match put {
+            RowRefusal::TooLong => ListRefusal::TooLong,
+            RowRefusal::NoRoom => ListRefusal::NoRoom,
+        }
+    }
 }
 
 // What a call comes to, and the cursor for the next one; where no row is given it is the one handed in.
 #[derive(Clone, Copy)]
 pub struct Step {
-    pub answer: Listed,
+    pub answer: Result<Option<usize>, ListRefusal>,
     pub cursor: Cursor,
 }
 
@@ -97,17 +105,13 @@ fn end(cursor: Cursor, place: usize) -> Cursor
 }
 
 // What writing a row comes to, as an answer of the call.
-fn answer_of(put: Put) -> Listed
+fn answer_of(put: Result<usize, RowRefusal>) -> Result<Option<usize>, ListRefusal>
     ensures { result ≡ listed_by put }
 {
-    match put {
-        Put::TooLong => Listed::TooLong,
-        Put::NoRoom => Listed::NoRoom,
-        Put::Row(n) => Listed::Row(n),
-    }
+    Ok(Some(put?))
 }
 
-fn refuse(answer: Listed, cursor: Cursor) -> Step
+fn refuse(answer: Result<Option<usize>, ListRefusal>, cursor: Cursor) -> Step
     ensures { result ≡ step_of (refusal answer cursor) }
 {
     Step { answer, cursor }
@@ -171,23 +175,23 @@ pub fn next_row(
         (length out.old)).row out.old }
 {
     if key.len() != KEY_LENGTH {
-        return refuse(Listed::Sizes, cursor);
+        return refuse(Err(ListRefusal::Sizes), cursor);
     }
     if font.len() != DIGEST_LENGTH {
-        return refuse(Listed::Sizes, cursor);
+        return refuse(Err(ListRefusal::Sizes), cursor);
     }
     if stream.len() > LONGEST_STREAM {
-        return refuse(Listed::TooLong, cursor);
+        return refuse(Err(ListRefusal::TooLong), cursor);
     }
     if out.len() < ROW_ROOM {
-        return refuse(Listed::NoRoom, cursor);
+        return refuse(Err(ListRefusal::NoRoom), cursor);
     }
     if cursor.place > stream.len() {
-        return refuse(Listed::Beyond, cursor);
+        return refuse(Err(ListRefusal::Beyond), cursor);
     }
     let over = cursor.ended;
     if over {
-        return refuse(Listed::Over, cursor);
+        return refuse(Ok(None), cursor);
     }
     give(stream, key, font, editions, layout, cursor, out)
 }
@@ -203,29 +207,24 @@ pub fn lines_row(stream: &[u8], key: &[u8], font: &[u8], cursor: Cursor, out: &m
 }
 
 // Document 01's number of what a call comes to.
-pub fn listed_number(answer: Listed) -> u32
+pub fn listed_number(answer: Result<Option<usize>, ListRefusal>) -> u32
     ensures { result ≡ listed_number answer }
 {
     match answer {
-        Listed::Sizes => 2,
-        Listed::TooLong => 3,
-        Listed::NoRoom => 4,
-        Listed::Beyond => 10,
-        Listed::Over => 0,
-        Listed::Row(_) => 0,
+        Err(ListRefusal::Sizes) => 2,
+        Err(ListRefusal::TooLong) => 3,
+        Err(ListRefusal::NoRoom) => 4,
+        Err(ListRefusal::Beyond) => 10,
+        Ok(_) => 0,
     }
 }
 
 // The row's length, 0 where none is given.
-pub fn listed_length(answer: Listed) -> usize
+pub fn listed_length(answer: Result<Option<usize>, ListRefusal>) -> usize
     ensures { result ≡ listed_length answer }
 {
     match answer {
-        Listed::Sizes => 0,
-        Listed::TooLong => 0,
-        Listed::NoRoom => 0,
-        Listed::Beyond => 0,
-        Listed::Over => 0,
-        Listed::Row(n) => n,
+        Ok(Some(n)) => n,
+        Ok(None) | Err(_) => 0,
     }
 }

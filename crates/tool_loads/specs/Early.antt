@@ -1,12 +1,11 @@
 -- Nothing of the stream is asked where key or font are not right: what is said of them before the stream is read, with a stream of no bytes, is what is said
 -- whatever the stream's load comes to. Assumes nothing.
-use Rattle.std.specs.Prelude.{◌≡◌, refl, Bool, true, false, not, cond, []}
-use Rattle.tool_files.specs.declared.Loaded.{Loaded}
-use Rattle.tool_files.specs.declared.Loaded.TheVariants.{Bytes}
+use Rattle.std.specs.Prelude.{◌≡◌, refl, Bool, true, false, not, cond, [], Ok, Result, ℕ}
+use Rattle.tool_files.specs.declared.LoadFault.{LoadFault}
 use Rattle.tool_key_font.specs.Told.{is_key}
 use Rattle.tool_loads.specs.Said.{no_key, no_font, font_loaded, stream_said, said_for}
 
-pub said-early : (key font stream : Loaded) → (said_for key font (Bytes 0) ≡ [] → ⊥) → said_for key font stream ≡ said_for key font (Bytes 0)
+pub said-early : (key font stream : Result ℕ LoadFault) → (said_for key font (Ok 0) ≡ [] → ⊥) → said_for key font stream ≡ said_for key font (Ok 0)
 unfolding said_for
 said-early key font stream = go (is_key key) (font_loaded font)
   where

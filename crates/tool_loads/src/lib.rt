@@ -2,12 +2,12 @@
 // system. The promise cites specs/Said.antt; that a font has its digest exactly where it is none of what is said stands in specs/Fonts.antt.
 #![tactic(auto)]
 
-ghost use Rattle.std.specs.Prelude.{◌≡◌, [], ◌≤◌, length};
-ghost use Rattle.tool_loads.specs.Said.{longest_text, font_loaded, text_of, said_for};
+ghost use Rattle.std.specs.Prelude.{◌≡◌, [], ◌≤◌, length, Err};
+ghost use Rattle.tool_loads.specs.Said.{longest_text, font_loaded, text_of, stream_said, said_for};
 
 use digest_call::LONGEST_MESSAGE;
 use read_call::LONGEST_STREAM;
-use tool_files::Loaded;
+use tool_files::LoadFault;
 
 // The longest text that is said.
 pub const LONGEST_TEXT: usize = 10;
@@ -39,19 +39,32 @@ fn nothing() -> Text
 }
 
 // Whether what was loaded is a font: whole, and no longer than a font may be.
-fn is_font(loaded: Loaded) -> bool
+fn is_font(loaded: Result<usize, LoadFault>) -> bool
     ensures { result ≡ font_loaded loaded }
 {
     match loaded {
-        Loaded::Bytes(n) => n <= LONGEST_MESSAGE,
-        Loaded::Long => false,
-        Loaded::Failed => false,
+        Ok(n) => n <= LONGEST_MESSAGE,
+        Err(_) => false,
+    }
+}
+
+// What is said of a stream that is not loaded.
+fn unloaded(fault: LoadFault) -> Text
+    ensures { result ≡ text_of (stream_said (Err fault)) }
+{
+    match fault {
+        LoadFault::Long => as_text(b"too long\n"),
+        LoadFault::Failed => as_text(b"no stream\n"),
     }
 }
 
 // What is said, checked in this order: the key, the font, the stream. Nothing of the stream is asked where key or font are not right, so that a program may
 // ask before it reads the stream, with a stream of no bytes.
-pub fn said(key: Loaded, font: Loaded, stream: Loaded) -> Text
+pub fn said(
+    key: Result<usize, LoadFault>,
+    font: Result<usize, LoadFault>,
+    stream: Result<usize, LoadFault>,
+) -> Text
     ensures { result ≡ text_of (said_for key font stream) }
 {
     if !tool_key_font::is_key(key) {
@@ -61,13 +74,12 @@ pub fn said(key: Loaded, font: Loaded, stream: Loaded) -> Text
         return as_text(b"no font\n");
     }
     match stream {
-        Loaded::Bytes(n) => {
+        Ok(n) => {
             if n > LONGEST_STREAM {
                 return as_text(b"too long\n");
             }
             nothing()
         }
-        Loaded::Long => as_text(b"too long\n"),
-        Loaded::Failed => as_text(b"no stream\n"),
+        Err(fault) => unloaded(fault),
     }
 }

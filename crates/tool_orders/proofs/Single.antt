@@ -1,11 +1,11 @@
 -- The promises of `judge_order`, `order_number` and `nonce`, as the check reads them (`Post`), admit a single answer. Assumes nothing.
+use Rattle.std.specs.Prelude.{Option}
 use mathlib.Core.Path.{◌≡◌, sym, ◌∙◌}
 use mathlib.Core.List.{List}
 use Prim.Native.Nat.{ℕ}
 use contract.Lifetimes.{Lfts}
 use denote.Triple.Clauses.{AtExit}
 use borrow.Fn.Kinds.{Dens, ended_of}
-use Rattle.tool_orders.specs.declared.Order.{Order}
 use Rattle.tool_orders.proofs.judge_order.Kinds as judge-kinds
 use Rattle.tool_orders.proofs.judge_order.Reads as judge-reads
 use Rattle.tool_orders.proofs.order_number.Kinds as number-kinds
@@ -13,7 +13,7 @@ use Rattle.tool_orders.proofs.order_number.Reads as number-reads
 use Rattle.tool_orders.proofs.nonce.Kinds as nonce-kinds
 use Rattle.tool_orders.proofs.nonce.Reads as nonce-reads
 
-pub judge-order-single : (κs : Lfts 1) (a : Dens κs judge-kinds.ps) (r r' : Order) (x x' : AtExit (ended_of 1 judge-kinds.ps judge-kinds.r) κs)
+pub judge-order-single : (κs : Lfts 1) (a : Dens κs judge-kinds.ps) (r r' : Option ℕ) (x x' : AtExit (ended_of 1 judge-kinds.ps judge-kinds.r) κs)
     → judge-reads.Post κs a r x → judge-reads.Post κs a r' x' → r ≡ r'
 judge-order-single κs a r r' x x' p q = p ∙ sym q
 

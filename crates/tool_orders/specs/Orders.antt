@@ -1,9 +1,7 @@
 -- A row of orders: the nonce as hexadecimal digits, a blank, the line (docs/compose.md). Assumes nothing: these are definitions.
-use Rattle.std.specs.Prelude.{cond, List, [], ◌∷◌, ℕ, suc, ◌+◌, ◌*◌, eqb, ltb, length, take}
+use Rattle.std.specs.Prelude.{cond, List, [], ◌∷◌, ℕ, suc, ◌+◌, ◌*◌, eqb, ltb, length, take, Some, None, Option}
 use Rattle.frame_body.specs.Fields.{nonce_length}
 use Rattle.base_hex.specs.Hex.{all_digits, bytes_from}
-use Rattle.tool_orders.specs.declared.Order.{Order}
-use Rattle.tool_orders.specs.declared.Order.TheVariants.{Line, NoNonce}
 
 abbrev pub blank : ℕ
 blank = 0x20
@@ -22,13 +20,13 @@ abbrev pub line_at : List ℕ → ℕ
 line_at row = cond (ltb nonce_digits (length row)) (nonce_digits + 1) nonce_digits
 
 -- the first blank stands behind exactly a nonce's digits
-unfoldable pub order_of : List ℕ → Order
-order_of row = cond (eqb (blank_at row) nonce_digits) (cond (all_digits (take nonce_digits row)) (Line (line_at row)) NoNonce) NoNonce
+unfoldable pub order_of : List ℕ → Option ℕ
+order_of row = cond (eqb (blank_at row) nonce_digits) (cond (all_digits (take nonce_digits row)) (Some (line_at row)) None) None
 
 abbrev pub nonce_of : List ℕ → List ℕ
 nonce_of row = bytes_from row 0 nonce_length
 
 -- document 01's number: a row without a nonce is one whose nonce is not of 12 bytes
-abbrev pub order_number : Order → ℕ
-order_number (Line n) = 0
-order_number NoNonce = 2
+abbrev pub order_number : Option ℕ → ℕ
+order_number (Some n) = 0
+order_number None = 2

@@ -1,5 +1,5 @@
 -- Laws of a row of orders: blanks passed one by one, and where a line may begin. Assumes nothing.
-use Rattle.std.specs.Prelude.{◌≡◌, Bool, true, false, cond, List, [], ◌∷◌, T, eqb, ltb, length, take, drop, get_or}
+use Rattle.std.specs.Prelude.{◌≡◌, Bool, true, false, cond, List, [], ◌∷◌, T, eqb, ltb, length, take, drop, get_or, Some, None, Option}
 use Rattle.std.proofs.Math.Path.{refl}
 use Rattle.std.proofs.Common.{sym, ap, subst, ◌∙◌, arith, drop_of_length-le}
 use Prim.Native.Nat.{ℕ, suc, ◌+◌, ◌-◌, ◌≤◌, ◌<◌}
@@ -7,8 +7,6 @@ use borrow.Author.Tests.{eqb-true, ltb-true, lt-ltb, le-ltb, eq-eqb, ne_eqb}
 use Rattle.base_lists.specs.Walk.{at}
 use Rattle.base_hex.specs.Hex.{all_digits}
 use Rattle.tool_orders.specs.Orders.{blank, nonce_digits, blank_at, line_at, order_of}
-use Rattle.tool_orders.specs.declared.Order.{Order}
-use Rattle.tool_orders.specs.declared.Order.TheVariants.{Line, NoNonce}
 
 -- the first blank is sought from place i on
 pub record Sought (row : List ℕ) (i : ℕ) : Type 0 where
@@ -46,16 +44,16 @@ blank-within (b ∷ s) = go (eqb b blank) (blank-within s)
     go true h = omega arith
     go false h = omega (arith, h)
 
-line_of : Order → ℕ
-line_of (Line n) = n
-line_of NoNonce = 0
+line_of : Option ℕ → ℕ
+line_of (Some n) = n
+line_of None = 0
 
-is_line : Order → Bool
-is_line (Line n) = true
-is_line NoNonce = false
+is_line : Option ℕ → Bool
+is_line (Some n) = true
+is_line None = false
 
 -- a line begins within its row
-pub line-within : (row : List ℕ) (n : ℕ) → order_of row ≡ Line n → n ≤ length row
+pub line-within : (row : List ℕ) (n : ℕ) → order_of row ≡ Some n → n ≤ length row
 unfolding order_of line_of is_line
 line-within row n e = go (eqb (blank_at row) nonce_digits) refl (all_digits (take nonce_digits row)) e
   where
@@ -63,7 +61,7 @@ line-within row n e = go (eqb (blank_at row) nonce_digits) refl (all_digits (tak
     there true p h = omega (arith, ltb-true nonce_digits (length row) p)
     there false p h = h
 
-    go : (t : Bool) → eqb (blank_at row) nonce_digits ≡ t → (u : Bool) → cond t (cond u (Line (line_at row)) NoNonce) NoNonce ≡ Line n → n ≤ length row
+    go : (t : Bool) → eqb (blank_at row) nonce_digits ≡ t → (u : Bool) → cond t (cond u (Some (line_at row)) None) None ≡ Some n → n ≤ length row
     go true p true q =
         let b = eqb-true (blank_at row) nonce_digits p in
         let l = there (ltb nonce_digits (length row)) refl (omega (arith, b, blank-within row)) in
@@ -73,7 +71,7 @@ line-within row n e = go (eqb (blank_at row) nonce_digits) refl (all_digits (tak
 
 -- what a row is, by the tests of `judge_order`
 module _ (row : List ℕ) (i : ℕ) (e : i ≡ blank_at row) where
-  pub no-digits : (i ≡ nonce_digits → ⊥) → NoNonce ≡ order_of row
+  pub no-digits : (i ≡ nonce_digits → ⊥) → None ≡ order_of row
   unfolding order_of
   no-digits h = rw (ne_eqb (blank_at row) nonce_digits (λ q. h (e ∙ q))) refl
 
@@ -84,14 +82,14 @@ module _ (row : List ℕ) (i : ℕ) (e : i ≡ blank_at row) where
     digits : all_digits (take nonce_digits row) ≡ t
     digits = let z : i - 0 ≡ nonce_digits = omega (arith, f) in ap (λ (n : ℕ). all_digits (take n row)) (sym z) ∙ sym d
 
-    pub no-nonce : t ≡ false → NoNonce ≡ order_of row
+    pub no-nonce : t ≡ false → None ≡ order_of row
     unfolding order_of
     no-nonce q = rw (counted, digits, q) refl
 
-    pub line-behind : t ≡ true → i < length row → Line (i + 1) ≡ order_of row
+    pub line-behind : t ≡ true → i < length row → Some (i + 1) ≡ order_of row
     unfolding order_of
     line-behind q h = rw (counted, digits, q, lt-ltb nonce_digits (length row) (omega (arith, f, h)), f) refl
 
-    pub line-empty : t ≡ true → length row ≤ i → Line i ≡ order_of row
+    pub line-empty : t ≡ true → length row ≤ i → Some i ≡ order_of row
     unfolding order_of
     line-empty q h = rw (counted, digits, q, le-ltb nonce_digits (length row) (omega (arith, f, h)), f) refl

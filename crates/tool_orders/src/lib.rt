@@ -12,53 +12,37 @@ const BLANK: u8 = 0x20;
 // Two hexadecimal digits for each byte of a nonce.
 pub const NONCE_DIGITS: usize = 2 * NONCE_LENGTH;
 
-// What a row is.
-#[derive(Clone, Copy)]
-pub enum Order {
-    // An order, whose line begins at this place of the row; a row that ends with its nonce has an empty line.
-    Line(usize),
-    // What stands before the first blank is no nonce.
-    NoNonce,
-}
-
 // The place of the first blank, or the length where there is none.
 fn first_blank(row: &[u8]) -> usize
     ensures { result ≡ blank_at row.now }
 {
-    let mut i = 0;
-    while i < row.len() {
-        if row[i] == BLANK {
-            return i;
-        }
-        i += 1;
-    }
-    i
+    row.iter().position(|c| *c == BLANK).unwrap_or(row.len())
 }
 
 // Whether a row is an order, and where its line begins.
-pub fn judge_order(row: &[u8]) -> Order
+pub fn judge_order(row: &[u8]) -> Option<usize>
     ensures { result ≡ order_of row.now }
 {
     let at = first_blank(row);
     if at != NONCE_DIGITS {
-        return Order::NoNonce;
+        return None;
     }
     if !base_hex::all_digits(&row[0..at]) {
-        return Order::NoNonce;
+        return None;
     }
     if at < row.len() {
-        return Order::Line(at + 1);
+        return Some(at + 1);
     }
-    Order::Line(at)
+    Some(at)
 }
 
 // Document 01's number of what a row is: that of a nonce of the wrong size where there is none.
-pub fn order_number(order: Order) -> u32
+pub fn order_number(order: Option<usize>) -> u32
     ensures { result ≡ order_number order }
 {
     match order {
-        Order::Line(_) => 0,
-        Order::NoNonce => 2,
+        Some(_) => 0,
+        None => 2,
     }
 }
 
@@ -67,10 +51,8 @@ pub fn nonce(row: &[u8]) -> [u8; NONCE_LENGTH]
     ensures { result ≡ nonce_of row.now }
 {
     let mut bytes = [0u8; NONCE_LENGTH];
-    let mut i = 0;
-    while i < NONCE_LENGTH {
-        bytes[i] = base_hex::digit_at(row, 2 * i) * 16 + base_hex::digit_at(row, 2 * i + 1);
-        i += 1;
+    for (i, byte) in bytes.iter_mut().enumerate() {
+        *byte = base_hex::digit_at(row, 2 * i) * 16 + base_hex::digit_at(row, 2 * i + 1);
     }
     bytes
 }

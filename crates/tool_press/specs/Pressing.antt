@@ -1,25 +1,26 @@
 -- The row of what a step gives, and how far the listing of a link is then: the row of the listing's call, counted as `lines` counts. Assumes nothing: these
 -- are definitions.
-use Rattle.std.specs.Prelude.{ℕ, cond, List, [], length, take, replicate, ◌==◌, nat_lt}
+use Rattle.std.specs.Prelude.{ℕ, cond, List, [], length, take, replicate, ◌==◌, nat_lt, Ok, Err, Some, None, Result, Option}
+use Rattle.read_call.specs.declared.Answer.{Answer as ReadAnswer}
 use Rattle.line_spec.specs.Lines.{longest}
 use Rattle.line_layout.specs.declared.Layout.TheVariants.{Neither}
 use Rattle.frame_spec.specs.Told.{told}
 use Rattle.read_spec.specs.Editions.{one_alone}
 use Rattle.read_call.specs.Answers.{answer_number, length_of}
 use Rattle.tool_row.specs.Rows.{row_text, row_room}
-use Rattle.tool_row.specs.declared.Put as put
-use Rattle.tool_row.specs.declared.Put.TheVariants as put_is
+use Rattle.tool_row.specs.declared.RowRefusal.{RowRefusal}
+use Rattle.tool_row.specs.declared.RowRefusal.TheVariants as put_is
 use Rattle.tool_listing.specs.Listing.{all_asked}
 use Rattle.tool_listing.specs.Steps.{one_more}
 use Rattle.live_spec.specs.declared.Numbers.{Numbers}
-use Rattle.live_spec.specs.declared.Answer.{Answer}
-use Rattle.live_spec.specs.declared.Answer.TheVariants as answer-is
+use Rattle.live_spec.specs.declared.LiveRefusal.{LiveRefusal}
+use Rattle.live_spec.specs.declared.LiveRefusal.TheVariants as answer-is
 use Rattle.live_spec.specs.declared.Step.{Step}
 use Rattle.live_spec.specs.Taking.{no_bytes}
 use Rattle.live_spec.specs.Steps.{step_answer, step_window, step_line}
 use Rattle.tool_press.specs.declared.Press.{Press}
-use Rattle.tool_press.specs.declared.Pressed.{Pressed}
-use Rattle.tool_press.specs.declared.Pressed.TheVariants as pressed-is
+use Rattle.tool_press.specs.declared.PressRefusal.{PressRefusal}
+use Rattle.tool_press.specs.declared.PressRefusal.TheVariants as pressed-is
 use Rattle.tool_press.specs.declared.Turn.{Turn}
 
 abbrev pub press_at : Numbers → ℕ → ℕ → Press
@@ -33,57 +34,54 @@ start_press = press_at no_bytes 0 0
 unfoldable pub counted : Press → Numbers → ℕ → Press
 counted c n number = cond (number == 0) (press_at n (one_more c.lines) c.refused) (press_at n c.lines (one_more c.refused))
 
-abbrev pub turn : Press → ℕ → Pressed → Turn
+abbrev pub turn : Press → ℕ → Result (Option ℕ) PressRefusal → Turn
 turn c k a = record { press = c; took = k; answer = a }
 
-abbrev pub rowless : Press → Numbers → ℕ → Pressed → Turn
+abbrev pub rowless : Press → Numbers → ℕ → Result (Option ℕ) PressRefusal → Turn
 rowless c n k a = turn (press_at n c.lines c.refused) k a
 
+-- a row that is not written refuses the call, and so does a step that is refused
+abbrev pub row_refused : RowRefusal → PressRefusal
+row_refused put_is.TooLong = pressed-is.TooLong
+row_refused put_is.NoRoom = pressed-is.NoRoom
+
+abbrev pub step_refused : LiveRefusal → PressRefusal
+step_refused answer-is.Numbers = pressed-is.Numbers
+step_refused answer-is.Sizes = pressed-is.Sizes
+step_refused answer-is.TooLong = pressed-is.TooLong
+step_refused answer-is.NoRoom = pressed-is.NoRoom
+
 -- what writing a row comes to
-abbrev pub pressed_by : put.Put → Pressed
-pressed_by put_is.TooLong = pressed-is.TooLong
-pressed_by put_is.NoRoom = pressed-is.NoRoom
-pressed_by (put_is.Row n) = pressed-is.Row n
+abbrev pub pressed_by : Result ℕ RowRefusal → Result (Option ℕ) PressRefusal
+pressed_by (Err put) = Err (row_refused put)
+pressed_by (Ok n) = Ok (Some n)
 
 -- the refusal of a step that was lent no room
-abbrev pub no_row : Press → Answer → Turn
-no_row c answer-is.Numbers = rowless c c.numbers 0 pressed-is.Numbers
-no_row c answer-is.Sizes = rowless c c.numbers 0 pressed-is.Sizes
-no_row c answer-is.TooLong = rowless c c.numbers 0 pressed-is.TooLong
-no_row c answer-is.NoRoom = rowless c c.numbers 0 pressed-is.NoRoom
-no_row c answer-is.Wait = rowless c c.numbers 0 pressed-is.NoRoom
-no_row c (answer-is.Stretch a) = rowless c c.numbers 0 pressed-is.NoRoom
+abbrev pub no_row : Press → Result (Option ReadAnswer) LiveRefusal → Turn
+no_row c (Err step) = rowless c c.numbers 0 (Err (step_refused step))
+no_row c (Ok a) = rowless c c.numbers 0 (Err pressed-is.NoRoom)
 
 -- the length of the line that a step gives
-abbrev pub length_for : Answer → ℕ
-length_for answer-is.Numbers = 0
-length_for answer-is.Sizes = 0
-length_for answer-is.TooLong = 0
-length_for answer-is.NoRoom = 0
-length_for answer-is.Wait = 0
-length_for (answer-is.Stretch a) = length_of a
+abbrev pub length_for : Result (Option ReadAnswer) LiveRefusal → ℕ
+length_for (Err f) = 0
+length_for (Ok None) = 0
+length_for (Ok (Some a)) = length_of a
 
 -- the row of a stretch: the place of its first byte, its number, and its line where one is given
-abbrev pub row_for : Answer → Step → List ℕ → List ℕ
-row_for answer-is.Numbers s l = []
-row_for answer-is.Sizes s l = []
-row_for answer-is.TooLong s l = []
-row_for answer-is.NoRoom s l = []
-row_for answer-is.Wait s l = []
-row_for (answer-is.Stretch a) s l = row_text s.first (answer_number a) (take (length_of a) l)
+abbrev pub row_for : Result (Option ReadAnswer) LiveRefusal → Step → List ℕ → List ℕ
+row_for (Err f) s l = []
+row_for (Ok None) s l = []
+row_for (Ok (Some a)) s l = row_text s.first (answer_number a) (take (length_of a) l)
 
 abbrev pub row_of : Step → List ℕ → List ℕ
 row_of s l = row_for s.answer s l
 
 -- what a step's answer comes to
-abbrev pub rowed_for : Answer → Press → Step → List ℕ → Turn
-rowed_for answer-is.Numbers c s l = rowless c s.numbers s.took pressed-is.Numbers
-rowed_for answer-is.Sizes c s l = rowless c s.numbers s.took pressed-is.Sizes
-rowed_for answer-is.TooLong c s l = rowless c s.numbers s.took pressed-is.TooLong
-rowed_for answer-is.NoRoom c s l = rowless c s.numbers s.took pressed-is.NoRoom
-rowed_for answer-is.Wait c s l = rowless c s.numbers s.took pressed-is.Wait
-rowed_for (answer-is.Stretch a) c s l =
-    turn (counted c s.numbers (answer_number a)) s.took (pressed-is.Row (length (row_for (answer-is.Stretch a) s l)))
+abbrev pub rowed_for : Result (Option ReadAnswer) LiveRefusal → Press → Step → List ℕ → Turn
+rowed_for (Err step) c s l = rowless c s.numbers s.took (Err (step_refused step))
+rowed_for (Ok None) c s l = rowless c s.numbers s.took (Ok None)
+rowed_for (Ok (Some a)) c s l =
+    turn (counted c s.numbers (answer_number a)) s.took (Ok (Some (length (row_for (Ok (Some a)) s l))))
 
 abbrev pub rowed : Press → Step → List ℕ → Turn
 rowed c s l = rowed_for s.answer c s l
@@ -114,10 +112,7 @@ module _ (key font : List ℕ) (c : Press) (w p : List ℕ) where
   press_row room = cond (nat_lt room row_room) [] (row_of (step_with longest) (line_with longest))
 
 -- the row's length, 0 where none is given
-abbrev pub pressed_length : Pressed → ℕ
-pressed_length pressed-is.Numbers = 0
-pressed_length pressed-is.Sizes = 0
-pressed_length pressed-is.TooLong = 0
-pressed_length pressed-is.NoRoom = 0
-pressed_length pressed-is.Wait = 0
-pressed_length (pressed-is.Row n) = n
+abbrev pub pressed_length : Result (Option ℕ) PressRefusal → ℕ
+pressed_length (Err f) = 0
+pressed_length (Ok None) = 0
+pressed_length (Ok (Some n)) = n

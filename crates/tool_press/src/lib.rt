@@ -7,17 +7,17 @@ ghost use Rattle.base_lists.specs.Buffers.{over};
 ghost use Rattle.line_spec.specs.Lines.{longest};
 ghost use Rattle.line_layout.specs.declared.Layout.TheVariants as layouts;
 ghost use Rattle.tool_row.specs.Rows.{row_room};
-ghost use Rattle.tool_press.specs.Pressing.{start_press, counted, rowless, pressed_by, no_row, length_for};
+ghost use Rattle.tool_press.specs.Pressing.{row_refused, step_refused, start_press, counted, rowless, pressed_by, no_row, length_for};
 ghost use Rattle.tool_press.specs.Pressing.{rowed, row_of, pressed, press_window, press_row, pressed_length};
 
 use frame_stuff_spec::LONGEST_STRETCH;
 use line_layout::Layout;
 use line_spec::LONGEST;
 use live_call::step;
-use live_spec::{Answer, Numbers};
+use live_spec::{LiveRefusal, Numbers};
 use read_call::{ALL_WORK, Asked, EDITION_ONE};
 use read_numbers::{read_length, read_number};
-use tool_row::{Put, ROW_ROOM, put_row};
+use tool_row::{ROW_ROOM, RowRefusal, put_row};
 
 // The number of a line that is given (document 01).
 const GIVEN: u32 = 0;
@@ -30,18 +30,40 @@ pub struct Press {
     pub refused: u64,
 }
 
-// What a call comes to.
+// Why a call is refused. One that is not gives a row, or none where no stretch is closed.
 #[derive(Clone, Copy)]
-pub enum Pressed {
-    // The call is refused, and nothing is taken: as a step's, no room for every row.
+pub enum PressRefusal {
+    // Nothing is taken: as a step's, no room for every row.
     Numbers,
     Sizes,
     TooLong,
     NoRoom,
-    // No stretch is closed.
-    Wait,
-    // A row of that length.
-    Row(usize),
+}
+
+// A row that is not written refuses the call.
+impl From<RowRefusal> for PressRefusal {
+    ghost from_gives = { λ put pressed. pressed ≡ row_refused put };
+
+    fn from(put: RowRefusal) -> PressRefusal {
+        match put {
+            RowRefusal::TooLong => PressRefusal::TooLong,
+            RowRefusal::NoRoom => PressRefusal::NoRoom,
+        }
+    }
+}
+
+// So does a step that is refused.
+impl From<LiveRefusal> for PressRefusal {
+    ghost from_gives = { λ step pressed. pressed ≡ step_refused step };
+
+    fn from(step: LiveRefusal) -> PressRefusal {
+        match step {
+            LiveRefusal::Numbers => PressRefusal::Numbers,
+            LiveRefusal::Sizes => PressRefusal::Sizes,
+            LiveRefusal::TooLong => PressRefusal::TooLong,
+            LiveRefusal::NoRoom => PressRefusal::NoRoom,
+        }
+    }
 }
 
 // That, how many bytes of the piece were taken, and how far the listing is then.
@@ -49,7 +71,7 @@ pub enum Pressed {
 pub struct Turn {
     pub press: Press,
     pub took: usize,
-    pub answer: Pressed,
+    pub answer: Result<Option<usize>, PressRefusal>,
 }
 
 // Before the link's first byte.
@@ -88,7 +110,12 @@ fn count(press: Press, numbers: Numbers, number: u32) -> Press
 }
 
 // No row, with these numbers.
-fn without_row(press: Press, numbers: Numbers, took: usize, answer: Pressed) -> Turn
+fn without_row(
+    press: Press,
+    numbers: Numbers,
+    took: usize,
+    answer: Result<Option<usize>, PressRefusal>,
+) -> Turn
     ensures { result ≡ rowless press numbers took answer }
 {
     let press = Press {
@@ -104,29 +131,21 @@ fn without_row(press: Press, numbers: Numbers, took: usize, answer: Pressed) -> 
 }
 
 // What writing a row comes to.
-fn answer_of(put: Put) -> Pressed
+fn answer_of(put: Result<usize, RowRefusal>) -> Result<Option<usize>, PressRefusal>
     ensures { result ≡ pressed_by put }
 {
-    match put {
-        Put::TooLong => Pressed::TooLong,
-        Put::NoRoom => Pressed::NoRoom,
-        Put::Row(n) => Pressed::Row(n),
-    }
+    Ok(Some(put?))
 }
 
 // The refusal of a step that was lent no room for a line.
-fn refuse(press: Press, answer: Answer) -> Turn
+fn refuse(press: Press, answer: Result<Option<read_call::Answer>, LiveRefusal>) -> Turn
     ensures { result ≡ no_row press answer }
 {
     let numbers = press.numbers;
     match answer {
-        Answer::Numbers => without_row(press, numbers, 0, Pressed::Numbers),
-        Answer::Sizes => without_row(press, numbers, 0, Pressed::Sizes),
-        Answer::TooLong => without_row(press, numbers, 0, Pressed::TooLong),
-        Answer::NoRoom => without_row(press, numbers, 0, Pressed::NoRoom),
+        Err(refusal) => without_row(press, numbers, 0, Err(refusal.into())),
         // Never: without room a step is refused.
-        Answer::Wait => without_row(press, numbers, 0, Pressed::NoRoom),
-        Answer::Stretch(_) => without_row(press, numbers, 0, Pressed::NoRoom),
+        Ok(_) => without_row(press, numbers, 0, Err(PressRefusal::NoRoom)),
     }
 }
 
@@ -139,22 +158,20 @@ fn row_for(press: Press, step: live_spec::Step, line: &[u8], out: &mut [u8]) -> 
 {
     let numbers = step.numbers;
     let answer = step.answer;
-    match answer {
-        Answer::Numbers => return without_row(press, numbers, step.took, Pressed::Numbers),
-        Answer::Sizes => return without_row(press, numbers, step.took, Pressed::Sizes),
-        Answer::TooLong => return without_row(press, numbers, step.took, Pressed::TooLong),
-        Answer::NoRoom => return without_row(press, numbers, step.took, Pressed::NoRoom),
-        Answer::Wait => return without_row(press, numbers, step.took, Pressed::Wait),
-        Answer::Stretch(its) => {
-            let number = read_number(its);
-            let length = read_length(its);
-            let put = put_row(step.first, number, &line[0..length], out);
-            return Turn {
-                press: count(press, numbers, number),
-                took: step.took,
-                answer: answer_of(put),
-            };
-        }
+    let made = match answer {
+        Ok(made) => made,
+        Err(refusal) => return without_row(press, numbers, step.took, Err(refusal.into())),
+    };
+    let Some(its) = made else {
+        return without_row(press, numbers, step.took, Ok(None));
+    };
+    let number = read_number(its);
+    let length = read_length(its);
+    let put = put_row(step.first, number, &line[0..length], out);
+    Turn {
+        press: count(press, numbers, number),
+        took: step.took,
+        answer: answer_of(put),
     }
 }
 
@@ -192,15 +209,11 @@ pub fn press_row(
 }
 
 // The row's length, 0 where none is given.
-pub fn pressed_length(answer: Pressed) -> usize
+pub fn pressed_length(answer: Result<Option<usize>, PressRefusal>) -> usize
     ensures { result ≡ pressed_length answer }
 {
     match answer {
-        Pressed::Numbers => 0,
-        Pressed::Sizes => 0,
-        Pressed::TooLong => 0,
-        Pressed::NoRoom => 0,
-        Pressed::Wait => 0,
-        Pressed::Row(n) => n,
+        Ok(Some(n)) => n,
+        Ok(None) | Err(_) => 0,
     }
 }

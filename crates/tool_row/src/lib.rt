@@ -26,15 +26,13 @@ const ZERO_DIGIT: u8 = 0x30;
 // The number of a line that is given (document 01).
 const GIVEN: u32 = 0;
 
-// What writing a row comes to.
+// Why a row is not written.
 #[derive(Clone, Copy)]
-pub enum Put {
+pub enum RowRefusal {
     // A line that is longer than lines are.
     TooLong,
     // A buffer without room for every row.
     NoRoom,
-    // The number of bytes written.
-    Row(usize),
 }
 
 // The decimal digits of n, k at most, from a place on; the place behind them.
@@ -115,26 +113,26 @@ fn lay_last(out: &mut [u8], lines: u64, refused: u64) -> usize
 }
 
 // The row of a place, a number and a line; the line is written for number 0 alone.
-pub fn put_row(place: u64, number: u32, line: &[u8], out: &mut [u8]) -> Put
+pub fn put_row(place: u64, number: u32, line: &[u8], out: &mut [u8]) -> Result<usize, RowRefusal>
     ensures value { result ≡ row_answer place number line.now out.old }
     ensures out_after { out.new ≡ row_out place number line.now out.old }
 {
     if line.len() > LONGEST {
-        return Put::TooLong;
+        return Err(RowRefusal::TooLong);
     }
     if out.len() < ROW_ROOM {
-        return Put::NoRoom;
+        return Err(RowRefusal::NoRoom);
     }
-    Put::Row(lay_row(out, place, number, line))
+    Ok(lay_row(out, place, number, line))
 }
 
 // The last row, which says how many rows had a line and how many a refusal.
-pub fn put_last(lines: u64, refused: u64, out: &mut [u8]) -> Put
+pub fn put_last(lines: u64, refused: u64, out: &mut [u8]) -> Result<usize, RowRefusal>
     ensures value { result ≡ put_answer (last_row_text lines refused) out.old }
     ensures out_after { out.new ≡ put_out (last_row_text lines refused) out.old }
 {
     if out.len() < ROW_ROOM {
-        return Put::NoRoom;
+        return Err(RowRefusal::NoRoom);
     }
-    Put::Row(lay_last(out, lines, refused))
+    Ok(lay_last(out, lines, refused))
 }

@@ -1,4 +1,5 @@
 -- What a read of n bytes into a window makes of a digest: more than the window has, or that part of it. Assumes nothing.
+use Rattle.std.specs.Prelude.{Result, ⊤}
 use mathlib.Core.Path.{◌≡◌, ◌∙◌}
 use mathlib.Core.List.{List}
 use Prim.Native.Nat.{ℕ, ◌-◌, ◌≤◌, ◌<◌}
@@ -9,7 +10,7 @@ use Rattle.tool_files.specs.declared.Heard.{Heard}
 use Rattle.tool_files.specs.declared.Heard.TheVariants as heard
 use Rattle.running_spec.specs.Running.{feed_answer, feed_record}
 use Rattle.running_spec.specs.declared.Record.{Record}
-use Rattle.running_spec.specs.declared.Fed.{Fed}
+use Rattle.running_spec.specs.declared.FeedRefusal.{FeedRefusal}
 use Rattle.tool_sums.specs.Sums.{sum_of, part_answer, part_record}
 use Rattle.tool_sums.specs.declared.Sum.{Sum}
 use Rattle.tool_sums.specs.declared.Sum.TheVariants as sum
@@ -26,7 +27,7 @@ module _ (r : Record) (h : Heard) (w : List ℕ) (n : ℕ) (e : h ≡ heard.Some
   whole : take (n - 0) (drop 0 w) ≡ take n w
   whole = let none : n - 0 ≡ n = omega arith in rw none
 
-  pub fed-answer : {s : Sum} {a : Fed} → n ≤ length w → a ≡ feed_answer r (take (n - 0) (drop 0 w)) → s ≡ sum_of a → s ≡ part_answer r h w
+  pub fed-answer : {s : Sum} {a : Result ⊤ FeedRefusal} → n ≤ length w → a ≡ feed_answer r (take (n - 0) (drop 0 w)) → s ≡ sum_of a → s ≡ part_answer r h w
   unfolding part_answer
   fed-answer l a-is s-is = s-is ∙ rw (e, le-ltb (length w) n l, a-is, whole)
 

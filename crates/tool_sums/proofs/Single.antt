@@ -1,10 +1,10 @@
 -- The promises of these calls, as the check reads them (`Post`), admit a single answer. Assumes nothing.
+use Rattle.std.specs.Prelude.{Option, ℕ}
 use mathlib.Core.Path.{◌≡◌, sym, ◌∙◌}
 use contract.Lifetimes.{Lfts}
 use denote.Triple.Clauses.{AtExit}
 use borrow.Fn.Kinds.{Dens, ended_of}
 use Rattle.running_spec.specs.declared.Record.{Record}
-use Rattle.tool_sums.specs.declared.Named.{Named}
 use Rattle.tool_sums.specs.declared.Sum.{Sum}
 use Rattle.tool_sums.proofs.judge_word.Kinds as judge-word-kinds
 use Rattle.tool_sums.proofs.judge_word.Reads as judge-word-reads
@@ -15,7 +15,7 @@ use Rattle.tool_sums.proofs.judge_part.Reads as judge-part-reads
 use Rattle.tool_sums.proofs.take_part.Kinds as take-part-kinds
 use Rattle.tool_sums.proofs.take_part.Reads as take-part-reads
 
-pub judge-word-single : (κs : Lfts 1) (a : Dens κs judge-word-kinds.ps) (r r' : Named) (x x' : AtExit (ended_of 1 judge-word-kinds.ps judge-word-kinds.r) κs)
+pub judge-word-single : (κs : Lfts 1) (a : Dens κs judge-word-kinds.ps) (r r' : Option ℕ) (x x' : AtExit (ended_of 1 judge-word-kinds.ps judge-word-kinds.r) κs)
     → judge-word-reads.Post κs a r x → judge-word-reads.Post κs a r' x' → r ≡ r'
 judge-word-single κs a r r' x x' p q = p ∙ sym q
 

@@ -8,7 +8,7 @@ ghost use Rattle.tool_sums.specs.Sums.{blank, named_by, sum_of, part_answer, par
 
 use gage_spec::LARGEST;
 use gage_sponge::LARGEST_RATE;
-use running_spec::{Fed, Record};
+use running_spec::{FeedRefusal, Record};
 use tool_files::Heard;
 
 // The digits 1 and 9, and what a digit is more than its value.
@@ -21,13 +21,6 @@ const ZERO: u8 = 0x30;
 // The one instance that takes two digits.
 const TEN: usize = 10;
 
-// What a word is taken for.
-#[derive(Clone, Copy)]
-pub enum Named {
-    Instance(usize),
-    Nothing,
-}
-
 // What becomes of a digest after a read: it goes on, the input ends, it is too long, or it can't be read.
 #[derive(Clone, Copy)]
 pub enum Sum {
@@ -38,24 +31,24 @@ pub enum Sum {
 }
 
 // The instance that a word names: 1 to 10, in decimal digits with no zero before them.
-pub fn judge_word(word: &[u8]) -> Named
+pub fn judge_word(word: &[u8]) -> Option<usize>
     ensures { result ≡ named_by word.now }
 {
     if base_lists::compare(word, b"10") {
-        return Named::Instance(TEN);
+        return Some(TEN);
     }
     if word.len() != 1 {
-        return Named::Nothing;
+        return None;
     }
     let digit = word[0];
     if digit < ONE {
-        return Named::Nothing;
+        return None;
     }
     if digit > NINE {
-        return Named::Nothing;
+        return None;
     }
     let value = digit - ZERO;
-    Named::Instance(value as usize)
+    Some(value as usize)
 }
 
 // A digest begun with an instance.
@@ -75,14 +68,13 @@ pub fn begin(instance: usize) -> Record
 }
 
 // What a feed's answer says of the input.
-fn fed_sum(answer: Fed) -> Sum
+fn fed_sum(answer: Result<(), FeedRefusal>) -> Sum
     ensures { result ≡ sum_of answer }
 {
     match answer {
-        Fed::Done => Sum::On,
-        Fed::AfterFinish => Sum::Unread,
-        Fed::Unknown => Sum::Unread,
-        Fed::TooLong => Sum::TooLong,
+        Ok(()) => Sum::On,
+        Err(FeedRefusal::AfterFinish | FeedRefusal::Unknown) => Sum::Unread,
+        Err(FeedRefusal::TooLong) => Sum::TooLong,
     }
 }
 

@@ -1,5 +1,5 @@
 use native.Mathlib.Omega.{arith}
-use mathlib.Core.Path.{sym, ap}
+use mathlib.Core.Path.{ap}
 use Rattle.base_lists.specs.Below.{below_all}
 use Rattle.accept_nonces.specs.declared.Words.{Words}
 use Rattle.accept_call.proofs.Going.{going-none, going-order, going-inside, going-refused, going-repeated, going_more, going-all}
@@ -22,12 +22,6 @@ returns-then-number-ne0 c =
     going-refused c.loop-n.invariant c.loop-n-test.true _
     c.next_span-span.ensures _ c.number_in-number.ensures c.if-number-ne0.true
 
-pub slice_bounds-met-end : goal.slice_bounds-met-end
-slice_bounds-met-end c = sym c.loop-n.invariant.high-room
-
-pub slice_bounds-met-end-in-loop-n : goal.slice_bounds-met-end-in-loop-n
-slice_bounds-met-end-in-loop-n c = sym c.loop-n.invariant.low-room
-
 pub returns-then-met : goal.returns-then-met
 returns-then-met c =
     going-repeated c.loop-n.invariant
@@ -41,28 +35,6 @@ returns-then-met c =
     )))
     _ _ (ap (λ (w : Words). w.high) c.words_in-words.ensures)
     (ap (λ (w : Words). w.low) c.words_in-words.ensures) _ c.met.ensures c.if-met.true
-
-pub bounds-highs-n : goal.bounds-highs-n
-bounds-highs-n c =
-    let few = c.requires.counted_value.1 in omega (
-      arith,
-      few,
-      c.loop-n-test.true,
-      c.loop-n.invariant.high-room,
-    )
-
-pub bounds-lows-n : goal.bounds-lows-n
-bounds-lows-n c =
-    let few = c.requires.counted_value.1 in omega (
-      arith,
-      few,
-      c.loop-n-test.true,
-      c.loop-n.invariant.low-room,
-    )
-
-pub loop-n-smaller : goal.loop-n-smaller
-loop-n-smaller c =
-    omega (arith, c.loop-n-test.true)
 
 pub loop-n-preserved : goal.loop-n-preserved
 loop-n-preserved c =

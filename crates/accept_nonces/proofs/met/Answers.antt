@@ -1,18 +1,15 @@
+-- `met` meets its promise: `any` asks `is_at` of each place. Assumes nothing.
+use mathlib.Core.Path.{sym, ◌∙◌}
+use borrow.Author.Rules.{rules}
 use native.Mathlib.Omega.{arith}
-use Rattle.accept_nonces.proofs.Laws.{looking-none, looking-found, looking-more, looking-all}
+use Rattle.std.proofs.lemmas.Iterator.{YieldsList-from_range}
+use Rattle.std.proofs.lemmas.Iterator.Search.{any_from_yields_List}
+use Rattle.accept_nonces.specs.Seen.{pair_at}
+use Rattle.accept_nonces.proofs.Laws.{pair_in-any}
 use Rattle.accept_nonces.proofs.met.Goals as goal
 
-pub loop-i-init : goal.loop-i-init
-loop-i-init c = looking-none
-
-pub returns-then-is_at : goal.returns-then-is_at
-returns-then-is_at c = looking-found c.loop-i.invariant c.loop-i-test.true c.is_at.ensures c.if-is_at.true
-
-pub loop-i-smaller : goal.loop-i-smaller
-loop-i-smaller c = omega (arith, c.loop-i-test.true)
-
-pub loop-i-preserved : goal.loop-i-preserved
-loop-i-preserved c = looking-more c.loop-i.invariant c.loop-i-test.true c.is_at.ensures c.if-is_at.false
-
 pub returns : goal.returns
-returns c = looking-all c.loop-i.invariant c.loop-i-test.false
+returns c =
+    any_from_yields_List (pair_at c.args.highs.now c.args.lows.now c.args.high c.args.low) _ _ _ c.any.ensures.ran
+    (YieldsList-from_range 0 c.args.n c.args.n (search rules) (omega arith)) (λ x b q k. search rules)
+    ∙ sym (pair_in-any c.args.highs.now c.args.lows.now c.args.high c.args.low 0 c.args.n)

@@ -1,29 +1,25 @@
 -- `put_field` meets its promise: a value that is too long, a buffer that is too short, else the field laid. Assumes nothing.
-use mathlib.Core.Path.{sym, ◌∙◌}
-use native.Mathlib.Omega.{arith}
-use Rattle.base_fields.specs.Laws.{length-field, put-fits, put-long, put-tight}
+use Rattle.std.proofs.Common.{arith}
+use Rattle.std.proofs.lemmas.Bool.Decides.{nat_tests}
+use Rattle.base_fields.specs.Fields.{field_end, field_out}
+use Rattle.base_fields.specs.Laws.{length-field}
 use Rattle.base_fields.proofs.put_field.Goals as goal
 
-pub returns-then-value : goal.returns-then-value
-returns-then-value c =
-    let s = c.args in
-    let told = put-long s.out.now s.at s.tag s.value.now (omega arith) in record { value = sym told.0; out_after = sym told.1 }
+pub returns-then-value-clause-value : goal.returns-then-value-clause-value
+unfolding field_end
+returns-then-value-clause-value c = grind (arith, nat_tests)
 
-pub returns-then-out-whole : goal.returns-then-out-whole
-returns-then-out-whole c =
-    let s = c.args in
-    let told = put-tight s.out.now s.at s.tag s.value.now (omega arith) (omega arith) in record { value = sym told.0; out_after = sym told.1 }
+pub returns-then-value-clause-out_after : goal.returns-then-value-clause-out_after
+unfolding field_out
+returns-then-value-clause-out_after c = grind (arith, nat_tests)
 
-pub returns-then-out-whole-2 : goal.returns-then-out-whole-2
-returns-then-out-whole-2 c =
-    let s = c.args in
-    let told = put-tight s.out.now s.at s.tag s.value.now (omega arith) (omega arith) in record { value = sym told.0; out_after = sym told.1 }
+pub lay-requires-clause-value_in_bounds : goal.lay-requires-clause-value_in_bounds
+lay-requires-clause-value_in_bounds c = omega (arith, length-field c.args.tag c.args.value.now)
 
-pub lay-requires : goal.lay-requires
-lay-requires c =
-    let s = c.args in record { value_in_bounds = omega (arith, length-field s.tag s.value.now); value_len_bound = omega arith }
+pub returns-clause-value : goal.returns-clause-value
+unfolding field_end
+returns-clause-value c = grind (arith, nat_tests)
 
-pub returns : goal.returns
-returns c =
-    let s = c.args in
-    let told = put-fits s.out.now s.at s.tag s.value.now (omega (arith, length-field s.tag s.value.now)) (omega arith) in record { value = c.lay.ensures.value ∙ sym told.0; out_after = c.lay.ensures.out_after ∙ sym told.1 }
+pub returns-clause-out_after : goal.returns-clause-out_after
+unfolding field_out
+returns-clause-out_after c = grind (arith, nat_tests)

@@ -1,7 +1,8 @@
 -- `compare` meets its promise: lists of different lengths are not the same, and others are compared byte by byte. Assumes nothing.
-use mathlib.Core.Path.{sym}
+use borrow.Author.Tests.{ne_eqb}
+use Rattle.std.proofs.Common.{sym, ◌∙◌}
 use Rattle.base_lists.specs.Sameness.{same_length}
 use Rattle.base_lists.proofs.compare.Goals as goal
 
-pub returns-then-a-b : goal.returns-then-a-b
-returns-then-a-b c = sym (same_length _ _ c.if-a-b.true)
+pub returns-else-a-b : goal.returns-else-a-b
+returns-else-a-b c = ne_eqb _ _ c.if-a-b.false ∙ sym (same_length _ _ c.if-a-b.false)

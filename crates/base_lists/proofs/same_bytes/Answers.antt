@@ -1,16 +1,18 @@
-use Prim.Native.Nat.{◌-◌}
-use Rattle.base_lists.specs.Sameness.{compared-none, compared-more, compared-less, compared-all}
-use native.Mathlib.Omega.{arith}
+use Rattle.std.proofs.Common.{sym, ◌∙◌}
+use Rattle.std.proofs.lemmas.List.{length_push}
+use Rattle.std.proofs.lemmas.Slice.Zip.{zip_turn}
+use Rattle.base_lists.specs.Sameness.{compared-none, compared-more, compared-less}
 use Rattle.base_lists.proofs.same_bytes.Goals as goal
 
-pub loop-k-init : goal.loop-k-init
-loop-k-init c = compared-none c.requires
+pub loop-x-init : goal.loop-x-init
+loop-x-init c = compared-none c.requires
 
-pub loop-k-preserved-then-a-k : goal.loop-k-preserved-then-a-k
-loop-k-preserved-then-a-k c = compared-more c.loop-k.invariant (omega arith) c.if-a-k.true
+pub loop-x-preserved-then-x-y : goal.loop-x-preserved-then-x-y
+loop-x-preserved-then-x-y c =
+    let t = zip_turn c.args.a.now c.args.b.now _ _ _ c.next.new.self _ (cc) (cc) c.loop-x.yielded_by _ c.in-Some.is c.next.ensures.steps in
+    rw length_push (compared-less c.loop-x.invariant t.0 (λ e. c.if-x-y.true (t.2 0 ∙ e ∙ sym (t.3 0))))
 
-pub loop-k-preserved : goal.loop-k-preserved
-loop-k-preserved c = compared-less c.loop-k.invariant (omega arith) c.if-a-k.false
-
-pub returns : goal.returns
-returns c = compared-all c.loop-k.invariant c.loop-k-test.false
+pub loop-x-preserved : goal.loop-x-preserved
+loop-x-preserved c =
+    let t = zip_turn c.args.a.now c.args.b.now _ _ _ c.next.new.self _ (cc) (cc) c.loop-x.yielded_by _ c.in-Some.is c.next.ensures.steps in
+    rw length_push (compared-more c.loop-x.invariant t.0 (sym (t.2 0) ∙ c.if-x-y.false ∙ t.3 0))

@@ -1,7 +1,5 @@
--- `name_of` meets its promise. The invariant: the first i bytes are those that the text draws (`Upto`); the measure is how many are left.
--- Assumes nothing.
+-- `name_of` meets its promise. The invariant: the first i bytes are those that the text draws (`Upto`). Assumes nothing.
 use mathlib.Core.Path.{◌≡◌}
-use Prim.Native.Nat.{◌-◌, ◌≤◌}
 use lib.ListN.{length}
 use Rattle.base_lists.specs.Upto.{Upto}
 use Rattle.bundle_spec.specs.Bundles.{longest_name}
@@ -9,7 +7,4 @@ use Rattle.bundle_draw.specs.Making.{name_byte}
 use Rattle.bundle_draw.proofs.name_of.Given as goal
 
 abbrev pub invariant-loop-i : goal.invariant-loop-i
-invariant-loop-i l = (l.i ≤ l.n) × (length l.name ≡ longest_name) × Upto (name_byte l.text) l.name l.i
-
-abbrev pub decreases-loop-i : goal.decreases-loop-i
-decreases-loop-i l = l.n - l.i
+invariant-loop-i l = (length l.name ≡ longest_name) × Upto (name_byte l.text) l.name l.i

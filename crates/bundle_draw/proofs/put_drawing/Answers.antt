@@ -1,7 +1,7 @@
 use mathlib.Core.Path.{sym, ◌∙◌}
 use native.Mathlib.Omega.{arith}
 use lib.ListN.{length}
-use Rattle.base_lists.specs.Fill.{filled_none, filled_more, filled-all, filled-length}
+use Rattle.base_lists.specs.Fill.{filled_none, filled_more, filled-all}
 use Rattle.bundle_draw.specs.Drawing.{char_at, drawing, drawing_length}
 use Rattle.bundle_draw.specs.Listed.{length-listed, get_d-listed}
 use Rattle.bundle_draw.proofs.put_drawing.Goals as goal
@@ -12,18 +12,6 @@ loop-i-init c =
     let s = c in
     let n = drawing_length (length s.args.name.now) in
     filled_none _ _ (rw (length-listed (char_at s.args.name.now s.args.rows.now) n) (omega (arith, s.requires)))
-
-pub char_at-requires : goal.char_at-requires
-char_at-requires c =
-    let s = c in
-    record { name_len_bound = s.requires.name_len_bound; rows_len = s.requires.rows_len; i_bound = omega arith }
-
-pub bounds-out-i : goal.bounds-out-i
-unfolding drawing
-bounds-out-i c =
-    let s = c in
-    let f = c.loop-i.invariant in
-    omega (arith, filled-length f, s.requires)
 
 pub loop-i-preserved : goal.loop-i-preserved
 unfolding drawing

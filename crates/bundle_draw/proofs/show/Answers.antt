@@ -1,15 +1,15 @@
--- `show` meets its promise: each answer of the reader is one case. Assumes nothing.
-use mathlib.Core.Path.{sym, ◌∙◌}
-use Rattle.bundle_draw.specs.Showing.{show-shape, show-alike}
+-- `show` meets its promise: what the reader refuses, then the drawing. Assumes nothing.
+use Rattle.std.specs.Prelude.{Err}
+use Rattle.std.proofs.lemmas.Result.{err_from_is_err_and}
+use mathlib.Core.Path.{sym, ap, ◌∙◌}
+use Rattle.bundle_draw.specs.Showing.{show-no-bundle}
 use Rattle.bundle_draw.proofs.show.Goals as goal
 
 pub drawn-requires : goal.drawn-requires
-drawn-requires c = sym c.read-judged.ensures ∙ c.in-Named.is
+drawn-requires c = sym c.read.ensures ∙ c.in_ok-n.was
 
-pub returns-in-Shape : goal.returns-in-Shape
-returns-in-Shape c =
-    let s = c in record { value = (show-shape s.args.bundle.now s.args.out.now (sym c.read-judged.ensures ∙ c.in-Shape.is)).0; out_after = (show-shape s.args.bundle.now s.args.out.now (sym c.read-judged.ensures ∙ c.in-Shape.is)).1 }
-
-pub returns-in-Alike : goal.returns-in-Alike
-returns-in-Alike c =
-    let s = c in record { value = (show-alike s.args.bundle.now s.args.out.now (sym c.read-judged.ensures ∙ c.in-Alike.is)).0; out_after = (show-alike s.args.bundle.now s.args.out.now (sym c.read-judged.ensures ∙ c.in-Alike.is)).1 }
+pub returns-in_err-n : goal.returns-in_err-n
+returns-in_err-n c =
+    let (y, is, from) = err_from_is_err_and c.from_residual.result c.from_residual.ensures.1 in
+    let told = show-no-bundle c.args.bundle.now c.args.out.now c.in_err-n.field-0.0 (sym c.read.ensures ∙ c.in_err-n.was) in
+    record { value = is ∙ ap Err from ∙ told.0; out_after = told.1 }

@@ -32,12 +32,6 @@ returns-then-bundle-from-ne-GLYPHS_LENGTH c =
     let other = c.if-bundle-from-ne-GLYPHS_LENGTH.true in
     other-end c.args.bundle.now (some (goal.at.returns-then-bundle-from-ne-GLYPHS_LENGTH c).Else-n-eq0) (rw e at other)
 
-pub glyphs_from-requires : goal.glyphs_from-requires
-glyphs_from-requires c = omega (arith, inside (goal.at.glyphs_from-requires c).Else-n-eq0, c.if-bundle-from-ne-GLYPHS_LENGTH.false)
-
-pub alike_from-requires : goal.alike_from-requires
-alike_from-requires c = omega (arith, inside (goal.at.alike_from-requires c).Else-n-eq0, c.if-bundle-from-ne-GLYPHS_LENGTH.false)
-
 pub returns : goal.returns
 returns c =
     let s = c in

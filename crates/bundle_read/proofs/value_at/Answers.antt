@@ -1,41 +1,46 @@
 -- `value_at` meets its promise: each test is one of `front`, over the bytes from the place on. Assumes nothing.
 use mathlib.Core.Path.{sym, ◌∙◌}
-use Prim.Native.Nat.{◌-◌, ◌<◌, ◌≤◌}
+use mathlib.Core.List.{List}
+use Prim.Native.Nat.{ℕ, ◌-◌, ◌<◌, ◌≤◌}
 use native.Mathlib.Omega.{arith}
-use lib.ListN.{length}
+use lib.ListN.{length, take, drop, length-drop, length-take}
 use Rattle.base_fields.specs.Fields.{head_length}
-use Rattle.bundle_read.proofs.Reading.{too_few, other_tag, other_length, too_short, whole}
+use Rattle.bundle_read.proofs.Reading.{too_few, other_tag, other_length, too_short, whole, read_off}
 use Rattle.bundle_read.proofs.value_at.Goals as goal
+use Rattle.bundle_read.proofs.value_at.Goals.{else-first-tag-via-then-first-tag+then-rule_takes+else-n-rest, else-first-tag-via-then-first-tag+else-rule_takes, else-first-tag-via-else-first-tag}
 
-pub returns-then-left-lt-HEAD_LENGTH : goal.returns-then-left-lt-HEAD_LENGTH
-returns-then-left-lt-HEAD_LENGTH c =
-    let s = c in
-    too_few s.args.b.now s.args.at s.args.tag s.requires (omega arith)
+-- the bytes from the place on
+abbrev left : List ℕ → ℕ → List ℕ
+left b at = take (length b - at) (drop at b)
 
-pub returns-then-b-at : goal.returns-then-b-at
-returns-then-b-at c =
-    let s = c in
-    other_tag s.args.b.now s.args.at s.args.tag s.requires (omega arith) c.if-b-at.true
+pub returns-in_default : goal.returns-in_default
+returns-in_default c =
+    read_off c.args.b.now c.args.at c.args.tag c.requires
+    (too_few (left c.args.b.now c.args.at) 0 c.args.tag (omega arith) (omega (arith, c.in_default.len_below)))
 
-pub returns-then-not-rule_takes : goal.returns-then-not-rule_takes
-returns-then-not-rule_takes c =
-    let s = c in
+pub returns-then-n-rest : goal.returns-then-n-rest
+returns-then-n-rest c =
+    let s = left c.args.b.now c.args.at in
+    let is = c.if-first-tag.true in
     let said = c.length_said-n.ensures in
-    other_length s.args.b.now s.args.at s.args.tag s.requires (omega arith) c.if-b-at.false
-    (rw said at (sym c.rule_takes.ensures ∙ c.if-not-rule_takes.true))
+    let fits : c.length_said-n.result ≤ length s - 0 - head_length = omega (arith, c.if-n-rest.true, length-take {A = ℕ}, length-drop {A = ℕ}) in
+    read_off c.args.b.now c.args.at c.args.tag c.requires
+    (said ∙ whole s 0 c.args.tag (omega arith) c.in-len3-up.len_at_least is
+    (rw is (rw said at (sym c.rule_takes.ensures ∙ c.if-rule_takes.true))) (rw said at fits))
 
-pub returns-then-left-n : goal.returns-then-left-n
-returns-then-left-n c =
-    let s = c in
+pub returns-else-first-tag : goal.returns-else-first-tag
+returns-else-first-tag c =
+    let s = left c.args.b.now c.args.at in
+    let enough = c.in-len3-up.len_at_least in
     let said = c.length_said-n.ensures in
-    let short : length s.args.b.now - s.args.at - head_length < c.length_said-n.result = omega arith in
-    too_short s.args.b.now s.args.at s.args.tag s.requires (omega arith) c.if-b-at.false
-    (rw said at (sym c.rule_takes.ensures ∙ c.if-not-rule_takes.false)) (rw said at short)
-
-pub returns : goal.returns
-returns c =
-    let s = c in
-    let said = c.length_said-n.ensures in
-    let long : c.length_said-n.result ≤ length s.args.b.now - s.args.at - head_length = omega arith in
-    said ∙ whole s.args.b.now s.args.at s.args.tag s.requires (omega arith) c.if-b-at.false
-    (rw said at (sym c.rule_takes.ensures ∙ c.if-not-rule_takes.false)) (rw said at long)
+    read_off c.args.b.now c.args.at c.args.tag c.requires
+    (elim c.else-first-tag.branch [
+      | else-first-tag-via-then-first-tag+then-rule_takes+else-n-rest w ↦
+          let short : length s - 0 - head_length < c.length_said-n.result = omega (arith, w.if-n-rest.false, length-take {A = ℕ}, length-drop {A = ℕ}) in
+          too_short s 0 c.args.tag (omega arith) enough w.if-first-tag.true
+          (rw w.if-first-tag.true (rw said at (sym w.rule_takes.ensures ∙ w.if-rule_takes.true))) (rw said at short)
+      | else-first-tag-via-then-first-tag+else-rule_takes w ↦
+          other_length s 0 c.args.tag (omega arith) enough w.if-first-tag.true
+          (rw w.if-first-tag.true (rw said at (sym w.rule_takes.ensures ∙ w.if-rule_takes.false)))
+      | else-first-tag-via-else-first-tag w ↦ other_tag s 0 c.args.tag (omega arith) enough w.if-first-tag.false
+    ])

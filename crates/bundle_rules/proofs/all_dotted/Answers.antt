@@ -1,20 +1,21 @@
-use mathlib.Core.Path.{refl, sym, ◌∙◌}
-use native.Mathlib.Omega.{arith}
-use Rattle.bundle_rules.proofs.Walking.{dotted-end, dotted-on, dotted-not}
+-- `all_dotted` meets its promise: what `all` answers is what the recursion over the rows says. Assumes nothing.
+use Rattle.std.proofs.Common.{◌≡◌, ◌∙◌, refl, Bool, true, false, cond, ◌&&◌, List, ℕ, ltb, rules, tests}
+use Rattle.std.specs.List.{list_all}
+use Rattle.std.proofs.lemmas.Iterator.{YieldsList-from_slice}
+use Rattle.std.proofs.lemmas.Iterator.Search.{all_from_yields_List}
+use Rattle.std.proofs.lemmas.List.Recursion.{same_from_clauses}
+use Rattle.bundle_spec.specs.Bundles.{row_bound, dotted}
 use Rattle.bundle_rules.proofs.all_dotted.Goals as goal
 
-pub loop-i-init : goal.loop-i-init
-loop-i-init c = (omega arith, refl)
+both : (t u : Bool) → (t && u) ≡ cond t u false
+both true u = refl
+both false u = refl
 
-pub returns-then-rows-i-gt-ALL_DOTS : goal.returns-then-rows-i-gt-ALL_DOTS
-returns-then-rows-i-gt-ALL_DOTS c =
-    let l = c.loop-i in
-    sym (dotted-not c.args.rows.now l.i (omega arith) (omega arith)) ∙ l.invariant.1
-
-pub loop-i-preserved : goal.loop-i-preserved
-loop-i-preserved c =
-    let l = c.loop-i in
-    (omega arith, sym (dotted-on c.args.rows.now l.i (omega arith) (omega arith)) ∙ l.invariant.1)
+dotted_so : (r : List ℕ) → list_all (λ x. ltb x row_bound) r ≡ dotted r
+unfolding dotted
+dotted_so = same_from_clauses (list_all (λ x. ltb x row_bound)) dotted (λ x r. cond (ltb x row_bound) r false) refl (λ x r. both (ltb x row_bound) (list_all (λ x. ltb x row_bound) r)) (λ _ _. refl)
 
 pub returns : goal.returns
-returns c = sym (dotted-end c.args.rows.now c.loop-i.i (omega arith)) ∙ c.loop-i.invariant.1
+returns c =
+    all_from_yields_List (λ x. ltb x row_bound) _ _ _ c.all.ensures.ran (YieldsList-from_slice c.args.rows.now cc) (λ x b q k. search (rules, tests))
+    ∙ dotted_so c.args.rows.now

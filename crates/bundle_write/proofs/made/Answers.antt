@@ -10,19 +10,19 @@ loop-i-init c =
     let s = c in
     let put = c.put_field-at in
     let l = begun (replicate longest_bundle 0) s.args.name.now s.args.rows.now refl s.requires.0 s.requires.1 _ _ put.ensures.value put.ensures.out_after in
-    (omega arith, keeps (replicate longest_bundle 0) s.args.name.now s.args.rows.now refl s.requires.0 s.requires.1 l, l)
+    (keeps (replicate longest_bundle 0) s.args.name.now s.args.rows.now refl s.requires.0 s.requires.1 l, l)
 
 pub loop-i-preserved : goal.loop-i-preserved
 loop-i-preserved c =
     let s = c in
     let put = c.put_field-at-in-loop-i in
-    let v = c.glyph_value-value in
+    let v = c.glyph_value in
     let at = c.loop-i in
     let l = one_more (replicate longest_bundle 0) s.args.name.now s.args.rows.now refl s.requires.0 s.requires.1 _ _ v.result _ _ at.i
-    (omega arith) at.invariant.2 v.ensures put.ensures.value put.ensures.out_after in
-    (omega arith, keeps (replicate longest_bundle 0) s.args.name.now s.args.rows.now refl s.requires.0 s.requires.1 l, l)
+    (omega arith) at.invariant.1 v.ensures put.ensures.value put.ensures.out_after in
+    (keeps (replicate longest_bundle 0) s.args.name.now s.args.rows.now refl s.requires.0 s.requires.1 l, l)
 
 pub returns : goal.returns
 returns c =
     let s = c in
-    whole (replicate longest_bundle 0) s.args.name.now s.args.rows.now refl s.requires.0 s.requires.1 _ _ _ (omega arith) c.loop-i.invariant.2
+    whole (replicate longest_bundle 0) s.args.name.now s.args.rows.now refl s.requires.0 s.requires.1 _ _ _ (omega arith) c.loop-i.invariant.1

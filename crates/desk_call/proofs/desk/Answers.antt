@@ -32,12 +32,6 @@ returns-then-count-gt-MOST_ENTRIES c =
     (omega (arith, c.if-table-lt-MOST_ENTRIES.false)) c.if-count-gt-MOST_ENTRIES.true in
     record { value = met.0; out_after = met.1 }
 
-pub choose-requires : goal.choose-requires
-choose-requires c =
-    takes c.args.key.now c.args.font.now c.args.layout c.args.editions c.args.stream.now c.args.table.now c.args.count c.args.list.now c.args.out.now
-    c.if-key-ne-KEY_LENGTH.false c.if-font-ne-DIGEST_LENGTH.false
-    (omega (arith, c.if-stream-gt-LONGEST_STREAM.false)) (omega (arith, c.if-table-lt-MOST_ENTRIES.false)) (omega (arith, c.if-count-gt-MOST_ENTRIES.false))
-
 pub returns : goal.returns
 returns c =
     let met = chosen-met c.args.key.now c.args.font.now c.args.layout c.args.editions c.args.stream.now c.args.table.now c.args.count c.args.list.now c.args.out.now

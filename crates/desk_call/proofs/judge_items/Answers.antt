@@ -5,24 +5,10 @@ use Rattle.desk_call.proofs.Judging.{going-none, going-all, going-past, going-no
 use native.Mathlib.Omega.{arith}
 use Rattle.desk_call.proofs.judge_items.Goals as goal
 
-pub loop-k-init : goal.loop-k-init
-loop-k-init c = going-none
-
-pub overflow_cast-i : goal.overflow_cast-i
-overflow_cast-i c = omega (arith, c.type_inv.list c.loop-k.k)
-
 pub returns-then-i-count : goal.returns-then-i-count
 returns-then-i-count c = going-past c.loop-k.invariant c.loop-k-test.true
     (get_or c.args.list.now c.loop-k.k 0) refl
     (omega (arith, c.if-i-count.true))
-
-pub place_at-place-requires : goal.place_at-place-requires
-place_at-place-requires c = omega (
-  arith,
-  c.if-i-count.false,
-  c.requires.few,
-  c.requires.room,
-)
 
 pub returns-then-closing-eq0 : goal.returns-then-closing-eq0
 returns-then-closing-eq0 c = going-no-line c.loop-k.invariant c.loop-k-test.true

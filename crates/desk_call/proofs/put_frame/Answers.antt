@@ -5,59 +5,8 @@ use Rattle.desk_call.proofs.Copying.{in_order, in-stream, frame-long, frame-put}
 use native.Mathlib.Omega.{arith}
 use Rattle.desk_call.proofs.put_frame.Goals as goal
 
-pub overflow_sub-place : goal.overflow_sub-place
-overflow_sub-place c = omega (arith, c.requires.stretch.behind)
-
 pub bounds-out-at : goal.bounds-out-at
 bounds-out-at c =
-    let s = c.args.stream.now in
-    let x = c.requires.stretch in
-    let p = c.next_span-span.result in
-    let e = c.next_span-span.ensures in
-    omega (
-      arith,
-      c.requires.place_in_bounds,
-      frame-long s c.args.place x p e,
-      in_order s c.args.place x p e,
-      in-stream s c.args.place x p e,
-      length-set
-          c.args.out.now c.args.at mark,
-    )
-
-pub slice_bounds-copy-count : goal.slice_bounds-copy-count
-slice_bounds-copy-count c =
-    let s = c.args.stream.now in
-    let x = c.requires.stretch in
-    let p = c.next_span-span.result in
-    let e = c.next_span-span.ensures in
-    omega (
-      arith,
-      c.requires.place_in_bounds,
-      frame-long s c.args.place x p e,
-      in_order s c.args.place x p e,
-      in-stream s c.args.place x p e,
-      length-set
-          c.args.out.now c.args.at mark,
-    )
-
-pub slice_bounds-copy-start : goal.slice_bounds-copy-start
-slice_bounds-copy-start c =
-    let s = c.args.stream.now in
-    let x = c.requires.stretch in
-    let p = c.next_span-span.result in
-    let e = c.next_span-span.ensures in
-    omega (
-      arith,
-      c.requires.place_in_bounds,
-      frame-long s c.args.place x p e,
-      in_order s c.args.place x p e,
-      in-stream s c.args.place x p e,
-      length-set
-          c.args.out.now c.args.at mark,
-    )
-
-pub slice_bounds-copy-end : goal.slice_bounds-copy-end
-slice_bounds-copy-end c =
     let s = c.args.stream.now in
     let x = c.requires.stretch in
     let p = c.next_span-span.result in
@@ -102,56 +51,8 @@ slice_bounds-copy-start-2 c =
       length-set c.args.out.now c.args.at mark,
     )
 
-pub overflow_sub-end : goal.overflow_sub-end
-overflow_sub-end c =
-    let s = c.args.stream.now in
-    let x = c.requires.stretch in
-    let p = c.next_span-span.result in
-    let e = c.next_span-span.ensures in
-    omega (
-      arith,
-      c.requires.place_in_bounds,
-      frame-long s c.args.place x p e,
-      in_order s c.args.place x p
-          e,
-      in-stream s c.args.place x p e,
-      length-set c.args.out.now c.args.at mark,
-    )
-
-pub overflow_add-end : goal.overflow_add-end
-overflow_add-end c =
-    let s = c.args.stream.now in
-    let x = c.requires.stretch in
-    let p = c.next_span-span.result in
-    let e = c.next_span-span.ensures in
-    omega (
-      arith,
-      c.requires.place_in_bounds,
-      frame-long s c.args.place x p e,
-      in_order s c.args.place x p
-          e,
-      in-stream s c.args.place x p e,
-      length-set c.args.out.now c.args.at mark,
-    )
-
 pub bounds-out-end : goal.bounds-out-end
 bounds-out-end c =
-    let s = c.args.stream.now in
-    let x = c.requires.stretch in
-    let p = c.next_span-span.result in
-    let e = c.next_span-span.ensures in
-    omega (
-      arith,
-      c.requires.place_in_bounds,
-      frame-long s c.args.place x p e,
-      in_order s c.args.place x p
-          e,
-      in-stream s c.args.place x p e,
-      length-set c.args.out.now c.args.at mark,
-    )
-
-pub overflow_add-result : goal.overflow_add-result
-overflow_add-result c =
     let s = c.args.stream.now in
     let x = c.requires.stretch in
     let p = c.next_span-span.result in

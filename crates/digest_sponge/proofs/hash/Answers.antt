@@ -1,28 +1,17 @@
 -- `hash` meets its promise: the message taken up, and then the outputs. Assumes nothing.
-use mathlib.Core.Path.{sym, ◌∙◌}
+use Rattle.std.proofs.Common.{◌≡◌, true}
+use Rattle.digest_spec.specs.Instances.{unknown}
 use Rattle.digest_sponge.specs.Parts.{hash_of}
-use Rattle.digest_sponge.proofs.Parting.{shape-fits, shape-makes, message-hashed}
+use Rattle.digest_sponge.proofs.Parting.{message-hashed}
 use Rattle.digest_sponge.proofs.hash.Goals as goal
 
-pub returns-then-is_unknown : goal.returns-then-is_unknown
+pub returns-in_default : goal.returns-in_default
 unfolding hash_of
-returns-then-is_unknown c = rw (sym c.is_unknown.ensures ∙ c.if-is_unknown.true)
-
-pub absorb-s-requires : goal.absorb-s-requires
-absorb-s-requires c = shape-fits c.args.instance (sym c.is_unknown.ensures ∙ c.if-is_unknown.false)
-    c.shape_of-shape.ensures
-
-pub squeeze-requires : goal.squeeze-requires
-squeeze-requires c = (
-  shape-fits c.args.instance
-      (sym c.is_unknown.ensures ∙ c.if-is_unknown.false) c.shape_of-shape.ensures,
-  shape-makes
-      c.args.instance (sym c.is_unknown.ensures ∙ c.if-is_unknown.false)
-      c.shape_of-shape.ensures,
-)
+returns-in_default c =
+    let none : unknown c.args.instance ≡ true = rw c.in_default.is at c.of.ensures in
+    rw none
 
 pub returns : goal.returns
 returns c =
-    message-hashed c.args.instance (sym c.is_unknown.ensures ∙
-    c.if-is_unknown.false) c.shape_of-shape.ensures c.args.message.now
-    c.absorb-s.result c.absorb-s.ensures c.squeeze.ensures
+    let e = c.in-Some.ensures in
+    message-hashed c.args.instance e.0 (e.1, e.2, e.3) c.args.message.now c.absorb-s.result c.absorb-s.ensures c.squeeze.ensures

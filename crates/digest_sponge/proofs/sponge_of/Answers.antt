@@ -1,15 +1,17 @@
 -- `sponge_of` meets its promise: the table's row of a known instance. Assumes nothing.
-use mathlib.Core.Path.{sym, ◌∙◌}
+use Rattle.std.proofs.Common.{◌≡◌, true}
+use Rattle.digest_spec.specs.Instances.{unknown}
 use Rattle.digest_sponge.specs.Parts.{sponge_of}
 use Rattle.digest_sponge.proofs.sponge_of.Goals as goal
 
-pub returns-then-is_unknown : goal.returns-then-is_unknown
+pub returns-in_default : goal.returns-in_default
 unfolding sponge_of
-returns-then-is_unknown c =
-    rw (sym c.is_unknown.ensures ∙ c.if-is_unknown.true)
+returns-in_default c =
+    let none : unknown c.args.instance ≡ true = rw c.in_default.is at c.of.ensures in
+    rw none
 
 pub returns : goal.returns
 unfolding sponge_of
 returns c =
-    let e = c.shape_of.ensures in rw (sym c.is_unknown.ensures ∙ c.if-is_unknown.false)
-    (λ i. record { size = e.0 i; rate = e.1 i; outputs = e.2 i })
+    let e = c.in-Some.ensures in
+    rw e.0 (λ i. record { size = e.1 i; rate = e.2 i; outputs = e.3 i })

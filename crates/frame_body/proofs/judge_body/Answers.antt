@@ -5,12 +5,6 @@ use native.Mathlib.Omega.{arith}
 use Rattle.frame_body.proofs.Judging.{edition-one, edition-two}
 use Rattle.frame_body.proofs.judge_body.Goals as goal
 
-pub field_at-behind-requires : goal.field_at-behind-requires
-field_at-behind-requires c = c.field_at-digest.ensures.near
-
-pub field_at-cipher-requires : goal.field_at-cipher-requires
-field_at-cipher-requires c = c.field_at-behind.ensures.near
-
 pub returns-then-cipher-b : goal.returns-then-cipher-b
 returns-then-cipher-b c =
     let d = c in

@@ -5,16 +5,13 @@ use Rattle.base_fields.specs.Laying.{laid_none, laid_more, laid-room}
 use Rattle.frame_put.proofs.Laying.{associated-whole, room-alone}
 use Rattle.frame_put.specs.Outcomes.{associated-refused, associated-small}
 use Rattle.frame_put.specs.Fitting.{associated-sized}
-use Rattle.frame_body.proofs.Lengths.{job-field-most, length-associated}
+use Rattle.frame_body.proofs.Lengths.{length-associated}
 use Rattle.frame_put.proofs.put_associated.Goals as goal
 
 pub returns-then-not-fit_associated : goal.returns-then-not-fit_associated
 returns-then-not-fit_associated c =
     let told = associated-refused _ _ _ _ (sym c.fit_associated.ensures ∙ c.if-not-fit_associated.true) in
     record { value = sym told.0; out_after = sym told.1 }
-
-pub overflow_add-job_field_length : goal.overflow_add-job_field_length
-overflow_add-job_field_length c = omega (arith, c.job_field_length.ensures, job-field-most c.args.edition)
 
 pub returns-then-out-job_field_length : goal.returns-then-out-job_field_length
 returns-then-out-job_field_length c =

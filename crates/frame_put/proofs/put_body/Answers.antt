@@ -4,7 +4,7 @@ use native.Mathlib.Omega.{arith}
 use Rattle.frame_put.specs.Outcomes.{put_refused, put_small}
 use Rattle.base_fields.specs.Laying.{laid-room}
 use Rattle.frame_put.proofs.Laying.{ready, room-associated, laid_nonce, laid_associated, laid_cipher, laid_seal, put_whole}
-use Rattle.frame_body.proofs.Lengths.{job-field-most, length-body}
+use Rattle.frame_body.proofs.Lengths.{length-body}
 use Rattle.frame_put.specs.Fitting.{fitting-sized}
 use Rattle.frame_body.specs.Fields.{own_of}
 use Rattle.frame_put.proofs.put_body.Goals as goal
@@ -12,15 +12,6 @@ use Rattle.frame_put.proofs.put_body.Goals as goal
 pub returns-then-not-fit : goal.returns-then-not-fit
 returns-then-not-fit c =
     let told = put_refused _ _ _ _ _ (sym c.fit.ensures ∙ c.if-not-fit.true) in record { value = sym told.0; out_after = sym told.1 }
-
-pub overflow_add-job_field_length : goal.overflow_add-job_field_length
-overflow_add-job_field_length c = omega (arith, c.job_field_length.ensures, job-field-most c.args.edition)
-
-pub overflow_add-job_field_length-2 : goal.overflow_add-job_field_length-2
-overflow_add-job_field_length-2 c =
-    let own = own_of c.args.edition c.args.nonce.now c.args.job.now in
-    let z = fitting-sized own c.args.digest.now c.args.cipher.now c.args.seal.now (sym c.fit.ensures ∙ c.if-not-fit.false) in
-    omega (arith, c.job_field_length.ensures, job-field-most c.args.edition, z.cipher-to)
 
 pub returns-then-out-job_field_length : goal.returns-then-out-job_field_length
 returns-then-out-job_field_length c =

@@ -8,15 +8,8 @@ use Rattle.line_spec.specs.Lines.{longest}
 use Rattle.frame_body.specs.declared.Edition.TheVariants.{One, Two}
 use Rattle.frame_body.specs.Fields.{seal_length}
 use Rattle.frame_body.specs.Lengths.{associated_length, longest_body}
-use Rattle.frame_body.proofs.Lengths.{job-field-most}
 use Rattle.frame_write.proofs.Sealing.{associated-put, sealed-text, sealed-seal, body-put}
 use Rattle.frame_write.proofs.sealed_body.Goals as goal
-
-pub overflow_add-length : goal.overflow_add-length
-overflow_add-length c = omega (arith, c.job_field_length-length.ensures, job-field-most c.args.edition)
-
-pub slice_bounds-seal-end : goal.slice_bounds-seal-end
-slice_bounds-seal-end c = omega (arith, c.job_field_length-length.ensures, job-field-most c.args.edition)
 
 -- what each call leaves: the associated data, the ciphertext and the seal, and so the body
 pub returns : goal.returns

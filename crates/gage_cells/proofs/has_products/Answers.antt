@@ -1,39 +1,28 @@
-use mathlib.Core.Path.{◌≡◌, sym, ◌∙◌}
-use Prim.Native.Nat.{ℕ, ◌/◌, ◌%◌, ◌-◌, ◌<◌}
-use native.Mathlib.Omega.{arith}
-use borrow.Author.Tests.{eq-eqb, ne_eqb}
-use Rattle.gage_cells.specs.Cells.{table, star}
+-- `has_products` meets its promise: the pairs are tested one by one, each against the product that the formula gives. Assumes nothing.
+use Rattle.std.proofs.Common.{◌≡◌, refl, ◌∙◌, Bool, true, false, ◌&&◌, ℕ, zero, suc, ◌+◌, ◌≤◌, ◌/◌, ◌%◌, List, eqb, add-one, arith, rules, tests}
+use Rattle.std.specs.Prelude.{replicate}
+use Rattle.std.specs.List.{list_all, range_with_len}
+use Rattle.std.proofs.lemmas.Iterator.{YieldsList-from_range}
+use Rattle.std.proofs.lemmas.Iterator.Search.{all_from_yields_List}
+use Rattle.base_lists.specs.Table.{both, every}
+use Rattle.gage_cells.specs.Cells.{star}
 use Rattle.gage_cells.specs.Pair.{product, product_is}
-use Rattle.gage_cells.specs.Products.{products-none, products-more, products-differ, products-all}
-use borrow.Author.Rules.{rules}
+use Rattle.gage_cells.specs.Products.{pair_same, has_products}
 use Rattle.gage_cells.proofs.has_products.Goals as goal
 
--- both numbers of a pair are cells
-small : (i : ℕ) → i < 16 → {r : ℕ} → r ≡ product (i / 4) (i % 4) → r ≡ star table (i / 4) (i % 4)
-small i h e = e ∙ product_is (i / 4) (i % 4) (omega arith) (omega arith)
+-- pair k of the table is the one that the formula gives
+abbrev given : List (List ℕ) → ℕ → Bool
+given t k = eqb (star t (k / 4) (k % 4)) (product (k / 4) (k % 4))
 
-pub loop-i-init : goal.loop-i-init
-loop-i-init c = (search rules, products-none _)
-
-pub returns-then-t-x : goal.returns-then-t-x
-returns-then-t-x c =
-    let i = c.loop-i.i in
-    let t = c.args.t in
-    sym
-    (c.loop-i.invariant.1
-    ∙ products-differ t i (search rules)
-    (ne_eqb (star t (i / 4) (i % 4)) (star table (i / 4) (i % 4)) (λ e. c.if-t-x.true (e ∙ sym (small i (search rules) c.star.ensures)))))
-
-pub loop-i-preserved : goal.loop-i-preserved
-loop-i-preserved c =
-    let i = c.loop-i.i in
-    let t = c.args.t in (
-      search rules,
-      c.loop-i.invariant.1
-          ∙ products-more t i (search rules)
-          (eq-eqb (star t (i / 4) (i % 4)) (star table (i / 4) (i % 4)) (c.if-t-x.false ∙ small i (search rules) c.star.ensures)),
-    )
+tested : (t : List (List ℕ)) (i n : ℕ) → i + n ≤ 16 → list_all (given t) (range_with_len i n) ≡ every (pair_same t) i (replicate n 0)
+tested t i zero h = refl
+tested t i (suc n) h = rw (product_is (i / 4) (i % 4) (omega arith) (omega arith), add-one i) (by (pair_same t i 0) (tested t (suc i) n (omega arith)))
+  where
+    by : (x : Bool) {u v : Bool} → u ≡ v → (x && u) ≡ both x v
+    by true e = e
+    by false e = refl
 
 pub returns : goal.returns
+unfolding has_products
 returns c =
-    sym (c.loop-i.invariant.1 ∙ products-all c.args.t c.loop-i.i (search rules))
+    all_from_yields_List (given c.args.t) _ _ _ c.all.ensures.ran (YieldsList-from_range 0 16 16 (cc) refl) (λ x b q k. search (rules, tests)) ∙ tested c.args.t 0 16 (omega arith)

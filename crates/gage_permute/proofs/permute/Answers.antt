@@ -9,16 +9,16 @@ use Rattle.gage_permute.proofs.permute.Goals as goal
 pub returns-in_default : goal.returns-in_default
 returns-in_default c =
     let start = c in
-    refused permute start.args.s start.args.n start.args.k c.judge-answer.result c.judge-answer.ensures c.in_default.not-Done
+    refused permute start.args.s start.args.n start.args.k c.judge-answer.result c.judge-answer.ensures (c.in_default.not-Ok tt)
 
 pub turned-state-requires : goal.turned-state-requires
 turned-state-requires c =
     let start = c in
-    let done = sym c.judge-answer.ensures ∙ c.in-Done.is in
+    let done = sym c.judge-answer.ensures ∙ c.in-Ok.is in
     (done, (allowed start.args.n start.args.k done).2)
 
 pub returns : goal.returns
 returns c =
     let start = c in
     let judged = c.judge-answer in
-    done permute start.args.s start.args.n start.args.k judged.result judged.ensures c.in-Done.is c.turned-state.ensures
+    done permute start.args.s start.args.n start.args.k judged.result judged.ensures c.in-Ok.is c.turned-state.ensures

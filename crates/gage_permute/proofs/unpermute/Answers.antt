@@ -10,16 +10,16 @@ use Rattle.gage_permute.proofs.unpermute.Goals as goal
 pub returns-in_default : goal.returns-in_default
 returns-in_default c =
     let start = c in
-    refused unpermute start.args.s start.args.n start.args.k c.judge-answer.result c.judge-answer.ensures c.in_default.not-Done
+    refused unpermute start.args.s start.args.n start.args.k c.judge-answer.result c.judge-answer.ensures (c.in_default.not-Ok tt)
 
 pub unturned-state-requires : goal.unturned-state-requires
 unturned-state-requires c =
     let start = c in
-    let size = allowed start.args.n start.args.k (sym c.judge-answer.ensures ∙ c.in-Done.is) in
+    let size = allowed start.args.n start.args.k (sym c.judge-answer.ensures ∙ c.in-Ok.is) in
     (omega (arith, size.1), size.2, size.3, size.4)
 
 pub returns : goal.returns
 returns c =
     let start = c in
     let judged = c.judge-answer in
-    done unpermute start.args.s start.args.n start.args.k judged.result judged.ensures c.in-Done.is c.unturned-state.ensures
+    done unpermute start.args.s start.args.n start.args.k judged.result judged.ensures c.in-Ok.is c.unturned-state.ensures

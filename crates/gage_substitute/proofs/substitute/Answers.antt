@@ -13,6 +13,6 @@ returns c =
     let start = c in
     let l = start.args.leader % 4 in
     put_first (substitute table l) (length-substitute table l) start.args.n _ start.args.s (replicate WIDE 0) (search rules) (search rules)
-    c.within-first.ensures _ _ _
+    c.min-first.ensures _ _ _
     c.copy.ensures
     c.substitute_wide-out.ensures c.copy-2.ensures

@@ -1,12 +1,9 @@
 use mathlib.Core.Path.{refl, sym}
 use lib.ListN.{take}
 use lib.Seq.{length-take-le, get_or-take}
-use Rattle.gage_cells.specs.Wide.{substituting-none, substituting-more, substituted-first}
+use Rattle.gage_cells.specs.Wide.{substituting-more, substituted-first}
 use borrow.Author.Rules.{rules}
 use Rattle.gage_substitute.proofs.substitute_wide.Goals as goal
-
-pub loop-i-init : goal.loop-i-init
-loop-i-init c = (search rules, substituting-none _ _ _)
 
 pub loop-i-preserved : goal.loop-i-preserved
 loop-i-preserved c = (search rules, substituting-more _ _ c.loop-i.invariant.1 (search rules) refl c.substituted_byte.ensures)

@@ -1,5 +1,5 @@
 use mathlib.Core.Path.{sym, ap, ◌∙◌}
-use mathlib.Core.List.{List, [], ◌∷◌}
+use mathlib.Core.List.{List}
 use Prim.Native.Nat.{ℕ}
 use Rattle.base_lists.specs.Below.{below_all}
 use Rattle.gage_planes_spec.specs.Told.{mixed}
@@ -16,7 +16,7 @@ returns-then-block-eq1 c =
     let block = start.args.block.now in
     let small = below_all 256 block (λ k h. omega (arith, c.type_inv.block k)) in
     let is = c.mix_byte.ensures
-    ∙ ap (λ (bs : List ℕ). mixed bs start.args.t) (ap (λ (x : ℕ). x ∷ []) c.wide.ensures ∙ sym (lone block (search rules))) in record { state = is; bytes = mixed-in block start.args.t _ small is }
+    ∙ ap (λ (bs : List ℕ). mixed bs start.args.t) (sym (lone block (search rules))) in record { state = is; bytes = mixed-in block start.args.t _ small is }
 
 -- src/lib.rt:211:1
 pub returns : goal.returns

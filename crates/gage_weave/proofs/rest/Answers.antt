@@ -22,6 +22,6 @@ pub returns : goal.returns
 returns c =
     let start = c in
     let s = start.args.s.now in
-    c.woven.ensures ∙ ap woven (c.word_of.ensures ∙ ap joined (take-least s _ c.least-end.ensures
+    c.woven.ensures ∙ ap woven (c.word_of.ensures ∙ ap joined (take-least s _ c.min-end.ensures
     (omega (arith, c.if-s-le-LOW.false))))
     ∙ rest-woven (take (ROOM - LOW) (drop LOW s))

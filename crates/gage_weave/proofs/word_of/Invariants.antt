@@ -1,12 +1,7 @@
--- `word_of` meets its promise. The invariant: the bytes from i on are joined; the measure: i. Assumes nothing.
-use mathlib.Core.Path.{◌≡◌}
-use Prim.Native.Nat.{◌≤◌}
-use lib.ListN.{length, drop}
+-- `word_of` meets its promise. The invariant: the bytes behind those that are left are joined. Assumes nothing.
+use Rattle.std.proofs.Common.{◌≡◌, List, ℕ, ◌++◌}
 use Rattle.base_digits.specs.Joined.{joined}
 use Rattle.gage_weave.proofs.word_of.Given as goal
 
-abbrev pub invariant-loop-i : goal.invariant-loop-i
-invariant-loop-i l = (l.i ≤ length l.block) × (l.w ≡ joined (drop l.i l.block))
-
-abbrev pub decreases-loop-i : goal.decreases-loop-i
-decreases-loop-i l = l.i
+abbrev pub invariant-loop-b : goal.invariant-loop-b
+invariant-loop-b l = (done : List ℕ) × (l.block ≡ l.b-iterator.iter.rest.now ++ done) × (l.w ≡ joined done)

@@ -1,11 +1,7 @@
 use native.Mathlib.Omega.{arith}
 use Rattle.frame_spec.specs.Told.{told}
-use Rattle.index_call.proofs.Walking.{walked_none, walked-length, ahead, walked_more, walked_all}
+use Rattle.index_call.proofs.Walking.{ahead, walked_more, walked_all}
 use Rattle.index_call.proofs.add.Goals as goal
-
-pub loop-i-init : goal.loop-i-init
-loop-i-init c =
-    λ k. walked_none (told c.args.key.now c.args.font.now c.args.layout) c.args.editions c.args.stream.now c.args.from c.args.n k c.args.table.now c.args.count
 
 pub next_entry-next-requires : goal.next_entry-next-requires
 next_entry-next-requires c =
@@ -13,20 +9,6 @@ next_entry-next-requires c =
     ahead (told c.args.key.now c.args.font.now c.args.layout) c.args.editions c.args.stream.now c.args.from c.args.n
     c.requires.adding c.args.table.now c.args.count l.table l.at l.i
     (l.invariant c.requires.adding) c.loop-i-test.true
-
-pub bounds-table-count : goal.bounds-table-count
-bounds-table-count c =
-    let l = c.loop-i in
-    omega (
-      arith,
-      c.loop-i-test.true,
-      c.requires.n_in_bounds,
-      walked-length
-          (told c.args.key.now c.args.font.now c.args.layout) c.args.editions c.args.stream.now c.args.from c.args.n
-          c.requires.adding c.args.table.now c.args.count
-          c.requires.n_in_bounds l.table l.at l.i
-          (l.invariant c.requires.adding),
-    )
 
 pub loop-i-preserved : goal.loop-i-preserved
 loop-i-preserved c =

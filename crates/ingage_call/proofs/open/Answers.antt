@@ -8,25 +8,25 @@ use Rattle.ingage_answers.specs.Exactly.{Within}
 use borrow.Author.Rules.{rules}
 use mathlib.Core.Path.{◌≡◌, sym, ◌∙◌}
 use Rattle.ingage_call.proofs.open.Goals as goal
-use Rattle.ingage_call.proofs.open.Goals.{Else-out-cipher, In-Known}
+use Rattle.ingage_call.proofs.open.Goals.{Else-out-cipher, In-Some}
 
-abbrev z-of : In-Known → Instance
-z-of k = k.in-Known.z
+abbrev z-of : In-Some → Instance
+z-of k = k.in-Some.z
 
-fits : (k : In-Known) → Fitting (z-of k)
-fits k = fits-known k.args.instance k.sizes_of.ensures k.in-Known.is
+fits : (k : In-Some) → Fitting (z-of k)
+fits k = fits-known k.args.instance k.sizes_of.ensures k.in-Some.is
 
 -- what the call at that instance is, the call with its number is
-known : (k : In-Known) {x : OpenCall} → open_call (z-of k) k.args.key.now k.args.nonce.now k.args.assoc.now
+known : (k : In-Some) {x : OpenCall} → open_call (z-of k) k.args.key.now k.args.nonce.now k.args.assoc.now
     k.args.cipher.now k.args.seal.now k.args.out.now ≡ x
     → open_named (named k.args.instance) k.args.key.now k.args.nonce.now k.args.assoc.now
     k.args.cipher.now k.args.seal.now k.args.out.now ≡ x
 known k h = open-known k.args.instance k.sizes_of.ensures k.args.key.now k.args.nonce.now
-    k.args.assoc.now k.args.cipher.now k.args.out.now k.args.seal.now k.in-Known.is h
+    k.args.assoc.now k.args.cipher.now k.args.out.now k.args.seal.now k.in-Some.is h
 
-inside : (c : Else-out-cipher) → Within c.in-Known.z c.args.key.now c.args.nonce.now c.args.assoc.now
+inside : (c : Else-out-cipher) → Within c.in-Some.z c.args.key.now c.args.nonce.now c.args.assoc.now
     c.args.cipher.now c.args.seal.now c.args.out.now
-inside c = within c.in-Known.z c.args.key.now c.args.nonce.now c.args.assoc.now
+inside c = within c.in-Some.z c.args.key.now c.args.nonce.now c.args.assoc.now
     c.args.cipher.now c.args.out.now c.args.seal.now
     (sym c.is_sized.ensures ∙ c.if-not-is_sized.false)
     (sym c.is_too_long.ensures ∙ c.if-is_too_long.false) c.if-out-cipher.false
@@ -42,33 +42,33 @@ returns-in_default c = let met = open-met (open_unknown c.args.instance
     record { answer = met.0; message = met.1 }
 
 pub returns-then-not-is_sized : goal.returns-then-not-is_sized
-returns-then-not-is_sized c = let met = open-met (known (goal.at.returns-then-not-is_sized c).In-Known (open-sizes _ _ _ _ _ _ _ (sym c.is_sized.ensures ∙ c.if-not-is_sized.true))) in
+returns-then-not-is_sized c = let met = open-met (known (goal.at.returns-then-not-is_sized c).In-Some (open-sizes _ _ _ _ _ _ _ (sym c.is_sized.ensures ∙ c.if-not-is_sized.true))) in
     record { answer = met.0; message = met.1 }
 
 pub returns-then-is_too_long : goal.returns-then-is_too_long
-returns-then-is_too_long c = let met = open-met (known (goal.at.returns-then-is_too_long c).In-Known (open-long _ _ _ _ _ _ _ (sym c.is_sized.ensures ∙ c.if-not-is_sized.false) (sym c.is_too_long.ensures ∙ c.if-is_too_long.true))) in
+returns-then-is_too_long c = let met = open-met (known (goal.at.returns-then-is_too_long c).In-Some (open-long _ _ _ _ _ _ _ (sym c.is_sized.ensures ∙ c.if-not-is_sized.false) (sym c.is_too_long.ensures ∙ c.if-is_too_long.true))) in
     record { answer = met.0; message = met.1 }
 
 pub returns-then-out-cipher : goal.returns-then-out-cipher
-returns-then-out-cipher c = let met = open-met (known (goal.at.returns-then-out-cipher c).In-Known (open-room _ _ _ _ _ _ _ (sym c.is_sized.ensures
+returns-then-out-cipher c = let met = open-met (known (goal.at.returns-then-out-cipher c).In-Some (open-room _ _ _ _ _ _ _ (sym c.is_sized.ensures
     ∙ c.if-not-is_sized.false) (sym c.is_too_long.ensures ∙ c.if-is_too_long.false) c.if-out-cipher.true)) in
     record { answer = met.0; message = met.1 }
 
+pub invariant_of-opener : goal.invariant_of-opener
+invariant_of-opener c = record { fits = fits (goal.at.invariant_of-opener c).In-Some }
+
 pub begin-s-requires : goal.begin-s-requires
-begin-s-requires c = let w = inside (goal.at.begin-s-requires c).Else-out-cipher in (fits (goal.at.begin-s-requires c).In-Known, w.key-size, w.nonce-size)
+begin-s-requires c = let w = inside (goal.at.begin-s-requires c).Else-out-cipher in (w.key-size, w.nonce-size)
 
 pub pass-d-requires : goal.pass-d-requires
-pass-d-requires c = (fits (goal.at.pass-d-requires c).In-Known, (inside (goal.at.pass-d-requires c).Else-out-cipher).room)
-
-pub finish-f-requires : goal.finish-f-requires
-finish-f-requires c = fits (goal.at.finish-f-requires c).In-Known
+pass-d-requires c = (inside (goal.at.pass-d-requires c).Else-out-cipher).room
 
 pub seal_of-requires : goal.seal_of-requires
-seal_of-requires c = (fits (goal.at.seal_of-requires c).In-Known, held_in (z-of (goal.at.seal_of-requires c).In-Known) c.finish-f.result (fits (goal.at.seal_of-requires c).In-Known) (search rules))
+seal_of-requires c = held_in (z-of (goal.at.seal_of-requires c).In-Some) c.finish-f.result (fits (goal.at.seal_of-requires c).In-Some) (search rules)
 
 pub returns-then-not-compare : goal.returns-then-not-compare
 returns-then-not-compare c =
-    let met = open-met (known (goal.at.returns-then-not-compare c).In-Known (open-wrong (z-of (goal.at.returns-then-not-compare c).In-Known) (fits (goal.at.returns-then-not-compare c).In-Known) c.args.key.now c.args.nonce.now c.args.assoc.now
+    let met = open-met (known (goal.at.returns-then-not-compare c).In-Some (open-wrong (z-of (goal.at.returns-then-not-compare c).In-Some) (fits (goal.at.returns-then-not-compare c).In-Some) c.args.key.now c.args.nonce.now c.args.assoc.now
     c.args.cipher.now c.args.seal.now c.args.out.now (inside (goal.at.returns-then-not-compare c).Else-out-cipher) c.begin-s.result c.begin-s.ensures
     c.pass-d.result c.finish-f.result _ _ c.calls-count.result c.pass-d.ensures.state c.pass-d.ensures.text c.finish-f.ensures
     c.seal_of.ensures c.calls-count.ensures _
@@ -78,7 +78,7 @@ returns-then-not-compare c =
 
 pub returns : goal.returns
 returns c =
-    let met = open-met (known (goal.at.returns c).In-Known (open_done (z-of (goal.at.returns c).In-Known) (fits (goal.at.returns c).In-Known) c.args.key.now c.args.nonce.now c.args.assoc.now
+    let met = open-met (known (goal.at.returns c).In-Some (open_done (z-of (goal.at.returns c).In-Some) (fits (goal.at.returns c).In-Some) c.args.key.now c.args.nonce.now c.args.assoc.now
     c.args.cipher.now c.args.seal.now c.args.out.now (inside (goal.at.returns c).Else-out-cipher) c.begin-s.result c.begin-s.ensures
     c.pass-d.result c.finish-f.result _ _ c.calls-count.result c.pass-d.ensures.state c.pass-d.ensures.text c.finish-f.ensures
     c.seal_of.ensures c.calls-count.ensures (sym c.compare.ensures ∙ c.if-not-compare.false))) in

@@ -7,25 +7,25 @@ use Rattle.ingage_answers.specs.Exactly.{Within}
 use borrow.Author.Rules.{rules}
 use mathlib.Core.Path.{◌≡◌, sym, ◌∙◌}
 use Rattle.ingage_call.proofs.seal.Goals as goal
-use Rattle.ingage_call.proofs.seal.Goals.{Else-out-message, In-Known}
+use Rattle.ingage_call.proofs.seal.Goals.{Else-out-message, In-Some}
 
-abbrev z-of : In-Known → Instance
-z-of k = k.in-Known.z
+abbrev z-of : In-Some → Instance
+z-of k = k.in-Some.z
 
-fits : (k : In-Known) → Fitting (z-of k)
-fits k = fits-known k.args.instance k.sizes_of.ensures k.in-Known.is
+fits : (k : In-Some) → Fitting (z-of k)
+fits k = fits-known k.args.instance k.sizes_of.ensures k.in-Some.is
 
 -- what the call at that instance is, the call with its number is
-known : (k : In-Known) {x : SealCall} → seal_call (z-of k) k.args.key.now k.args.nonce.now k.args.assoc.now
+known : (k : In-Some) {x : SealCall} → seal_call (z-of k) k.args.key.now k.args.nonce.now k.args.assoc.now
     k.args.message.now k.args.out.now k.args.seal.now ≡ x
     → seal_named (named k.args.instance) k.args.key.now k.args.nonce.now k.args.assoc.now
     k.args.message.now k.args.out.now k.args.seal.now ≡ x
 known k h = seal-known k.args.instance k.sizes_of.ensures k.args.key.now k.args.nonce.now
-    k.args.assoc.now k.args.message.now k.args.out.now k.args.seal.now k.in-Known.is h
+    k.args.assoc.now k.args.message.now k.args.out.now k.args.seal.now k.in-Some.is h
 
-inside : (c : Else-out-message) → Within c.in-Known.z c.args.key.now c.args.nonce.now c.args.assoc.now
+inside : (c : Else-out-message) → Within c.in-Some.z c.args.key.now c.args.nonce.now c.args.assoc.now
     c.args.message.now c.args.seal.now c.args.out.now
-inside c = within c.in-Known.z c.args.key.now c.args.nonce.now c.args.assoc.now
+inside c = within c.in-Some.z c.args.key.now c.args.nonce.now c.args.assoc.now
     c.args.message.now c.args.out.now c.args.seal.now
     (sym c.is_sized.ensures ∙ c.if-not-is_sized.false)
     (sym c.is_too_long.ensures ∙ c.if-is_too_long.false) c.if-out-message.false
@@ -41,33 +41,33 @@ returns-in_default c = let met = seal-met (seal-unknown c.args.instance
     record { answer = met.0; ciphertext = met.1; seal = met.2 }
 
 pub returns-then-not-is_sized : goal.returns-then-not-is_sized
-returns-then-not-is_sized c = let met = seal-met (known (goal.at.returns-then-not-is_sized c).In-Known (seal-sizes _ _ _ _ _ _ _ (sym c.is_sized.ensures ∙ c.if-not-is_sized.true))) in
+returns-then-not-is_sized c = let met = seal-met (known (goal.at.returns-then-not-is_sized c).In-Some (seal-sizes _ _ _ _ _ _ _ (sym c.is_sized.ensures ∙ c.if-not-is_sized.true))) in
     record { answer = met.0; ciphertext = met.1; seal = met.2 }
 
 pub returns-then-is_too_long : goal.returns-then-is_too_long
-returns-then-is_too_long c = let met = seal-met (known (goal.at.returns-then-is_too_long c).In-Known (seal-long _ _ _ _ _ _ _ (sym c.is_sized.ensures ∙ c.if-not-is_sized.false) (sym c.is_too_long.ensures ∙ c.if-is_too_long.true))) in
+returns-then-is_too_long c = let met = seal-met (known (goal.at.returns-then-is_too_long c).In-Some (seal-long _ _ _ _ _ _ _ (sym c.is_sized.ensures ∙ c.if-not-is_sized.false) (sym c.is_too_long.ensures ∙ c.if-is_too_long.true))) in
     record { answer = met.0; ciphertext = met.1; seal = met.2 }
 
 pub returns-then-out-message : goal.returns-then-out-message
-returns-then-out-message c = let met = seal-met (known (goal.at.returns-then-out-message c).In-Known (seal-room _ _ _ _ _ _ _ (sym c.is_sized.ensures
+returns-then-out-message c = let met = seal-met (known (goal.at.returns-then-out-message c).In-Some (seal-room _ _ _ _ _ _ _ (sym c.is_sized.ensures
     ∙ c.if-not-is_sized.false) (sym c.is_too_long.ensures ∙ c.if-is_too_long.false) c.if-out-message.true)) in
     record { answer = met.0; ciphertext = met.1; seal = met.2 }
 
+pub invariant_of-sealer : goal.invariant_of-sealer
+invariant_of-sealer c = record { fits = fits (goal.at.invariant_of-sealer c).In-Some }
+
 pub begin-s-requires : goal.begin-s-requires
-begin-s-requires c = let w = inside (goal.at.begin-s-requires c).Else-out-message in (fits (goal.at.begin-s-requires c).In-Known, w.key-size, w.nonce-size)
+begin-s-requires c = let w = inside (goal.at.begin-s-requires c).Else-out-message in (w.key-size, w.nonce-size)
 
 pub pass-e-requires : goal.pass-e-requires
-pass-e-requires c = (fits (goal.at.pass-e-requires c).In-Known, (inside (goal.at.pass-e-requires c).Else-out-message).room)
-
-pub finish-f-requires : goal.finish-f-requires
-finish-f-requires c = fits (goal.at.finish-f-requires c).In-Known
+pass-e-requires c = (inside (goal.at.pass-e-requires c).Else-out-message).room
 
 pub seal_of-requires : goal.seal_of-requires
-seal_of-requires c = (fits (goal.at.seal_of-requires c).In-Known, held_in (z-of (goal.at.seal_of-requires c).In-Known) c.finish-f.result (fits (goal.at.seal_of-requires c).In-Known) (search rules))
+seal_of-requires c = held_in (z-of (goal.at.seal_of-requires c).In-Some) c.finish-f.result (fits (goal.at.seal_of-requires c).In-Some) (search rules)
 
 pub returns : goal.returns
 returns c =
-    let met = seal-met (known (goal.at.returns c).In-Known (seal-done (z-of (goal.at.returns c).In-Known) (fits (goal.at.returns c).In-Known) c.args.key.now c.args.nonce.now c.args.assoc.now
+    let met = seal-met (known (goal.at.returns c).In-Some (seal-done (z-of (goal.at.returns c).In-Some) (fits (goal.at.returns c).In-Some) c.args.key.now c.args.nonce.now c.args.assoc.now
     c.args.message.now c.args.seal.now c.args.out.now (inside (goal.at.returns c).Else-out-message) c.begin-s.result c.begin-s.ensures
     c.pass-e.result c.finish-f.result _ _ _ c.calls.result c.pass-e.ensures.state c.pass-e.ensures.text c.finish-f.ensures
     c.seal_of.ensures c.copy.ensures c.calls.ensures)) in

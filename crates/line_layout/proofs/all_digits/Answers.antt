@@ -1,19 +1,21 @@
-use mathlib.Core.Path.{refl, sym, ◌∙◌}
-use Rattle.line_layout.proofs.Steps.{digits-on, digits-stop, digits-end}
+-- `all_digits` meets its promise: what `all` answers is what the recursion over the bytes says. Assumes nothing.
+use Rattle.std.proofs.Common.{◌≡◌, ◌∙◌, refl, Bool, true, false, cond, ◌&&◌, List, ℕ, rules, tests}
+use Rattle.std.specs.List.{list_all}
+use Rattle.std.proofs.lemmas.Iterator.{YieldsList-from_slice}
+use Rattle.std.proofs.lemmas.Iterator.Search.{all_from_yields_List}
+use Rattle.std.proofs.lemmas.List.Recursion.{same_from_clauses}
+use Rattle.line_spec.specs.Lines.{is_digit, all_digits}
 use Rattle.line_layout.proofs.all_digits.Goals as goal
 
-pub loop-i-init : goal.loop-i-init
-loop-i-init c = refl
+both : (t u : Bool) → (t && u) ≡ cond t u false
+both true u = refl
+both false u = refl
 
-pub returns-then-not-is_digit : goal.returns-then-not-is_digit
-returns-then-not-is_digit c =
-    sym (digits-stop _ _ c.loop-i-test.true (sym c.is_digit.ensures ∙ c.if-not-is_digit.true))
-    ∙ c.loop-i.invariant
-
-pub loop-i-preserved : goal.loop-i-preserved
-loop-i-preserved c =
-    sym (digits-on _ _ c.loop-i-test.true (sym c.is_digit.ensures ∙ c.if-not-is_digit.false))
-    ∙ c.loop-i.invariant
+listed_so : (s : List ℕ) → list_all is_digit s ≡ all_digits s
+unfolding all_digits
+listed_so = same_from_clauses (list_all is_digit) all_digits (λ b r. cond (is_digit b) r false) refl (λ b s. both (is_digit b) (list_all is_digit s)) (λ _ _. refl)
 
 pub returns : goal.returns
-returns c = sym (digits-end _ _ c.loop-i-test.false) ∙ c.loop-i.invariant
+returns c =
+    all_from_yields_List is_digit _ _ _ c.all.ensures.ran (YieldsList-from_slice c.args.part.now cc) (λ x b q k. search (rules, tests))
+    ∙ listed_so c.args.part.now

@@ -1,7 +1,8 @@
 -- `step` meets its promise: the event at the place reached, by its kind. Assumes nothing.
+use Rattle.std.specs.Prelude.{Err}
 use Rattle.frame_spec.specs.Told.{told}
 use Rattle.replay_spec.specs.declared.Kind.TheVariants.{Received, Asked, Printed, Bad}
-use Rattle.replay_spec.specs.declared.Answer.TheVariants.{Field}
+use Rattle.replay_spec.specs.declared.ReplayFault.TheVariants.{Field}
 use Rattle.replay_spec.specs.Events.{bytes_of}
 use Rattle.replay_spec.specs.Answers.{judging}
 use Rattle.replay_call.proofs.Keeping.{kept-failed, kept-printed, moved, moved-sound, step_kept, received-inside, printed-inside}
@@ -77,4 +78,4 @@ returns-in-Bad c =
     let e = c.event_at-e.result in
     rw c.fail.ensures (step_kept (judging (told c.args.key.now c.args.font.now c.args.layout) c.args.editions) c.args.trace.now
     c.args.s c.args.buf.now _ _ e c.event_at-e.ensures Bad c.in-Bad.is
-    (kept-failed Field (moved c.args.s e) c.args.buf.now (moved-sound c.args.s e c.args.buf.now c.requires.sound)))
+    (kept-failed (Err Field) (moved c.args.s e) c.args.buf.now (moved-sound c.args.s e c.args.buf.now c.requires.sound)))

@@ -1,7 +1,8 @@
 -- `stood` meets its promise: 2, 4, nothing at event 0, or what stands behind the events before. Assumes nothing.
+use Rattle.std.specs.Prelude.{Result, ⊤}
 use mathlib.Core.Path.{sym, ap, ◌∙◌}
 use Rattle.frame_spec.specs.Told.{told}
-use Rattle.replay_spec.specs.declared.Answer.{Answer}
+use Rattle.replay_spec.specs.declared.ReplayFault.{ReplayFault}
 use Rattle.replay_spec.specs.Press.{is_done}
 use Rattle.replay_spec.specs.Answers.{none_stood}
 use Rattle.replay_call.proofs.Answering.{not-refused, stood-refused, stood-zero, stood-ran}
@@ -11,7 +12,7 @@ pub returns-then-not-is_done : goal.returns-then-not-is_done
 returns-then-not-is_done c =
     let t = told c.args.key.now c.args.font.now c.args.layout in
     let x = stood-refused t c.args.editions c.args.trace.now c.args.buf.now c.args.event
-    (ap is_done (sym c.refusal-first.ensures) ∙ sym c.is_done.ensures ∙ c.if-not-is_done.true) in record { value = c.none_stood.ensures ∙ ap (λ (a : Answer). none_stood a 0) c.refusal-first.ensures ∙ x.0; buf_after = x.1 }
+    (ap is_done (sym c.refusal-first.ensures) ∙ sym c.is_done.ensures ∙ c.if-not-is_done.true) in record { value = c.none_stood.ensures ∙ ap (λ (a : Result ⊤ ReplayFault). none_stood a 0) c.refusal-first.ensures ∙ x.0; buf_after = x.1 }
 
 pub returns-then-event-eq0 : goal.returns-then-event-eq0
 returns-then-event-eq0 c =

@@ -16,31 +16,26 @@ nonzero_rem-held c = omega (
       (sym c.is_unknown.ensures ∙ c.if-is_unknown.false) c.sponge_of-shape.ensures,
 )
 
-pub overflow_sub-missing : goal.overflow_sub-missing
-overflow_sub-missing c = omega (
+pub overflow_sub-begun : goal.overflow_sub-begun
+overflow_sub-begun c = omega (
   arith,
   held-less c.args.instance
       c.args.total (sym c.is_unknown.ensures ∙
       c.if-is_unknown.false) c.sponge_of-shape.ensures,
 )
 
-pub grow_state-after-requires : goal.grow_state-after-requires
-grow_state-after-requires c = growing c.args.instance
-    c.args.total (sym c.is_unknown.ensures ∙
-    c.if-is_unknown.false) c.sponge_of-shape.ensures
-
-pub grow_block-left-requires : goal.grow_block-left-requires
-grow_block-left-requires c = growing c.args.instance
-    c.args.total (sym c.is_unknown.ensures ∙
-    c.if-is_unknown.false) c.sponge_of-shape.ensures
+pub invariant_of-begun : goal.invariant_of-begun
+invariant_of-begun c = record {
+  grows = growing c.args.instance c.args.total (sym c.is_unknown.ensures ∙ c.if-is_unknown.false) c.sponge_of-shape.ensures;
+}
 
 pub returns : goal.returns
 unfolding grown_by
 returns c =
     rw (
       sym c.is_unknown.ensures ∙ c.if-is_unknown.false,
-      c.grow_state-after.ensures,
-      c.grow_block-left.ensures,
+      c.state_after-after.ensures,
+      c.block_after-left.ensures,
       rate-is c.args.instance
           c.args.total
           (sym c.is_unknown.ensures ∙ c.if-is_unknown.false)

@@ -1,5 +1,5 @@
 -- `said` meets its promise: the key, then the font, then the stream. Assumes nothing.
-use Rattle.tool_loads.proofs.Saying.{no_key_lem, no-font, over-long, all_there, more-than-held, unreadable}
+use Rattle.tool_loads.proofs.Saying.{no_key_lem, no-font, over-long, all_there, not-loaded}
 use Rattle.tool_loads.proofs.said.Goals as goal
 
 pub returns-then-not-is_key : goal.returns-then-not-is_key
@@ -20,7 +20,7 @@ returns-then-n-gt-LONGEST_STREAM c =
     over-long a.key a.font a.stream c.is_key.ensures
     c.if-not-is_key.false
     c.is_font.ensures c.if-not-is_font.false
-    c.in-Bytes.is c.if-n-gt-LONGEST_STREAM.true c.as_text-then-n-gt-LONGEST_STREAM.ensures
+    c.in-Ok.is c.if-n-gt-LONGEST_STREAM.true c.as_text-then-n-gt-LONGEST_STREAM.ensures
 
 pub returns-else-n-gt-LONGEST_STREAM : goal.returns-else-n-gt-LONGEST_STREAM
 returns-else-n-gt-LONGEST_STREAM c =
@@ -28,20 +28,12 @@ returns-else-n-gt-LONGEST_STREAM c =
     all_there a.key a.font a.stream c.is_key.ensures
     c.if-not-is_key.false
     c.is_font.ensures c.if-not-is_font.false
-    c.in-Bytes.is c.if-n-gt-LONGEST_STREAM.false c.nothing.ensures
+    c.in-Ok.is c.if-n-gt-LONGEST_STREAM.false c.nothing.ensures
 
-pub returns-in-Long : goal.returns-in-Long
-returns-in-Long c =
+pub returns-in-Err : goal.returns-in-Err
+returns-in-Err c =
     let a = c.args in
-    more-than-held a.key a.font a.stream c.is_key.ensures
+    not-loaded a.key a.font a.stream c.is_key.ensures
     c.if-not-is_key.false
-    c.is_font.ensures c.if-not-is_font.false c.in-Long.is
-    c.as_text-in-Long.ensures
-
-pub returns-in-Failed : goal.returns-in-Failed
-returns-in-Failed c =
-    let a = c.args in
-    unreadable a.key a.font a.stream c.is_key.ensures
-    c.if-not-is_key.false
-    c.is_font.ensures c.if-not-is_font.false c.in-Failed.is
-    c.as_text-in-Failed.ensures
+    c.is_font.ensures c.if-not-is_font.false c.in-Err.is
+    c.unloaded.ensures

@@ -1,14 +1,16 @@
-use Rattle.tool_orders.specs.Rows.{sought-none, sought-more, sought-found, sought-all}
+-- `first_blank` meets its promise: `position` looks for the blank. Assumes nothing.
+use mathlib.Core.Path.{◌∙◌}
+use borrow.Author.Rules.{rules}
+use borrow.Author.Tests.{tests}
+use lib.Dec.{eqb}
+use Rattle.std.proofs.lemmas.Iterator.{YieldsList-from_slice}
+use Rattle.std.proofs.lemmas.Iterator.Search.{position_from_yields_List}
+use Rattle.tool_orders.specs.Orders.{blank}
+use Rattle.tool_orders.proofs.Blanks.{blank_found}
 use Rattle.tool_orders.proofs.first_blank.Goals as goal
 
-pub loop-i-init : goal.loop-i-init
-loop-i-init c = sought-none _
-
-pub returns-then-row-i-eq-BLANK : goal.returns-then-row-i-eq-BLANK
-returns-then-row-i-eq-BLANK c = sought-found c.loop-i.invariant c.loop-i-test.true c.if-row-i-eq-BLANK.true
-
-pub loop-i-preserved : goal.loop-i-preserved
-loop-i-preserved c = sought-more c.loop-i.invariant c.loop-i-test.true c.if-row-i-eq-BLANK.false
-
 pub returns : goal.returns
-returns c = sought-all c.loop-i.invariant c.loop-i-test.false
+returns c =
+    c.unwrap_or.ensures ∙ blank_found c.args.row.now c.position.result
+    (position_from_yields_List (λ x. eqb x blank) _ _ _ c.position.ensures.ran
+    (YieldsList-from_slice c.args.row.now (cc)) (λ x b q k. search (rules, tests)))

@@ -6,23 +6,16 @@ use Rattle.tool_trial.proofs.forth.Goals as goal
 
 pub returns-in_default : goal.returns-in_default
 returns-in_default c =
-    let start = c in
-    c.refuse.ensures ∙ no_size permute start.args.size.now start.args.rounds.now start.args.text.now
-    (sym c.read_number-n.ensures ∙ c.in_default.is)
+    c.refuse.ensures ∙ no_size permute c.args.size.now c.args.rounds.now c.args.text.now (sym c.in_default.ensures)
 
-pub returns-in_default-k : goal.returns-in_default-k
-returns-in_default-k c =
-    let read = c in
-    let start = read in
-    c.refuse-in_default-k.ensures ∙ no-rounds permute start.args.size.now start.args.rounds.now start.args.text.now _
-    (sym read.read_number-n.ensures ∙ c.in-Is.is)
-    (sym c.read_number-k.ensures ∙ c.in_default-k.is)
+pub returns-in_default-read_number : goal.returns-in_default-read_number
+returns-in_default-read_number c =
+    c.refuse-in_default-read_number.ensures
+    ∙ no-rounds permute c.args.size.now c.args.rounds.now c.args.text.now _ (sym c.in-Some.ensures) (sym c.in_default-read_number.ensures)
 
 pub returns : goal.returns
 returns c =
-    let read = c in
-    let start = read in
-    c.tell.ensures ∙ two-numbers permute start.args.size.now start.args.rounds.now start.args.text.now _ _
-    (sym read.read_number-n.ensures ∙ c.in-Is.is)
-    (sym c.read_number-k.ensures ∙ c.in-Is-k.is)
+    c.tell.ensures
+    ∙ two-numbers permute c.args.size.now c.args.rounds.now c.args.text.now _ _
+    (sym c.in-Some.ensures) (sym c.in-Some-read_number.ensures)
     c.state.result c.state.ensures c.permute.result c.permute.ensures

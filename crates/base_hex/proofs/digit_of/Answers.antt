@@ -1,9 +1,0 @@
--- `digit_of` meets its promise: one test picks the digit. Assumes nothing.
-use borrow.Author.Tests.{lt-ltb, le-ltb}
-use Rattle.base_hex.proofs.digit_of.Goals as goal
-
-pub returns-then-n-lt10 : goal.returns-then-n-lt10
-returns-then-n-lt10 c = simp (lt-ltb _ _ c.if-n-lt10.true)
-
-pub returns-else-n-lt10 : goal.returns-else-n-lt10
-returns-else-n-lt10 c = simp (le-ltb _ _ c.if-n-lt10.false)

@@ -1,5 +1,0 @@
-use Rattle.gage_turn.proofs.taken.Goals as goal
-
-pub returns : goal.returns
-returns c =
-    cc
