@@ -12,7 +12,7 @@ ghost use Rattle.index_spec.specs.Cases.{Takes};
 ghost use Rattle.desk_spec.specs.Desk.{place_of, new_stream, fault_from, fitting, out_of, desk_call, desk_out};
 ghost use Rattle.desk_call.specs.Steps.{lengthened, items_from, closing_at, frame_at, frames_at, Starts, Measured, report, report_of};
 
-use base_lists::copy;
+use base_lent::copy;
 use desk_entry::closing_of;
 use desk_spec::DeskRefusal;
 use frame_body::DIGEST_LENGTH;

@@ -88,7 +88,7 @@ fn take_in(mut s: State, value: &[u8], buf: &mut [u8]) -> State
     if value.len() > LONGEST_STREAM - at {
         return fail(s, Err(ReplayFault::TooLong));
     }
-    base_lists::copy(value, &mut buf[at..]);
+    base_lent::copy(value, &mut buf[at..]);
     s.received = at + value.len();
     s
 }
