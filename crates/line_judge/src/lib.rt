@@ -43,9 +43,16 @@ fn at_digit(met: Met) -> Met
 {
     match met {
         Met::Nothing | Met::Digit => Met::Digit,
-        Met::Inside(n) if n < BETWEEN => Met::Inside(n + 1),
-        Met::Inside(_) | Met::Broken => Met::Broken,
+        // An `if` in the arm: a guard on it, measured, takes twice the time for a line of digits.
+        Met::Inside(n) => {
+            if n < BETWEEN {
+                Met::Inside(n + 1)
+            } else {
+                Met::Broken
+            }
+        }
         Met::Closed => Met::Closed,
+        Met::Broken => Met::Broken,
     }
 }
 
